@@ -1,0 +1,2 @@
+-- Definitions of `formula`.
+pub mod Bytes

@@ -1,0 +1,1 @@
+// Formula parts: reading and refusing them.

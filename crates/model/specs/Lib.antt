@@ -1,0 +1,2 @@
+-- Definitions of `model`.
+pub mod Places

@@ -1,0 +1,65 @@
+// States and propositions, and the values of a model part.
+use operations::Element;
+ghost use mathlib.Core.Path.{_≡_};
+ghost use Prim.Native.Nat.{_+_, _≤_, _<_};
+ghost use lib.ListN.{length, getD};
+ghost use Rattle.theory.specs.Part.{modelOf, ModelShape};
+ghost use Rattle.model.specs.Places.{labelRow, transitionRow};
+
+// A state of a model, by its number.
+pub struct State(pub u8);
+
+// A proposition, by its number.
+pub struct Proposition(pub u8);
+
+fn wide(x: u8) -> usize
+    ensures { λ r. ⌜ (r ≡ x) × (r < 256) ⌝ }
+{
+    x as usize
+}
+
+// N, the number of states.
+pub fn states(m: &[u8]) -> usize
+    requires { ⌜ ModelShape (now m) ⌝ }
+    ensures { λ r. ⌜ r ≡ modelOf (now (m .entry)) .states ⌝ }
+{
+    wide(m[0])
+}
+
+// k, the number of propositions.
+pub fn propositions(m: &[u8]) -> usize
+    requires { ⌜ ModelShape (now m) ⌝ }
+    ensures { λ r. ⌜ r ≡ modelOf (now (m .entry)) .propositions ⌝ }
+{
+    wide(m[1])
+}
+
+// The initial value of a state.
+pub fn initial(m: &[u8], q: State) -> Element
+    requires { ⌜ ModelShape (now m) × (q .0 < getD (now m) 0 0) ⌝ }
+    ensures { λ r. ⌜ r .0 ≡ modelOf (now (m .entry)) .initial (q .0) ⌝ }
+{
+    Element(m[2 + wide(q.0)])
+}
+
+// Where the proposition values of a state begin; there are k of them.
+pub fn label_row(m: &[u8], q: State) -> usize
+    requires { ⌜ ModelShape (now m) × (q .0 < getD (now m) 0 0) ⌝ }
+    ensures { λ r. ⌜ (r ≡ labelRow (now (m .entry)) (q .0)) × (r + getD (now (m .entry)) 1 0 ≤ length (now (m .entry))) ⌝ }
+{
+    let n = wide(m[0]);
+    let k = wide(m[1]);
+    let s = wide(q.0);
+    2 + n + s * k
+}
+
+// Where the transition values of a state begin; there are N of them.
+pub fn transition_row(m: &[u8], q: State) -> usize
+    requires { ⌜ ModelShape (now m) × (q .0 < getD (now m) 0 0) ⌝ }
+    ensures { λ r. ⌜ (r ≡ transitionRow (now (m .entry)) (q .0)) × (r + getD (now (m .entry)) 0 0 ≤ length (now (m .entry))) ⌝ }
+{
+    let n = wide(m[0]);
+    let k = wide(m[1]);
+    let s = wide(q.0);
+    2 + n + n * k + s * n
+}

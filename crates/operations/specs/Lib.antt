@@ -1,0 +1,2 @@
+-- Definitions of `operations`.
+pub mod Table

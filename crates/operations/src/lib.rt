@@ -1,0 +1,47 @@
+// Lattice elements, and the operations on them as lookups in tables.
+ghost use mathlib.Core.Path.{_≡_};
+ghost use Rattle.theory.specs.Lattice.{imp};
+ghost use Rattle.operations.specs.Table.{atMostIn, meetIn, joinIn, complementIn, opsIn};
+
+// An element of the lattice, by its number.
+pub struct Element(pub u8);
+
+// What a lattice has beside its tables: n, the number of its elements, and the two bounds.
+pub struct Lattice {
+    pub size: u8,
+    pub top: Element,
+    pub bottom: Element,
+}
+
+// a is at or below b.
+pub fn at_most(t: &[u8; 12352], a: Element, b: Element) -> bool
+    ensures { λ r. ⌜ r ≡ atMostIn (now (t .entry)) (a .0) (b .0) ⌝ }
+{
+    t[(a.0 % 64) as usize * 64 + (b.0 % 64) as usize] == 1
+}
+
+pub fn meet(t: &[u8; 12352], a: Element, b: Element) -> Element
+    ensures { λ r. ⌜ r .0 ≡ meetIn (now (t .entry)) (a .0) (b .0) ⌝ }
+{
+    Element(t[4096 + ((a.0 % 64) as usize * 64 + (b.0 % 64) as usize)])
+}
+
+pub fn join(t: &[u8; 12352], a: Element, b: Element) -> Element
+    ensures { λ r. ⌜ r .0 ≡ joinIn (now (t .entry)) (a .0) (b .0) ⌝ }
+{
+    Element(t[8192 + ((a.0 % 64) as usize * 64 + (b.0 % 64) as usize)])
+}
+
+// Not a.
+pub fn complement(t: &[u8; 12352], a: Element) -> Element
+    ensures { λ r. ⌜ r .0 ≡ complementIn (now (t .entry)) (a .0) ⌝ }
+{
+    Element(t[12288 + (a.0 % 64) as usize])
+}
+
+// a → b, that is, (not a) joined with b.
+pub fn implies(t: &[u8; 12352], a: Element, b: Element) -> Element
+    ensures { λ r. ⌜ r .0 ≡ joinIn (now (t .entry)) (complementIn (now (t .entry)) (a .0)) (b .0) ⌝ }
+{
+    join(t, complement(t, a), b)
+}

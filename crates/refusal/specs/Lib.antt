@@ -1,0 +1,2 @@
+-- Definitions of `refusal`.
+pub mod Number

@@ -1,0 +1,265 @@
+-- Theorem 2: values are monotone in the environment; a fixpoint's value is the least (greatest) map that its body sends to
+-- itself; the number of applications of a body does not matter from states * (n - 1) on. Rests on Value, Folds, Descent.
+use Prim.Native.Nat.{ℕ, zero, suc, _+_, _*_, _-_, _≤_, _<_}
+use mathlib.Core.Path.{_≡_, refl, ap₂}
+use mathlib.Core.Bool.{Bool, true, false, _&&_}
+use mathlib.Core.List.{List}
+use native.Mathlib.Nat.{mul-one, le-refl, le-trans, not-suc-le-zero}
+use native.Mathlib.Decide.{le-ind}
+use native.Mathlib.Omega.{arith}
+use borrow.Author.Tests.{ltb-true}
+use lib.ListN.{length}
+use Rattle.theory.specs.Lattice.{Ops, Laws, Below, Element, Chain, imp, bigMeet, bigJoin}
+use Rattle.theory.specs.Model.{Model, Valued}
+use Rattle.theory.specs.Formula.{Formula, bottom, top, prop, negated, var, or, and, AX, EX, mu, nu, boundBy, overProps}
+use Rattle.theory.specs.Value.{iterate, bind, allNext, someNext, eval, enough, valueAt}
+use Rattle.theory.specs.Folds.{meet-mono, join-mono, imp-mono, bigMeet-mono, bigJoin-mono, bigMeet-cong, bigJoin-cong, bigMeet-element, bigJoin-element}
+use Rattle.theory.specs.Test.{and-l, and-r}
+use Rattle.theory.specs.Descent.{Order, Still, First, first-still, falling, rising, apart-length, apart-length-up}
+
+-- ---- a value reads maps and environments only at the states, and an environment only at the variables in scope
+
+module _ {A : Type 0} (O : Ops A) (M : Model A) where
+  -- two maps agree at the states
+  abbrev pub SameMap : (ℕ → A) → (ℕ → A) → Type 0
+  SameMap f g = (q : ℕ) → q < M .states → f q ≡ g q
+
+  pub allNext-cong : (f g : ℕ → A) → SameMap f g → (q : ℕ) → allNext O M f q ≡ allNext O M g q
+  unfolding allNext
+  allNext-cong f g h q = bigMeet-cong O (M .states) _ _ (λ r l. rw (h r l))
+
+  pub someNext-cong : (f g : ℕ → A) → SameMap f g → (q : ℕ) → someNext O M f q ≡ someNext O M g q
+  unfolding someNext
+  someNext-cong f g h q = bigJoin-cong O (M .states) _ _ (λ r l. rw (h r l))
+
+  -- two environments agree at the variables below d
+  abbrev pub SameEnv : ℕ → (ℕ → ℕ → A) → (ℕ → ℕ → A) → Type 0
+  SameEnv d e e' = (v : ℕ) → v < d → SameMap (e v) (e' v)
+
+  bind-cong : (d : ℕ) (e e' : ℕ → ℕ → A) (x y : ℕ → A) → SameMap x y → SameEnv d e e' → SameEnv (suc d) (bind x e) (bind y e')
+  unfolding bind
+  bind-cong d e e' x y b h zero l = b
+  bind-cong d e e' x y b h (suc v) l = h v (omega arith)
+
+  iterate-cong : (g g' : (ℕ → A) → ℕ → A) → ((x y : ℕ → A) → SameMap x y → SameMap (g x) (g' y)) → (x : ℕ → A) (t : ℕ) → SameMap (iterate t g x) (iterate t g' x)
+  unfolding iterate
+  iterate-cong g g' h x zero q l = refl
+  iterate-cong g g' h x (suc t) q l = h _ _ (iterate-cong g g' h x t) q l
+
+  pub eval-cong : (K d : ℕ) (φ : Formula) → boundBy d φ ≡ true → (e e' : ℕ → ℕ → A) → SameEnv d e e' → SameMap (eval O M K φ e) (eval O M K φ e')
+  unfolding eval boundBy
+  eval-cong K d bottom b e e' h q l = refl
+  eval-cong K d top b e e' h q l = refl
+  eval-cong K d (prop p) b e e' h q l = refl
+  eval-cong K d (negated p) b e e' h q l = refl
+  eval-cong K d (var v) b e e' h q l = h v (ltb-true v d b) q l
+  eval-cong K d (or f g) b e e' h q l = ap₂ (O .join) (eval-cong K d f (and-l _ (boundBy d g) b) e e' h q l) (eval-cong K d g (and-r (boundBy d f) _ b) e e' h q l)
+  eval-cong K d (and f g) b e e' h q l = ap₂ (O .meet) (eval-cong K d f (and-l _ (boundBy d g) b) e e' h q l) (eval-cong K d g (and-r (boundBy d f) _ b) e e' h q l)
+  eval-cong K d (AX f) b e e' h q l = allNext-cong _ _ (eval-cong K d f b e e' h) q
+  eval-cong K d (EX f) b e e' h q l = someNext-cong _ _ (eval-cong K d f b e e' h) q
+  eval-cong K d (mu f) b e e' h q l = iterate-cong _ _ (λ x y s. eval-cong K (suc d) f b _ _ (bind-cong d e e' x y s h)) _ K q l
+  eval-cong K d (nu f) b e e' h q l = iterate-cong _ _ (λ x y s. eval-cong K (suc d) f b _ _ (bind-cong d e e' x y s h)) _ K q l
+
+module _ {A : Type 0} {O : Ops A} (L : Laws O) where
+  -- no chain has more than n elements
+  pub chain-size : (l : List A) → Chain O l → length l ≤ O .size
+  chain-size l c = L .finite l (c .elements) (c .distinct)
+
+  pub allNext-mono : (M : Model A) {f g : ℕ → A} → ((q : ℕ) → q < M .states → Below O (f q) (g q)) → (q : ℕ) → Below O (allNext O M f q) (allNext O M g q)
+  unfolding allNext
+  allNext-mono M h q = bigMeet-mono L (M .states) (λ r l. imp-mono L (L .rfl _) (h r l))
+
+  pub someNext-mono : (M : Model A) {f g : ℕ → A} → ((q : ℕ) → q < M .states → Below O (f q) (g q)) → (q : ℕ) → Below O (someNext O M f q) (someNext O M g q)
+  unfolding someNext
+  someNext-mono M h q = bigJoin-mono L (M .states) (λ r l. meet-mono L (L .rfl _) (h r l))
+
+-- ---- monotone maps on functions, in either direction of the order
+
+module _ {A : Type 0} (W : Order A) (N : ℕ) where
+  abbrev pub Under : (ℕ → A) → (ℕ → A) → Type 0
+  Under x y = (q : ℕ) → q < N → W .rel (x q) (y q)
+
+  module _ (c : A) (c-max : (a : A) → W .rel a c) (g : (ℕ → A) → ℕ → A) (mono : (x y : ℕ → A) → Under x y → Under (g x) (g y)) where
+    descends : (t : ℕ) → Under (iterate (suc t) g (λ q. c)) (iterate t g (λ q. c))
+    unfolding iterate
+    descends zero q l = c-max _
+    descends (suc t) q l = mono _ _ (descends t) q l
+
+    -- what g does not lower lies below every iterate
+    pub iterate-greatest : (y : ℕ → A) → Under y (g y) → (t : ℕ) → Under y (iterate t g (λ q. c))
+    unfolding iterate
+    iterate-greatest y w zero q l = c-max _
+    iterate-greatest y w (suc t) q l = W .trans (w q l) (mono _ _ (iterate-greatest y w t) q l)
+
+    -- an iterate is not raised
+    pub iterate-falls : (t : ℕ) → Under (g (iterate t g (λ q. c))) (iterate t g (λ q. c))
+    unfolding iterate
+    iterate-falls t = descends t
+
+    -- enough iterates are not lowered
+    pub iterate-fixed : (h : ℕ) → ((t : ℕ) × (t ≤ N * 1 * (h - 1)) × First (Still (W .rel) N 1 (λ t q r. iterate t g (λ q. c) q)) t) → (K : ℕ) → N * (h - 1) ≤ K → Under (iterate K g (λ q. c)) (g (iterate K g (λ q. c)))
+    unfolding iterate
+    iterate-fixed h w K e =
+        le-ind (λ t. Under (iterate t g (λ q. c)) (iterate (suc t) g (λ q. c)))
+        (λ q l. w .2 .here q l 0 (le-refl _)) (λ t m s. mono _ _ s) K
+        (le-trans (w .1) (rw mul-one e))
+
+    pub steps-down : (t q : ℕ) → q < N → (r : ℕ) → r < 1 → W .rel (iterate (suc t) g (λ q. c) q) (iterate t g (λ q. c) q)
+    steps-down t q l r k = descends t q l
+
+module _ {A : Type 0} {O : Ops A} (L : Laws O) (M : Model A) where
+  -- x lies at or below y at the states
+  abbrev pub BelowMap : (ℕ → A) → (ℕ → A) → Type 0
+  BelowMap x y = (q : ℕ) → q < M .states → Below O (x q) (y q)
+
+  abbrev pub BelowEnv : (ℕ → ℕ → A) → (ℕ → ℕ → A) → Type 0
+  BelowEnv e d = (v : ℕ) → BelowMap (e v) (d v)
+
+  bind-mono : (e d : ℕ → ℕ → A) (x y : ℕ → A) → BelowMap x y → BelowEnv e d → BelowEnv (bind x e) (bind y d)
+  unfolding bind
+  bind-mono e d x y b h zero = b
+  bind-mono e d x y b h (suc v) = h v
+
+  iterate-mono : (f g : (ℕ → A) → ℕ → A) → ((x y : ℕ → A) → BelowMap x y → BelowMap (f x) (g y)) → (x : ℕ → A) (t : ℕ) → BelowMap (iterate t f x) (iterate t g x)
+  unfolding iterate
+  iterate-mono f g h x zero q l = L .rfl _
+  iterate-mono f g h x (suc t) q l = h _ _ (iterate-mono f g h x t) q l
+
+  -- ---- values are monotone in the environment
+
+  pub eval-mono : (K : ℕ) (φ : Formula) (e d : ℕ → ℕ → A) → BelowEnv e d → BelowMap (eval O M K φ e) (eval O M K φ d)
+  unfolding eval
+  eval-mono K bottom e d h q l = L .rfl _
+  eval-mono K top e d h q l = L .rfl _
+  eval-mono K (prop p) e d h q l = L .rfl _
+  eval-mono K (negated p) e d h q l = L .rfl _
+  eval-mono K (var v) e d h q l = h v q l
+  eval-mono K (or f g) e d h q l = join-mono L (eval-mono K f e d h q l) (eval-mono K g e d h q l)
+  eval-mono K (and f g) e d h q l = meet-mono L (eval-mono K f e d h q l) (eval-mono K g e d h q l)
+  eval-mono K (AX f) e d h q l = allNext-mono L M (eval-mono K f e d h) q
+  eval-mono K (EX f) e d h q l = someNext-mono L M (eval-mono K f e d h) q
+  eval-mono K (mu f) e d h q l = iterate-mono _ _ (λ x y b. eval-mono K f _ _ (bind-mono e d x y b h)) _ K q l
+  eval-mono K (nu f) e d h q l = iterate-mono _ _ (λ x y b. eval-mono K f _ _ (bind-mono e d x y b h)) _ K q l
+
+  -- the body of a fixpoint, as a map on maps from states to values
+  abbrev pub body : ℕ → Formula → (ℕ → ℕ → A) → (ℕ → A) → ℕ → A
+  body K f e m = eval O M K f (bind m e)
+
+  pub body-mono : (K : ℕ) (f : Formula) (e : ℕ → ℕ → A) (x y : ℕ → A) → BelowMap x y → BelowMap (body K f e x) (body K f e y)
+  body-mono K f e x y b = eval-mono K f _ _ (bind-mono e e x y b (λ v q l. L .rfl _))
+
+  -- ---- the value of a least fixpoint: the body sends it to itself, and whatever the body does not raise lies above it
+
+  pub mu-falls : (K : ℕ) → enough O M ≤ K → (f : Formula) (e : ℕ → ℕ → A) → BelowMap (body K f e (eval O M K (mu f) e)) (eval O M K (mu f) e)
+  unfolding eval
+  mu-falls K w f e =
+      iterate-fixed (rising L) (M .states) (O .bot) (L .bot-min) (body K f e) (λ x y. body-mono K f e y x) (O .size)
+      (first-still (rising L) (O .size) (apart-length-up L (O .size) (chain-size L)) (M .states) 1 _ (steps-down (rising L) (M .states) (O .bot) (L .bot-min) (body K f e) (λ x y. body-mono K f e y x)))
+      K w
+
+  pub mu-rises : (K : ℕ) (f : Formula) (e : ℕ → ℕ → A) → BelowMap (eval O M K (mu f) e) (body K f e (eval O M K (mu f) e))
+  unfolding eval
+  mu-rises K f e = iterate-falls (rising L) (M .states) (O .bot) (L .bot-min) (body K f e) (λ x y. body-mono K f e y x) K
+
+  pub mu-least : (K : ℕ) (f : Formula) (e : ℕ → ℕ → A) (y : ℕ → A) → BelowMap (body K f e y) y → BelowMap (eval O M K (mu f) e) y
+  unfolding eval
+  mu-least K f e y w = iterate-greatest (rising L) (M .states) (O .bot) (L .bot-min) (body K f e) (λ x y. body-mono K f e y x) y w K
+
+  -- ---- the value of a greatest fixpoint: likewise
+
+  pub nu-rises : (K : ℕ) → enough O M ≤ K → (f : Formula) (e : ℕ → ℕ → A) → BelowMap (eval O M K (nu f) e) (body K f e (eval O M K (nu f) e))
+  unfolding eval
+  nu-rises K w f e =
+      iterate-fixed (falling L) (M .states) (O .top) (L .top-max) (body K f e) (body-mono K f e) (O .size)
+      (first-still (falling L) (O .size) (apart-length L (O .size) (chain-size L)) (M .states) 1 _ (steps-down (falling L) (M .states) (O .top) (L .top-max) (body K f e) (body-mono K f e)))
+      K w
+
+  pub nu-falls : (K : ℕ) (f : Formula) (e : ℕ → ℕ → A) → BelowMap (body K f e (eval O M K (nu f) e)) (eval O M K (nu f) e)
+  unfolding eval
+  nu-falls K f e = iterate-falls (falling L) (M .states) (O .top) (L .top-max) (body K f e) (body-mono K f e) K
+
+  pub nu-greatest : (K : ℕ) (f : Formula) (e : ℕ → ℕ → A) (y : ℕ → A) → BelowMap y (body K f e y) → BelowMap y (eval O M K (nu f) e)
+  unfolding eval
+  nu-greatest K f e y w = iterate-greatest (falling L) (M .states) (O .top) (L .top-max) (body K f e) (body-mono K f e) y w K
+
+  -- ---- the count of applications does not matter, where it is enough; J and K may come from models of different sizes
+
+  pub count-le : (K J : ℕ) → enough O M ≤ K → enough O M ≤ J → (φ : Formula) (e d : ℕ → ℕ → A) → BelowEnv e d → BelowMap (eval O M K φ e) (eval O M J φ d)
+  unfolding eval
+  count-le K J u w bottom e d b q l = L .rfl _
+  count-le K J u w top e d b q l = L .rfl _
+  count-le K J u w (prop p) e d b q l = L .rfl _
+  count-le K J u w (negated p) e d b q l = L .rfl _
+  count-le K J u w (var v) e d b q l = b v q l
+  count-le K J u w (or f g) e d b q l = join-mono L (count-le K J u w f e d b q l) (count-le K J u w g e d b q l)
+  count-le K J u w (and f g) e d b q l = meet-mono L (count-le K J u w f e d b q l) (count-le K J u w g e d b q l)
+  count-le K J u w (AX f) e d b q l = allNext-mono L M (count-le K J u w f e d b) q
+  count-le K J u w (EX f) e d b q l = someNext-mono L M (count-le K J u w f e d b) q
+  count-le K J u w (mu f) e d b q l = mu-least K f e _ (λ r m. L .trans (count-le K J u w f _ _ (bind-mono e d _ _ (λ x y. L .rfl _) b) r m) (mu-falls J w f d r m)) q l
+  count-le K J u w (nu f) e d b q l = nu-greatest J f d _ (λ r m. L .trans (nu-rises K u f e r m) (count-le K J u w f _ _ (bind-mono e d _ _ (λ x y. L .rfl _) b) r m)) q l
+
+  -- ---- values are elements, so that all of this is equality
+
+  module _ (ok : Valued O M) where
+    -- the maps of the variables below d are made of elements
+    abbrev pub ElementEnv : ℕ → (ℕ → ℕ → A) → Type 0
+    ElementEnv d e = (v : ℕ) → v < d → (q : ℕ) → q < M .states → Element O (e v q)
+
+    bind-element : (d : ℕ) (e : ℕ → ℕ → A) (x : ℕ → A) → ((q : ℕ) → q < M .states → Element O (x q)) → ElementEnv d e → ElementEnv (suc d) (bind x e)
+    unfolding bind
+    bind-element d e x b h zero l = b
+    bind-element d e x b h (suc v) l = h v (omega arith)
+
+    iterate-element : (g : (ℕ → A) → ℕ → A) (x : ℕ → A) → ((y : ℕ → A) → ((q : ℕ) → q < M .states → Element O (y q)) → (q : ℕ) → q < M .states → Element O (g y q)) → ((q : ℕ) → q < M .states → Element O (x q)) → (t q : ℕ) → q < M .states → Element O (iterate t g x q)
+    unfolding iterate
+    iterate-element g x h b zero q l = b q l
+    iterate-element g x h b (suc t) q l = h _ (iterate-element g x h b t) q l
+
+    pub eval-element : (K d : ℕ) (φ : Formula) → boundBy d φ ≡ true → overProps (M .propositions) φ ≡ true → (e : ℕ → ℕ → A) → ElementEnv d e → (q : ℕ) → q < M .states → Element O (eval O M K φ e q)
+    unfolding eval boundBy overProps allNext someNext
+    eval-element K d bottom b o e h q l = L .bot-element
+    eval-element K d top b o e h q l = L .top-element
+    eval-element K d (prop p) b o e h q l = ok .label-element q l p (ltb-true _ _ o)
+    eval-element K d (negated p) b o e h q l = L .neg-element _
+    eval-element K d (var v) b o e h q l = h v (ltb-true _ _ b) q l
+    eval-element K d (or f g) b o e h q l = L .join-element _ _
+    eval-element K d (and f g) b o e h q l = L .meet-element _ _
+    eval-element K d (AX f) b o e h q l = bigMeet-element L _ _
+    eval-element K d (EX f) b o e h q l = bigJoin-element L _ _
+    eval-element K d (mu f) b o e h q l = iterate-element _ _ (λ y w. eval-element K (suc d) f b o _ (bind-element d e y w h)) (λ r m. L .bot-element) K q l
+    eval-element K d (nu f) b o e h q l = iterate-element _ _ (λ y w. eval-element K (suc d) f b o _ (bind-element d e y w h)) (λ r m. L .top-element) K q l
+
+    module _ (d : ℕ) (f : Formula) (b : boundBy (suc d) f ≡ true) (o : overProps (M .propositions) f ≡ true) (e : ℕ → ℕ → A) (h : ElementEnv d e) (K : ℕ) (w : enough O M ≤ K) where
+      -- 'The least fixpoint is the least map from states to elements that its body sends to itself'
+      pub least-fixpoint : (q : ℕ) → q < M .states → eval O M K f (bind (eval O M K (mu f) e) e) q ≡ eval O M K (mu f) e q
+      unfolding boundBy overProps
+      least-fixpoint q l =
+          L .antisym
+          (eval-element K (suc d) f b o _ (bind-element d e _ (mu-element K) h) q l)
+          (mu-element K q l)
+          (mu-falls K w f e q l) (mu-rises K f e q l)
+        where
+          mu-element : (K q : ℕ) → q < M .states → Element O (eval O M K (mu f) e q)
+          mu-element K = eval-element K d (mu f) b o e h
+
+      -- 'the greatest likewise'
+      pub greatest-fixpoint : (q : ℕ) → q < M .states → eval O M K f (bind (eval O M K (nu f) e) e) q ≡ eval O M K (nu f) e q
+      unfolding boundBy overProps
+      greatest-fixpoint q l =
+          L .antisym
+          (eval-element K (suc d) f b o _ (bind-element d e _ (nu-element K) h) q l)
+          (nu-element K q l)
+          (nu-falls K f e q l) (nu-rises K w f e q l)
+        where
+          nu-element : (K q : ℕ) → q < M .states → Element O (eval O M K (nu f) e q)
+          nu-element K = eval-element K d (nu f) b o e h
+
+    -- the same value for every count that is enough
+    pub count-same : (K J d : ℕ) → enough O M ≤ K → enough O M ≤ J → (φ : Formula) → boundBy d φ ≡ true → overProps (M .propositions) φ ≡ true → (e : ℕ → ℕ → A) → ElementEnv d e → (q : ℕ) → q < M .states → eval O M K φ e q ≡ eval O M J φ e q
+    count-same K J d u w φ b o e h q l =
+        L .antisym (eval-element K d φ b o e h q l) (eval-element J d φ b o e h q l)
+        (count-le K J u w φ e e (λ v r m. L .rfl _) q l) (count-le J K w u φ e e (λ v r m. L .rfl _) q l)
+
+    pub value-element : (φ : Formula) → boundBy 0 φ ≡ true → overProps (M .propositions) φ ≡ true → (q : ℕ) → q < M .states → Element O (valueAt O M φ q)
+    unfolding valueAt
+    value-element φ b o = eval-element (enough O M) 0 φ b o _ (λ v l. absurd (not-suc-le-zero l))

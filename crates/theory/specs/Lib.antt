@@ -1,0 +1,14 @@
+-- The mathematics of the desk. Definitions first, then the theorems on them.
+-- ---- what a reader must believe
+pub mod Lattice
+pub mod Model
+pub mod Formula
+pub mod Value
+pub mod Simulation
+pub mod Part
+-- ---- theorems
+pub mod Folds
+pub mod Test
+pub mod Loop
+pub mod Descent
+pub mod Fixpoint

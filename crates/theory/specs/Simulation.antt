@@ -1,0 +1,71 @@
+-- The simulation operator F, its rounds, the first round that changes nothing, score and share. Rests on Lattice, Model, Value.
+use Prim.Native.Nat.{ℕ, zero, suc, _+_, _*_, _-_, _/_, _<_}
+use mathlib.Core.Path.{_≡_}
+use mathlib.Core.Bool.{Bool, true, false}
+use Rattle.theory.specs.Lattice.{Ops, Below, imp, iff, bigMeet, bigJoin}
+use Rattle.theory.specs.Model.{Model}
+use Rattle.theory.specs.Value.{allNext, someNext}
+
+module _ {A : Type 0} (O : Ops A) (M₁ M₂ : Model A) where
+  -- 'the meet of p1 ↔ p2 over all propositions'
+  unfoldable pub propositionPart : ℕ → ℕ → A
+  propositionPart q₁ q₂ = bigMeet O (M₁ .propositions) (λ p. iff O (M₁ .label q₁ p) (M₂ .label q₂ p))
+
+  -- 'over all q1', of R1(q1, q1') → the join over q2' of R2(q2, q2') met with S(q1', q2')'
+  unfoldable pub successorPart : (ℕ → ℕ → A) → ℕ → ℕ → A
+  unfolding allNext someNext
+  successorPart S q₁ q₂ = allNext O M₁ (λ q₁'. someNext O M₂ (S q₁') q₂) q₁
+
+  -- 'F sends a table S to the table whose entry (q1, q2) is the meet of' the two parts
+  unfoldable pub F : (ℕ → ℕ → A) → ℕ → ℕ → A
+  unfolding propositionPart successorPart
+  F S q₁ q₂ = O .meet (propositionPart q₁ q₂) (successorPart S q₁ q₂)
+
+  -- 'Round 0 is all top; round r + 1 is F of round r.'
+  unfoldable pub round : ℕ → ℕ → ℕ → A
+  unfolding F
+  round zero q₁ q₂ = O .top
+  round (suc r) q₁ q₂ = F (round r) q₁ q₂
+
+  -- P holds at every pair of states
+  abbrev pub AllPairs : (ℕ → ℕ → Type 0) → Type 0
+  AllPairs P = (q₁ : ℕ) → q₁ < M₁ .states → (q₂ : ℕ) → q₂ < M₂ .states → P q₁ q₂
+
+  -- table S equals table U; table S lies at or below table U
+  abbrev pub SameTable : (ℕ → ℕ → A) → (ℕ → ℕ → A) → Type 0
+  SameTable S U = AllPairs (λ q₁ q₂. S q₁ q₂ ≡ U q₁ q₂)
+
+  abbrev pub BelowTable : (ℕ → ℕ → A) → (ℕ → ℕ → A) → Type 0
+  BelowTable S U = AllPairs (λ q₁ q₂. Below O (S q₁ q₂) (U q₁ q₂))
+
+  -- 'A table S is a simulation when S = F(S).'
+  abbrev pub Simulation : (ℕ → ℕ → A) → Type 0
+  Simulation S = SameTable S (F S)
+
+  -- 'T is the least t above 0 for which round t equals round t − 1.'
+  pub record FirstUnchanged (T : ℕ) : Type 0 where
+    pub above0 : 0 < T
+    pub unchanged : SameTable (round T) (round (T - 1))
+    pub least : (t : ℕ) → 0 < t → t < T → SameTable (round t) (round (t - 1)) → ⊥
+
+  -- 'score is the meet over q1 of Q0(q1) → the join over q2 of Q0(q2) met with the shown entry'
+  unfoldable pub score : (ℕ → ℕ → A) → A
+  score S = bigMeet O (M₁ .states) (λ q₁. imp O (M₁ .initial q₁) (bigJoin O (M₂ .states) (λ q₂. O .meet (M₂ .initial q₂) (S q₁ q₂))))
+
+-- how many of f 0, .., f (n - 1) are true
+abbrev pub one : Bool → ℕ
+one true = 1
+one false = 0
+
+unfoldable pub count : ℕ → (ℕ → Bool) → ℕ
+count zero f = 0
+count (suc n) f = count n f + one (f n)
+
+-- c of t 'rounded to whole per cent, halves up': the whole part of 100 c / t + 1 / 2
+abbrev pub perCent : ℕ → ℕ → ℕ
+perCent c t = (200 * c + t) / (2 * t)
+
+-- 'share is the per cent of shown entries at or above a given element'; entry i of the table is S i
+unfoldable pub share : {A : Type 0} → Ops A → ℕ → (ℕ → A) → A → ℕ
+unfolding count
+share O entries S l = perCent (count entries (λ i. O .atMost l (S i))) entries
