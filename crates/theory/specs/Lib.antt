@@ -12,3 +12,7 @@ pub mod Test
 pub mod Loop
 pub mod Descent
 pub mod Fixpoint
+pub mod Height
+pub mod Rounds
+pub mod Preservation
+pub mod Examples

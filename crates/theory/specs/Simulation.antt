@@ -42,6 +42,11 @@ module _ {A : Type 0} (O : Ops A) (M₁ M₂ : Model A) where
   abbrev pub Simulation : (ℕ → ℕ → A) → Type 0
   Simulation S = SameTable S (F S)
 
+  -- the greatest simulation: 'it meets their equation, and every other table that does lies at or below it'
+  pub record GreatestSimulation (S : ℕ → ℕ → A) : Type 0 where
+    pub isSimulation : Simulation S
+    pub greatest : (U : ℕ → ℕ → A) → Simulation U → BelowTable U S
+
   -- 'T is the least t above 0 for which round t equals round t − 1.'
   pub record FirstUnchanged (T : ℕ) : Type 0 where
     pub above0 : 0 < T

@@ -1,0 +1,158 @@
+-- Theorem 8: the worked examples of document 01 that are marked as proved, in one list, and that the definitions give their values.
+-- Rests on Part, Simulation, Value, Test.
+use Prim.Native.Nat.{ℕ, zero, suc, _+_, _*_, _-_, _<_}
+use mathlib.Core.Path.{_≡_, refl}
+use mathlib.Core.Bool.{Bool, true, false, not, _&&_}
+use mathlib.Core.List.{List, [], _∷_, _++_}
+use native.Mathlib.Omega.{arith}
+use borrow.Author.Tests.{ltb-true, lt-ltb, eqb-true, eq-eqb, not-true}
+use lib.Dec.{ltb, eqb}
+use lib.ListN.{length, getD}
+use Rattle.theory.specs.Lattice.{Ops, All, imp, iff, bigMeet, bigJoin}
+use Rattle.theory.specs.Model.{Model}
+use Rattle.theory.specs.Formula.{Formula, prop, negated, AX, EX}
+use Rattle.theory.specs.Value.{allNext, someNext, eval, iterate, bind, valueAt}
+use Rattle.theory.specs.Simulation.{propositionPart, successorPart, F, round, SameTable, FirstUnchanged, count, share}
+use Rattle.theory.specs.Part.{isMeet, isJoin, meetOf, joinOf, topOf, botOf, element, opsOf, explicitPart, modelOf}
+use Rattle.theory.specs.Test.{allBelow, firstBelow, all-at, all-in, and-l, and-r, and-in, false-true}
+use Rattle.theory.specs.Loop.{tab}
+
+-- ---- what an example says; lattices and models are given by the bytes of their parts
+
+-- the N₁·N₂ entries of a table, row by row
+abbrev pub entries : (ℕ → ℕ → ℕ) → ℕ → ℕ → List ℕ
+entries S zero n = []
+entries S (suc m) n = entries S m n ++ tab (S m) n 0
+
+pub data Example : Type 0 where
+  -- round r of two models over a lattice has these entries
+  roundIs : (lattice model₁ model₂ : List ℕ) (r : ℕ) (table : List ℕ) → Example
+  -- T of two models over a lattice
+  settlesAt : (lattice model₁ model₂ : List ℕ) (T : ℕ) → Example
+  -- the value of a formula at a state
+  valueIs : (lattice model : List ℕ) (φ : Formula) (q v : ℕ) → Example
+  -- the share of a table's entries at or above an element
+  shareIs : (lattice table : List ℕ) (l share : ℕ) → Example
+
+abbrev pub Holds : Example → Type 0
+Holds (roundIs l m₁ m₂ r t) = entries (round (opsOf (explicitPart l)) (modelOf m₁) (modelOf m₂) r) (modelOf m₁ .states) (modelOf m₂ .states) ≡ t
+Holds (settlesAt l m₁ m₂ T) = FirstUnchanged (opsOf (explicitPart l)) (modelOf m₁) (modelOf m₂) T
+Holds (valueIs l m φ q v) = valueAt (opsOf (explicitPart l)) (modelOf m) φ q ≡ v
+Holds (shareIs l t a s) = share (opsOf (explicitPart l)) (length t) (λ i. getD t i 0) a ≡ s
+
+-- ---- the lattices: 'L2 is 0 below 1; L3 is 0 below 1 below 2 with not-1 = 1', one element, and the subsets of {a, b, c}
+
+abbrev pub L1 : List ℕ
+L1 = 1 ∷ 0 ∷ 1 ∷ []
+
+abbrev pub L2 : List ℕ
+L2 = 2 ∷ 1 ∷ 0 ∷ 1 ∷ 1 ∷ 0 ∷ 1 ∷ []
+
+abbrev pub L3 : List ℕ
+L3 = 3 ∷ 2 ∷ 1 ∷ 0 ∷ 1 ∷ 1 ∷ 1 ∷ 0 ∷ 1 ∷ 1 ∷ 0 ∷ 0 ∷ 1 ∷ []
+
+-- a subset is the sum of 1 for a, 2 for b and 4 for c
+abbrev pub subsets : List ℕ
+subsets = 8 ∷ 7 ∷ 6 ∷ 5 ∷ 4 ∷ 3 ∷ 2 ∷ 1 ∷ 0 ∷ 1 ∷ 1 ∷ 1 ∷ 1 ∷ 1 ∷ 1 ∷ 1 ∷ 1 ∷ 0 ∷ 1 ∷ 0 ∷ 1 ∷ 0 ∷ 1 ∷ 0 ∷ 1 ∷ 0 ∷ 0 ∷ 1 ∷ 1 ∷ 0 ∷ 0 ∷ 1 ∷ 1 ∷ 0 ∷ 0 ∷ 0 ∷ 1 ∷ 0 ∷ 0 ∷ 0 ∷ 1 ∷ 0 ∷ 0 ∷ 0 ∷ 0 ∷ 1 ∷ 1 ∷ 1 ∷ 1 ∷ 0 ∷ 0 ∷ 0 ∷ 0 ∷ 0 ∷ 1 ∷ 0 ∷ 1 ∷ 0 ∷ 0 ∷ 0 ∷ 0 ∷ 0 ∷ 0 ∷ 1 ∷ 1 ∷ 0 ∷ 0 ∷ 0 ∷ 0 ∷ 0 ∷ 0 ∷ 0 ∷ 1 ∷ []
+
+-- ---- the examples
+
+abbrev pub examples : List Example
+examples =
+    -- 1: 'L3, both models one state, p = 1, no transitions: entry 1, T = 2.'
+    roundIs L3 (1 ∷ 1 ∷ 2 ∷ 1 ∷ 0 ∷ []) (1 ∷ 1 ∷ 2 ∷ 1 ∷ 0 ∷ []) 2 (1 ∷ [])
+    ∷ settlesAt L3 (1 ∷ 1 ∷ 2 ∷ 1 ∷ 0 ∷ []) (1 ∷ 1 ∷ 2 ∷ 1 ∷ 0 ∷ []) 2
+    -- 2: 'L2, no propositions; model 1 loops at 1, model 2 has no transition: entry 0, T = 2.'
+    ∷ roundIs L2 (1 ∷ 0 ∷ 1 ∷ 1 ∷ []) (1 ∷ 0 ∷ 1 ∷ 0 ∷ []) 2 (0 ∷ [])
+    ∷ settlesAt L2 (1 ∷ 0 ∷ 1 ∷ 1 ∷ []) (1 ∷ 0 ∷ 1 ∷ 0 ∷ []) 2
+    -- 2: 'Models exchanged: entry 1, T = 1.'
+    ∷ roundIs L2 (1 ∷ 0 ∷ 1 ∷ 0 ∷ []) (1 ∷ 0 ∷ 1 ∷ 1 ∷ []) 1 (1 ∷ [])
+    ∷ settlesAt L2 (1 ∷ 0 ∷ 1 ∷ 0 ∷ []) (1 ∷ 0 ∷ 1 ∷ 1 ∷ []) 1
+    -- 3: 'L3, no propositions; model 1 loops at 1, model 2 has no transition: entry 1.' T, which the example leaves open, is 2.
+    ∷ roundIs L3 (1 ∷ 0 ∷ 2 ∷ 1 ∷ []) (1 ∷ 0 ∷ 2 ∷ 0 ∷ []) 2 (1 ∷ [])
+    ∷ settlesAt L3 (1 ∷ 0 ∷ 2 ∷ 1 ∷ []) (1 ∷ 0 ∷ 2 ∷ 0 ∷ []) 2
+    -- 4: 'L2; model 1: 0 to 1, p = 0, 1; model 2: 0 to 1, p = 0, 0. Round 1 is 1 0 / 0 0, round 2 all 0, T = 3. AX of not-p has
+    -- value 1 at state 0 of model 2 and 0 in model 1'
+    ∷ roundIs L2 (2 ∷ 1 ∷ 1 ∷ 0 ∷ 0 ∷ 1 ∷ 0 ∷ 1 ∷ 0 ∷ 0 ∷ []) (2 ∷ 1 ∷ 1 ∷ 0 ∷ 0 ∷ 0 ∷ 0 ∷ 1 ∷ 0 ∷ 0 ∷ []) 1 (1 ∷ 0 ∷ 0 ∷ 0 ∷ [])
+    ∷ roundIs L2 (2 ∷ 1 ∷ 1 ∷ 0 ∷ 0 ∷ 1 ∷ 0 ∷ 1 ∷ 0 ∷ 0 ∷ []) (2 ∷ 1 ∷ 1 ∷ 0 ∷ 0 ∷ 0 ∷ 0 ∷ 1 ∷ 0 ∷ 0 ∷ []) 2 (0 ∷ 0 ∷ 0 ∷ 0 ∷ [])
+    ∷ settlesAt L2 (2 ∷ 1 ∷ 1 ∷ 0 ∷ 0 ∷ 1 ∷ 0 ∷ 1 ∷ 0 ∷ 0 ∷ []) (2 ∷ 1 ∷ 1 ∷ 0 ∷ 0 ∷ 0 ∷ 0 ∷ 1 ∷ 0 ∷ 0 ∷ []) 3
+    ∷ valueIs L2 (2 ∷ 1 ∷ 1 ∷ 0 ∷ 0 ∷ 0 ∷ 0 ∷ 1 ∷ 0 ∷ 0 ∷ []) (AX (negated 0)) 0 1
+    ∷ valueIs L2 (2 ∷ 1 ∷ 1 ∷ 0 ∷ 0 ∷ 1 ∷ 0 ∷ 1 ∷ 0 ∷ 0 ∷ []) (AX (negated 0)) 0 0
+    -- 5: 'Subsets of {a, b, c}; from q0 two transitions of {b, c}, p there {b} and {b, c}: AX p at q0 is {a, b}, EX p is {b, c}'
+    ∷ valueIs subsets (3 ∷ 1 ∷ 7 ∷ 0 ∷ 0 ∷ 3 ∷ 2 ∷ 6 ∷ 0 ∷ 6 ∷ 6 ∷ 0 ∷ 0 ∷ 0 ∷ 0 ∷ 0 ∷ 0 ∷ []) (AX (prop 0)) 0 3
+    ∷ valueIs subsets (3 ∷ 1 ∷ 7 ∷ 0 ∷ 0 ∷ 3 ∷ 2 ∷ 6 ∷ 0 ∷ 6 ∷ 6 ∷ 0 ∷ 0 ∷ 0 ∷ 0 ∷ 0 ∷ 0 ∷ []) (EX (prop 0)) 0 6
+    -- 6: 'One element, n = 1: T = 1.'
+    ∷ settlesAt L1 (1 ∷ 0 ∷ 0 ∷ 0 ∷ []) (1 ∷ 0 ∷ 0 ∷ 0 ∷ []) 1
+    -- 6: 'Share of 1 in 8 is 13, of 3 in 8 is 38.'
+    ∷ shareIs L2 (0 ∷ 0 ∷ 1 ∷ 0 ∷ 0 ∷ 0 ∷ 0 ∷ 0 ∷ []) 1 13
+    ∷ shareIs L2 (1 ∷ 0 ∷ 1 ∷ 0 ∷ 0 ∷ 0 ∷ 0 ∷ 1 ∷ []) 1 38
+    ∷ []
+
+-- ---- T by a test that is computed
+
+module _ (O : Ops ℕ) (M₁ M₂ : Model ℕ) where
+  unfoldable pub unchangedTest : ℕ → Bool
+  unchangedTest t = ltb 0 t && allBelow (M₁ .states) (λ q₁. allBelow (M₂ .states) (λ q₂. eqb (round O M₁ M₂ t q₁ q₂) (round O M₁ M₂ (t - 1) q₁ q₂)))
+
+  passed : (t : ℕ) → 0 < t → SameTable O M₁ M₂ (round O M₁ M₂ t) (round O M₁ M₂ (t - 1)) → unchangedTest t ≡ true
+  unfolding unchangedTest
+  passed t p s = and-in _ _ (lt-ltb 0 t p) (all-in _ _ (λ q₁ l. all-in _ _ (λ q₂ m. eq-eqb _ _ (s q₁ l q₂ m))))
+
+  pub settles-by-test : (T : ℕ) → unchangedTest T ≡ true → allBelow T (λ t. not (unchangedTest t)) ≡ true → FirstUnchanged O M₁ M₂ T
+  unfolding unchangedTest
+  settles-by-test T e w =
+      record {
+        above0 = ltb-true 0 T (and-l (ltb 0 T) _ e);
+        unchanged = λ q₁ l q₂ m. eqb-true _ _ (all-at _ _ (all-at _ _ (and-r (ltb 0 T) _ e) q₁ l) q₂ m);
+        least = λ t p l s. false-true (not-true _ (all-at T _ w t l)) (passed t p s);
+      }
+
+-- Theorem 8
+pub examples-hold : All Holds examples
+unfolding unchangedTest round F propositionPart successorPart allNext someNext eval iterate bind valueAt bigMeet bigJoin imp iff meetOf joinOf topOf botOf isMeet isJoin element allBelow firstBelow count share tab
+examples-hold = (
+  refl,
+  (
+    settles-by-test _ _ _ 2 refl refl,
+    (
+      refl,
+      (
+        settles-by-test _ _ _ 2 refl refl,
+        (
+          refl,
+          (
+            settles-by-test _ _ _ 1 refl refl,
+            (
+              refl,
+              (
+                settles-by-test _ _ _ 2 refl refl,
+                (
+                  refl,
+                  (
+                    refl,
+                    (
+                      settles-by-test _ _ _ 3 refl refl,
+                      (
+                        refl,
+                        (
+                          refl,
+                          (
+                            refl,
+                            (
+                              refl,
+                              (settles-by-test _ _ _ 1 refl refl, (refl, (refl, tt))),
+                            ),
+                          ),
+                        ),
+                      ),
+                    ),
+                  ),
+                ),
+              ),
+            ),
+          ),
+        ),
+      ),
+    ),
+  ),
+)
