@@ -7,7 +7,7 @@ use native.Mathlib.Omega.{arith}
 use lib.ListN.{length, getD}
 use Rattle.theory.specs.Part.{ModelShape}
 
--- the first value of row q, of rows of w values
+-- row q, of n rows of w values, ends within them
 pub row-le : (q n w : ℕ) → q < n → q * w + w ≤ n * w
 row-le q n w l = omega (arith, suc-mul q w, mul-le-mul-right w l)
 

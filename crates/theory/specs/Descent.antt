@@ -1,15 +1,16 @@
 -- A descending sequence of finite tables over a lattice changes only so often: by the length of the longest chain.
--- The general part of theorem 4. Rests on Lattice, Folds.
+-- The general part of theorem 4. Rests on Lattice, Simulation (count), Test.
 use Prim.Native.Nat.{ℕ, zero, suc, _+_, _*_, _-_, _≤_, _<_, zero-le}
-use mathlib.Core.Path.{_≡_, refl, ap, sym, _∙_, subst}
-use mathlib.Core.Bool.{true, false}
+use mathlib.Core.Path.{_≡_, refl, ap}
+use mathlib.Core.Bool.{Bool, true, false, not}
 use mathlib.Core.Logic.{_⊎_, inl, inr, _≢_, ⊎-swap, ⊎-map}
 use mathlib.Core.List.{List, [], _∷_, map}
 use native.Mathlib.Nat.{suc-mul, not-suc-le-zero, le-refl, le-trans, mul-assoc}
 use native.Mathlib.Omega.{arith}
 use lib.ListN.{length, length-map}
-use Rattle.theory.specs.Lattice.{Ops, Laws, Below, Element, Chain, All, Pairwise}
-use Rattle.theory.specs.Folds.{below-suc, decide}
+use Rattle.theory.specs.Lattice.{Ops, Laws, Below, Chain, All, Pairwise}
+use Rattle.theory.specs.Simulation.{one, count}
+use Rattle.theory.specs.Test.{below-suc, decide, false-true}
 
 -- ---- sums of f 0, .., f (n - 1)
 
@@ -97,139 +98,133 @@ module _ {A B : Type 0} (f : A → B) where
   pairwise-under R S g [] c = tt
   pairwise-under R S g (a ∷ l) c = (all-under _ _ (g a) l (c .0), pairwise-under R S g l (c .1))
 
--- ---- values in a decided order
+-- ---- values in a decided preorder; a sequence of values, of tables
 
-pub record Order (A : Type 0) : Type 1 where
-  pub rel : A → A → Type 0
-  pub rfl : (a : A) → rel a a
-  pub trans : {a b c : A} → rel a b → rel b c → rel a c
-  pub dec : (a b : A) → rel a b ⊎ (¬ rel a b)
+pub record Preorder (A : Type 0) : Type 0 where
+  pub test : A → A → Bool
+  pub rfl : (a : A) → test a a ≡ true
+  pub trans : {a b c : A} → test a b ≡ true → test b c ≡ true → test a c ≡ true
 
 -- in order, and not both ways
-abbrev pub Apart : {A : Type 0} → (A → A → Type 0) → A → A → Type 0
-Apart R a b = (R a b ⊎ R b a) × (¬ (R a b × R b a))
+abbrev pub Apart : {A : Type 0} → (A → A → Bool) → A → A → Type 0
+Apart test a b = ((test a b ≡ true) ⊎ (test b a ≡ true)) × (¬ ((test a b ≡ true) × (test b a ≡ true)))
 
--- step t of a sequence of m by n tables changes nothing
-abbrev pub Still : {A : Type 0} (R : A → A → Type 0) (m n : ℕ) (s : ℕ → ℕ → ℕ → A) → ℕ → Type 0
-Still R m n s t = (q : ℕ) → q < m → (r : ℕ) → r < n → R (s t q r) (s (suc t) q r)
+-- in how many of its first t steps a sequence goes to a value that is not at or above the one before
+abbrev pub lowered : {A : Type 0} → (A → A → Bool) → (ℕ → A) → ℕ → ℕ
+lowered test s t = count t (λ i. not (test (s i) (s (suc i))))
 
-module _ {A : Type 0} (W : Order A) where
-  open Order W using (rel as R, rfl, trans, dec)
+-- the same, added up over the entries of m by n tables
+unfoldable pub lowerings : {A : Type 0} → (A → A → Bool) → (m n : ℕ) (s : ℕ → ℕ → ℕ → A) → ℕ → ℕ
+lowerings test m n s t = sum m (λ q. sum n (λ r. lowered test (λ i. s i q r) t))
 
-  tick : {a b : A} → R a b ⊎ (¬ R a b) → ℕ → ℕ
-  tick (inl y) n = n
-  tick (inr y) n = suc n
+-- step t of a sequence of m by n tables lowers no entry
+abbrev pub Unlowered : {A : Type 0} (test : A → A → Bool) (m n : ℕ) (s : ℕ → ℕ → ℕ → A) → ℕ → Type 0
+Unlowered test m n s t = (q : ℕ) → q < m → (r : ℕ) → r < n → test (s t q r) (s (suc t) q r) ≡ true
 
-  grow : {a b : A} → R a b ⊎ (¬ R a b) → List A → List A
-  grow (inl y) l = l
-  grow {b = b} (inr y) l = b ∷ l
+module _ {A : Type 0} (W : Preorder A) where
+  open Preorder W using (test, rfl, trans)
 
-  grow-length : {a b : A} (d : R a b ⊎ (¬ R a b)) (l : List A) (n : ℕ) → length l ≡ suc n → length (grow d l) ≡ suc (tick d n)
-  unfolding grow tick
-  grow-length (inl y) l n e = e
-  grow-length (inr y) l n e = ap suc e
+  -- the values that a descending sequence has had, each once, the last one first
+  extend : Bool → A → List A → List A
+  extend true b l = l
+  extend false b l = b ∷ l
 
-  tick-le : {a b : A} (d : R a b ⊎ (¬ R a b)) (n : ℕ) → n ≤ tick d n
-  unfolding tick
-  tick-le (inl y) n = le-refl n
-  tick-le (inr y) n = omega arith
+  had : (ℕ → A) → ℕ → List A
+  unfolding extend
+  had s zero = s 0 ∷ []
+  had s (suc t) = extend (test (s t) (s (suc t))) (s (suc t)) (had s t)
 
-  tick-lt : {a b : A} (d : R a b ⊎ (¬ R a b)) (n : ℕ) → ¬ R a b → n < tick d n
-  unfolding tick
-  tick-lt (inl y) n h = absurd (h y)
-  tick-lt (inr y) n h = le-refl _
+  extend-length : (b : Bool) (a : A) (l : List A) (n : ℕ) → length l ≡ suc n → length (extend b a l) ≡ suc (n + one (not b))
+  unfolding extend
+  extend-length true a l n e = omega arith
+  extend-length false a l n e = omega arith
 
-  grow-above : {a b : A} (d : R a b ⊎ (¬ R a b)) (l : List A) → R b a → All (R a) l → All (R b) (grow d l)
-  unfolding grow
-  grow-above (inl y) l p h = all-map _ _ (λ c. trans p) l h
-  grow-above {b = b} (inr y) l p h = (rfl b, all-map _ _ (λ c. trans p) l h)
+  had-length : (s : ℕ → A) (t : ℕ) → length (had s t) ≡ suc (lowered test s t)
+  unfolding had count
+  had-length s zero = refl
+  had-length s (suc t) = extend-length (test (s t) (s (suc t))) _ _ _ (had-length s t)
 
-  grow-apart : {a b : A} (d : R a b ⊎ (¬ R a b)) (l : List A) → R b a → All (R a) l → Pairwise (Apart R) l → Pairwise (Apart R) (grow d l)
-  unfolding grow
-  grow-apart (inl y) l p h c = c
-  grow-apart (inr y) l p h c = (all-map _ _ (λ x g. (inl (trans p g), λ w. y (trans g (w .1)))) l h, c)
+  extend-above : (a b : A) (v : Bool) → test a b ≡ v → (l : List A) → test b a ≡ true → All (λ c. test a c ≡ true) l → All (λ c. test b c ≡ true) (extend v b l)
+  unfolding extend
+  extend-above a b true e l p h = all-map _ _ (λ c. trans p) l h
+  extend-above a b false e l p h = (rfl b, all-map _ _ (λ c. trans p) l h)
 
-  -- how often a sequence has moved in its first t steps, and the list of the values it has had
-  moves : (ℕ → A) → ℕ → ℕ
-  unfolding tick
-  moves s zero = 0
-  moves s (suc t) = tick (dec (s t) (s (suc t))) (moves s t)
+  extend-apart : (a b : A) (v : Bool) → test a b ≡ v → (l : List A) → test b a ≡ true → All (λ c. test a c ≡ true) l → Pairwise (Apart test) l → Pairwise (Apart test) (extend v b l)
+  unfolding extend
+  extend-apart a b true e l p h c = c
+  extend-apart a b false e l p h c = (all-map _ _ (λ x g. (inl (trans p g), λ w. false-true e (trans g (w .1)))) l h, c)
 
-  trail : (ℕ → A) → ℕ → List A
-  unfolding grow
-  trail s zero = s 0 ∷ []
-  trail s (suc t) = grow (dec (s t) (s (suc t))) (trail s t)
+  module _ (s : ℕ → A) (down : (t : ℕ) → test (s (suc t)) (s t) ≡ true) where
+    had-above : (t : ℕ) → All (λ c. test (s t) c ≡ true) (had s t)
+    unfolding had
+    had-above zero = (rfl _, tt)
+    had-above (suc t) = extend-above (s t) (s (suc t)) _ refl _ (down t) (had-above t)
 
-  trail-length : (s : ℕ → A) (t : ℕ) → length (trail s t) ≡ suc (moves s t)
-  unfolding trail moves
-  trail-length s zero = refl
-  trail-length s (suc t) = grow-length (dec (s t) (s (suc t))) _ _ (trail-length s t)
-
-  module _ (s : ℕ → A) (down : (t : ℕ) → R (s (suc t)) (s t)) where
-    trail-above : (t : ℕ) → All (R (s t)) (trail s t)
-    unfolding trail
-    trail-above zero = (rfl _, tt)
-    trail-above (suc t) = grow-above (dec (s t) (s (suc t))) _ (down t) (trail-above t)
-
-    trail-apart : (t : ℕ) → Pairwise (Apart R) (trail s t)
-    unfolding trail
-    trail-apart zero = (tt, tt)
-    trail-apart (suc t) = grow-apart (dec (s t) (s (suc t))) _ (down t) (trail-above t) (trail-apart t)
+    had-apart : (t : ℕ) → Pairwise (Apart test) (had s t)
+    unfolding had
+    had-apart zero = (tt, tt)
+    had-apart (suc t) = extend-apart (s t) (s (suc t)) _ refl _ (down t) (had-above t) (had-apart t)
 
   -- a sequence of m by n tables, each entry descending, where no list of values apart has more than h
-  module _ (h : ℕ) (height : (l : List A) → Pairwise (Apart R) l → length l ≤ h) (m n : ℕ) (s : ℕ → ℕ → ℕ → A) (down : (t q : ℕ) → q < m → (r : ℕ) → r < n → R (s (suc t) q r) (s t q r)) where
-    moves-le : (t q : ℕ) → q < m → (r : ℕ) → r < n → moves (λ i. s i q r) t ≤ h - 1
-    moves-le t q l r k = omega (arith, trail-length (λ i. s i q r) t, height (trail (λ i. s i q r) t) (trail-apart (λ i. s i q r) (λ i. down i q l r k) t))
+  module _ (h : ℕ) (height : (l : List A) → Pairwise (Apart test) l → length l ≤ h) (m n : ℕ) (s : ℕ → ℕ → ℕ → A) (down : (t q : ℕ) → q < m → (r : ℕ) → r < n → test (s (suc t) q r) (s t q r) ≡ true) where
+    lowered-le : (t q : ℕ) → q < m → (r : ℕ) → r < n → lowered test (λ i. s i q r) t ≤ h - 1
+    lowered-le t q l r k = omega (arith, had-length (λ i. s i q r) t, height (had (λ i. s i q r) t) (had-apart (λ i. s i q r) (λ i. down i q l r k) t))
 
-    total : ℕ → ℕ
-    total t = sum m (λ q. sum n (λ r. moves (λ i. s i q r) t))
+    -- in all of its steps together the sequence lowers at most m * n * (h - 1) entries
+    pub lowerings-le : (t : ℕ) → lowerings test m n s t ≤ m * n * (h - 1)
+    unfolding lowerings
+    lowerings-le t = rw mul-assoc (sum-le m _ _ (λ q l. sum-le n _ _ (λ r k. lowered-le t q l r k)))
 
-    total-le : (t : ℕ) → total t ≤ m * (n * (h - 1))
-    unfolding total
-    total-le t = sum-le m _ _ (λ q l. sum-le n _ _ (λ r k. moves-le t q l r k))
+    lowered-up : (q r t : ℕ) → lowered test (λ i. s i q r) t ≤ lowered test (λ i. s i q r) (suc t)
+    unfolding count
+    lowered-up q r t = omega arith
 
-    moves-up : (q r t : ℕ) → moves (λ i. s i q r) t ≤ moves (λ i. s i q r) (suc t)
-    unfolding moves
-    moves-up q r t = tick-le (dec (s t q r) (s (suc t) q r)) _
-
-    total-up : (t q : ℕ) → q < m → (r : ℕ) → r < n → ¬ R (s t q r) (s (suc t) q r) → total t < total (suc t)
-    unfolding total moves
-    total-up t q l r k w =
-        sum-strict m _ _ (λ x y. sum-mono n _ _ (λ z v. moves-up x z t)) q l
-        (sum-strict n _ _ (λ z v. moves-up q z t) r k (tick-lt (dec (s t q r) (s (suc t) q r)) _ w))
-
-    -- step t changes nothing, or it adds to the total
-    still? : (t : ℕ) → Still R m n s t ⊎ ((¬ Still R m n s t) × (total t < total (suc t)))
-    still? t = go (scan m (λ q. (r : ℕ) → r < n → R (s t q r) (s (suc t) q r)) _ (λ q l. scan n _ (λ r. ¬ R (s t q r) (s (suc t) q r)) (λ r k. dec _ _)))
+    lowered-more : (q r t : ℕ) → ¬ (test (s t q r) (s (suc t) q r) ≡ true) → lowered test (λ i. s i q r) t < lowered test (λ i. s i q r) (suc t)
+    unfolding count
+    lowered-more q r t w = go (test (s t q r) (s (suc t) q r)) w
       where
-        go : Still R m n s t ⊎ ((q : ℕ) × (q < m) × ((r : ℕ) × (r < n) × (¬ R (s t q r) (s (suc t) q r)))) → Still R m n s t ⊎ ((¬ Still R m n s t) × (total t < total (suc t)))
+        go : (b : Bool) → ¬ (b ≡ true) → lowered test (λ i. s i q r) t < lowered test (λ i. s i q r) t + one (not b)
+        go true w = absurd (w refl)
+        go false w = omega arith
+
+    lowerings-more : (t q : ℕ) → q < m → (r : ℕ) → r < n → ¬ (test (s t q r) (s (suc t) q r) ≡ true) → lowerings test m n s t < lowerings test m n s (suc t)
+    unfolding lowerings
+    lowerings-more t q l r k w =
+        sum-strict m _ _ (λ x y. sum-mono n _ _ (λ z v. lowered-up x z t)) q l
+        (sum-strict n _ _ (λ z v. lowered-up q z t) r k (lowered-more q r t w))
+
+    -- step t lowers nothing, or it adds to the lowerings
+    unlowered? : (t : ℕ) → Unlowered test m n s t ⊎ ((¬ Unlowered test m n s t) × (lowerings test m n s t < lowerings test m n s (suc t)))
+    unlowered? t = go (scan m (λ q. (r : ℕ) → r < n → test (s t q r) (s (suc t) q r) ≡ true) _ (λ q l. scan n _ (λ r. ¬ (test (s t q r) (s (suc t) q r) ≡ true)) (λ r k. decide _)))
+      where
+        go : Unlowered test m n s t ⊎ ((q : ℕ) × (q < m) × ((r : ℕ) × (r < n) × (¬ (test (s t q r) (s (suc t) q r) ≡ true)))) → Unlowered test m n s t ⊎ ((¬ Unlowered test m n s t) × (lowerings test m n s t < lowerings test m n s (suc t)))
         go (inl a) = inl a
-        go (inr (q, l, (r, k, w))) = inr (λ a. w (a q l r k), total-up t q l r k w)
+        go (inr (q, l, (r, k, w))) = inr (λ a. w (a q l r k), lowerings-more t q l r k w)
 
-    grows : (t : ℕ) → ((j : ℕ) → j < t → ¬ Still R m n s j) → t ≤ total t
+    grows : (t : ℕ) → ((j : ℕ) → j < t → ¬ Unlowered test m n s j) → t ≤ lowerings test m n s t
     grows zero w = zero-le
-    grows (suc t) w = go (still? t) (grows t (λ j l. w j (omega arith)))
+    grows (suc t) w = go (unlowered? t) (grows t (λ j l. w j (omega arith)))
       where
-        go : Still R m n s t ⊎ ((¬ Still R m n s t) × (total t < total (suc t))) → t ≤ total t → suc t ≤ total (suc t)
+        go : Unlowered test m n s t ⊎ ((¬ Unlowered test m n s t) × (lowerings test m n s t < lowerings test m n s (suc t))) → t ≤ lowerings test m n s t → suc t ≤ lowerings test m n s (suc t)
         go (inl a) e = absurd (w t (le-refl _) a)
         go (inr v) e = omega arith
 
-    -- the tables change in at most m * n * (h - 1) steps, so there is a first step that changes nothing
-    pub first-still : (t : ℕ) × (t ≤ m * n * (h - 1)) × First (Still R m n s) t
-    first-still = first-within (Still R m n s) _ (λ t. ⊎-map (λ a. a) (λ w. w .0) (still? t)) (λ t w. rw mul-assoc (le-trans (grows t w) (total-le t)))
+    -- so there is a first step that lowers nothing, and its number is at most m * n * (h - 1)
+    pub first-unlowered : (t : ℕ) × (t ≤ m * n * (h - 1)) × First (Unlowered test m n s) t
+    first-unlowered = first-within (Unlowered test m n s) _ (λ t. ⊎-map (λ a. a) (λ w. w .0) (unlowered? t)) (λ t w. le-trans (grows t w) (lowerings-le t))
 
 -- ---- in a lattice, downwards and upwards
 
 module _ {A : Type 0} {O : Ops A} (L : Laws O) where
-  abbrev pub falling : Order A
-  falling = record { rel = Below O; rfl = L .rfl; trans = λ {a} {b} {c} p q. L .trans p q; dec = λ a b. decide (O .atMost a b) }
+  abbrev pub downwards : Preorder A
+  downwards = record { test = O .atMost; rfl = L .rfl; trans = λ {a} {b} {c} p q. L .trans p q }
 
-  abbrev pub rising : Order A
-  rising = record { rel = λ a b. Below O b a; rfl = L .rfl; trans = λ {a} {b} {c} p q. L .trans q p; dec = λ a b. decide (O .atMost b a) }
+  abbrev pub upwards : Preorder A
+  upwards = record { test = λ a b. O .atMost b a; rfl = L .rfl; trans = λ {a} {b} {c} p q. L .trans q p }
 
   -- a list of values apart is as long as a chain of elements: a met with itself is the element that a stands for
   module _ (h : ℕ) (height : (l : List A) → Chain O l → length l ≤ h) where
-    pub apart-length : (l : List A) → Pairwise (Apart (Below O)) l → length l ≤ h
+    pub apart-length : (l : List A) → Pairwise (Apart (O .atMost)) l → length l ≤ h
     apart-length l c =
         rw length-map at
         (height (map it l)
@@ -248,5 +243,5 @@ module _ {A : Type 0} {O : Ops A} (L : Laws O) where
         lift : {a b : A} → Below O a b → Below O (it a) (it b)
         lift p = L .meet-glb (L .trans (L .meet-l _ _) p) (L .trans (L .meet-l _ _) p)
 
-    pub apart-length-up : (l : List A) → Pairwise (Apart (λ a b. Below O b a)) l → length l ≤ h
+    pub apart-length-up : (l : List A) → Pairwise (Apart (λ a b. O .atMost b a)) l → length l ≤ h
     apart-length-up l c = apart-length l (pairwise-map _ _ (λ a b w. (⊎-swap (w .0), λ v. w .1 (v .1, v .0))) l c)

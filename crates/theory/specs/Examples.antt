@@ -1,5 +1,5 @@
 -- Theorem 8: the worked examples of document 01 that are marked as proved, in one list, and that the definitions give their values.
--- Rests on Part, Simulation, Value, Test.
+-- Rests on Part, Simulation, Value, Test, Loop.
 use Prim.Native.Nat.{ℕ, zero, suc, _+_, _*_, _-_, _<_}
 use mathlib.Core.Path.{_≡_, refl}
 use mathlib.Core.Bool.{Bool, true, false, not, _&&_}
@@ -11,8 +11,8 @@ use lib.ListN.{length, getD}
 use Rattle.theory.specs.Lattice.{Ops, All, imp, iff, bigMeet, bigJoin}
 use Rattle.theory.specs.Model.{Model}
 use Rattle.theory.specs.Formula.{Formula, prop, negated, AX, EX}
-use Rattle.theory.specs.Value.{allNext, someNext, eval, iterate, bind, valueAt}
-use Rattle.theory.specs.Simulation.{propositionPart, successorPart, F, round, SameTable, FirstUnchanged, count, share}
+use Rattle.theory.specs.Value.{allNext, someNext, eval, iterate, bind, valueAt, wholeValue}
+use Rattle.theory.specs.Simulation.{propositionPart, successorPart, F, round, SameTable, FirstUnchanged, roundOf, score, count, share}
 use Rattle.theory.specs.Part.{isMeet, isJoin, meetOf, joinOf, topOf, botOf, element, opsOf, explicitPart, modelOf}
 use Rattle.theory.specs.Test.{allBelow, firstBelow, all-at, all-in, and-l, and-r, and-in, false-true}
 use Rattle.theory.specs.Loop.{tab}
@@ -31,6 +31,11 @@ pub data Example : Type 0 where
   settlesAt : (lattice model₁ model₂ : List ℕ) (T : ℕ) → Example
   -- the value of a formula at a state
   valueIs : (lattice model : List ℕ) (φ : Formula) (q v : ℕ) → Example
+  -- the entry of round r at a pair is not at most 'not the formula's value in model 2, joined with its value in model 1'
+  exceeds : (lattice model₁ model₂ : List ℕ) (r : ℕ) (φ : Formula) (q₁ q₂ : ℕ) → Example
+  -- the value of a formula on a whole model, and the score of round r
+  wholeIs : (lattice model : List ℕ) (φ : Formula) (v : ℕ) → Example
+  scoreIs : (lattice model₁ model₂ : List ℕ) (r v : ℕ) → Example
   -- the share of a table's entries at or above an element
   shareIs : (lattice table : List ℕ) (l share : ℕ) → Example
 
@@ -38,6 +43,9 @@ abbrev pub Holds : Example → Type 0
 Holds (roundIs l m₁ m₂ r t) = entries (round (opsOf (explicitPart l)) (modelOf m₁) (modelOf m₂) r) (modelOf m₁ .states) (modelOf m₂ .states) ≡ t
 Holds (settlesAt l m₁ m₂ T) = FirstUnchanged (opsOf (explicitPart l)) (modelOf m₁) (modelOf m₂) T
 Holds (valueIs l m φ q v) = valueAt (opsOf (explicitPart l)) (modelOf m) φ q ≡ v
+Holds (exceeds l m₁ m₂ r φ q₁ q₂) = opsOf (explicitPart l) .atMost (round (opsOf (explicitPart l)) (modelOf m₁) (modelOf m₂) r q₁ q₂) (imp (opsOf (explicitPart l)) (valueAt (opsOf (explicitPart l)) (modelOf m₂) φ q₂) (valueAt (opsOf (explicitPart l)) (modelOf m₁) φ q₁)) ≡ false
+Holds (wholeIs l m φ v) = wholeValue (opsOf (explicitPart l)) (modelOf m) φ ≡ v
+Holds (scoreIs l m₁ m₂ r v) = score (opsOf (explicitPart l)) (modelOf m₁) (modelOf m₂) (round (opsOf (explicitPart l)) (modelOf m₁) (modelOf m₂) r) ≡ v
 Holds (shareIs l t a s) = share (opsOf (explicitPart l)) (length t) (λ i. getD t i 0) a ≡ s
 
 -- ---- the lattices: 'L2 is 0 below 1; L3 is 0 below 1 below 2 with not-1 = 1', one element, and the subsets of {a, b, c}
@@ -55,37 +63,75 @@ L3 = 3 ∷ 2 ∷ 1 ∷ 0 ∷ 1 ∷ 1 ∷ 1 ∷ 0 ∷ 1 ∷ 1 ∷ 0 ∷ 0 ∷ 1 �
 abbrev pub subsets : List ℕ
 subsets = 8 ∷ 7 ∷ 6 ∷ 5 ∷ 4 ∷ 3 ∷ 2 ∷ 1 ∷ 0 ∷ 1 ∷ 1 ∷ 1 ∷ 1 ∷ 1 ∷ 1 ∷ 1 ∷ 1 ∷ 0 ∷ 1 ∷ 0 ∷ 1 ∷ 0 ∷ 1 ∷ 0 ∷ 1 ∷ 0 ∷ 0 ∷ 1 ∷ 1 ∷ 0 ∷ 0 ∷ 1 ∷ 1 ∷ 0 ∷ 0 ∷ 0 ∷ 1 ∷ 0 ∷ 0 ∷ 0 ∷ 1 ∷ 0 ∷ 0 ∷ 0 ∷ 0 ∷ 1 ∷ 1 ∷ 1 ∷ 1 ∷ 0 ∷ 0 ∷ 0 ∷ 0 ∷ 0 ∷ 1 ∷ 0 ∷ 1 ∷ 0 ∷ 0 ∷ 0 ∷ 0 ∷ 0 ∷ 0 ∷ 1 ∷ 1 ∷ 0 ∷ 0 ∷ 0 ∷ 0 ∷ 0 ∷ 0 ∷ 0 ∷ 1 ∷ []
 
+-- ---- the models, each by the bytes of its part
+
+-- one state; p = 1, the middle element of L3; no transition
+abbrev pub middleP : List ℕ
+middleP = 1 ∷ 1 ∷ 2 ∷ 1 ∷ 0 ∷ []
+
+-- one state, no propositions, and a loop of value 1, over L2 and over L3; the same with no transition
+abbrev pub loop2 : List ℕ
+loop2 = 1 ∷ 0 ∷ 1 ∷ 1 ∷ []
+
+abbrev pub still2 : List ℕ
+still2 = 1 ∷ 0 ∷ 1 ∷ 0 ∷ []
+
+abbrev pub loop3 : List ℕ
+loop3 = 1 ∷ 0 ∷ 2 ∷ 1 ∷ []
+
+abbrev pub still3 : List ℕ
+still3 = 1 ∷ 0 ∷ 2 ∷ 0 ∷ []
+
+-- two states, a transition from 0 to 1; p = 0, 1 in the first and 0, 0 in the second
+abbrev pub stepP : List ℕ
+stepP = 2 ∷ 1 ∷ 1 ∷ 0 ∷ 0 ∷ 1 ∷ 0 ∷ 1 ∷ 0 ∷ 0 ∷ []
+
+abbrev pub stepNoP : List ℕ
+stepNoP = 2 ∷ 1 ∷ 1 ∷ 0 ∷ 0 ∷ 0 ∷ 0 ∷ 1 ∷ 0 ∷ 0 ∷ []
+
+-- example 1 of 000: three states; p is {a, b}, {b} and {b, c}; from q0 a transition of {b, c} to each of the others
+abbrev pub branches : List ℕ
+branches = 3 ∷ 1 ∷ 7 ∷ 0 ∷ 0 ∷ 3 ∷ 2 ∷ 6 ∷ 0 ∷ 6 ∷ 6 ∷ 0 ∷ 0 ∷ 0 ∷ 0 ∷ 0 ∷ 0 ∷ []
+
+-- one state over one element
+abbrev pub only : List ℕ
+only = 1 ∷ 0 ∷ 0 ∷ 0 ∷ []
+
 -- ---- the examples
 
 abbrev pub examples : List Example
 examples =
     -- 1: 'L3, both models one state, p = 1, no transitions: entry 1, T = 2.'
-    roundIs L3 (1 ∷ 1 ∷ 2 ∷ 1 ∷ 0 ∷ []) (1 ∷ 1 ∷ 2 ∷ 1 ∷ 0 ∷ []) 2 (1 ∷ [])
-    ∷ settlesAt L3 (1 ∷ 1 ∷ 2 ∷ 1 ∷ 0 ∷ []) (1 ∷ 1 ∷ 2 ∷ 1 ∷ 0 ∷ []) 2
+    roundIs L3 middleP middleP 2 (1 ∷ [])
+    ∷ settlesAt L3 middleP middleP 2
     -- 2: 'L2, no propositions; model 1 loops at 1, model 2 has no transition: entry 0, T = 2.'
-    ∷ roundIs L2 (1 ∷ 0 ∷ 1 ∷ 1 ∷ []) (1 ∷ 0 ∷ 1 ∷ 0 ∷ []) 2 (0 ∷ [])
-    ∷ settlesAt L2 (1 ∷ 0 ∷ 1 ∷ 1 ∷ []) (1 ∷ 0 ∷ 1 ∷ 0 ∷ []) 2
+    ∷ roundIs L2 loop2 still2 2 (0 ∷ [])
+    ∷ settlesAt L2 loop2 still2 2
     -- 2: 'Models exchanged: entry 1, T = 1.'
-    ∷ roundIs L2 (1 ∷ 0 ∷ 1 ∷ 0 ∷ []) (1 ∷ 0 ∷ 1 ∷ 1 ∷ []) 1 (1 ∷ [])
-    ∷ settlesAt L2 (1 ∷ 0 ∷ 1 ∷ 0 ∷ []) (1 ∷ 0 ∷ 1 ∷ 1 ∷ []) 1
+    ∷ roundIs L2 still2 loop2 1 (1 ∷ [])
+    ∷ settlesAt L2 still2 loop2 1
     -- 3: 'L3, no propositions; model 1 loops at 1, model 2 has no transition: entry 1.' T, which the example leaves open, is 2.
-    ∷ roundIs L3 (1 ∷ 0 ∷ 2 ∷ 1 ∷ []) (1 ∷ 0 ∷ 2 ∷ 0 ∷ []) 2 (1 ∷ [])
-    ∷ settlesAt L3 (1 ∷ 0 ∷ 2 ∷ 1 ∷ []) (1 ∷ 0 ∷ 2 ∷ 0 ∷ []) 2
+    ∷ roundIs L3 loop3 still3 2 (1 ∷ [])
+    ∷ settlesAt L3 loop3 still3 2
     -- 4: 'L2; model 1: 0 to 1, p = 0, 1; model 2: 0 to 1, p = 0, 0. Round 1 is 1 0 / 0 0, round 2 all 0, T = 3. AX of not-p has
-    -- value 1 at state 0 of model 2 and 0 in model 1'
-    ∷ roundIs L2 (2 ∷ 1 ∷ 1 ∷ 0 ∷ 0 ∷ 1 ∷ 0 ∷ 1 ∷ 0 ∷ 0 ∷ []) (2 ∷ 1 ∷ 1 ∷ 0 ∷ 0 ∷ 0 ∷ 0 ∷ 1 ∷ 0 ∷ 0 ∷ []) 1 (1 ∷ 0 ∷ 0 ∷ 0 ∷ [])
-    ∷ roundIs L2 (2 ∷ 1 ∷ 1 ∷ 0 ∷ 0 ∷ 1 ∷ 0 ∷ 1 ∷ 0 ∷ 0 ∷ []) (2 ∷ 1 ∷ 1 ∷ 0 ∷ 0 ∷ 0 ∷ 0 ∷ 1 ∷ 0 ∷ 0 ∷ []) 2 (0 ∷ 0 ∷ 0 ∷ 0 ∷ [])
-    ∷ settlesAt L2 (2 ∷ 1 ∷ 1 ∷ 0 ∷ 0 ∷ 1 ∷ 0 ∷ 1 ∷ 0 ∷ 0 ∷ []) (2 ∷ 1 ∷ 1 ∷ 0 ∷ 0 ∷ 0 ∷ 0 ∷ 1 ∷ 0 ∷ 0 ∷ []) 3
-    ∷ valueIs L2 (2 ∷ 1 ∷ 1 ∷ 0 ∷ 0 ∷ 0 ∷ 0 ∷ 1 ∷ 0 ∷ 0 ∷ []) (AX (negated 0)) 0 1
-    ∷ valueIs L2 (2 ∷ 1 ∷ 1 ∷ 0 ∷ 0 ∷ 1 ∷ 0 ∷ 1 ∷ 0 ∷ 0 ∷ []) (AX (negated 0)) 0 0
+    -- value 1 at state 0 of model 2 and 0 in model 1, so round 1 does not bound it.'
+    ∷ roundIs L2 stepP stepNoP 1 (1 ∷ 0 ∷ 0 ∷ 0 ∷ [])
+    ∷ roundIs L2 stepP stepNoP 2 (0 ∷ 0 ∷ 0 ∷ 0 ∷ [])
+    ∷ settlesAt L2 stepP stepNoP 3
+    ∷ valueIs L2 stepNoP (AX (negated 0)) 0 1
+    ∷ valueIs L2 stepP (AX (negated 0)) 0 0
+    ∷ exceeds L2 stepP stepNoP 1 (AX (negated 0)) 0 0
     -- 5: 'Subsets of {a, b, c}; from q0 two transitions of {b, c}, p there {b} and {b, c}: AX p at q0 is {a, b}, EX p is {b, c}'
-    ∷ valueIs subsets (3 ∷ 1 ∷ 7 ∷ 0 ∷ 0 ∷ 3 ∷ 2 ∷ 6 ∷ 0 ∷ 6 ∷ 6 ∷ 0 ∷ 0 ∷ 0 ∷ 0 ∷ 0 ∷ 0 ∷ []) (AX (prop 0)) 0 3
-    ∷ valueIs subsets (3 ∷ 1 ∷ 7 ∷ 0 ∷ 0 ∷ 3 ∷ 2 ∷ 6 ∷ 0 ∷ 6 ∷ 6 ∷ 0 ∷ 0 ∷ 0 ∷ 0 ∷ 0 ∷ 0 ∷ []) (EX (prop 0)) 0 6
-    -- 6: 'One element, n = 1: T = 1.'
-    ∷ settlesAt L1 (1 ∷ 0 ∷ 0 ∷ 0 ∷ []) (1 ∷ 0 ∷ 0 ∷ 0 ∷ []) 1
+    ∷ valueIs subsets branches (AX (prop 0)) 0 3
+    ∷ valueIs subsets branches (EX (prop 0)) 0 6
+    -- 6: 'One element, n = 1: T = 1.' For all models: T-of-one-element in Rounds.
+    ∷ settlesAt L1 only only 1
     -- 6: 'Share of 1 in 8 is 13, of 3 in 8 is 38.'
     ∷ shareIs L2 (0 ∷ 0 ∷ 1 ∷ 0 ∷ 0 ∷ 0 ∷ 0 ∷ 0 ∷ []) 1 13
     ∷ shareIs L2 (1 ∷ 0 ∷ 1 ∷ 0 ∷ 0 ∷ 0 ∷ 0 ∷ 1 ∷ []) 1 38
+    -- what report prints for example 1 with formula p: score 1, and whole value 1 on both models
+    ∷ scoreIs L3 middleP middleP 2 1
+    ∷ wholeIs L3 middleP (prop 0) 1
     ∷ []
 
 -- ---- T by a test that is computed
@@ -107,52 +153,23 @@ module _ (O : Ops ℕ) (M₁ M₂ : Model ℕ) where
         least = λ t p l s. false-true (not-true _ (all-at T _ w t l)) (passed t p s);
       }
 
--- Theorem 8
+-- ---- Theorem 8
+
+-- a pair, so that the proofs stand in the order of the list
+abbrev _&_ : {P Q : Type 0} → P → Q → P × Q
+_&_ p q = (p, q)
+
+infixr 10 _&_
 pub examples-hold : All Holds examples
-unfolding unchangedTest round F propositionPart successorPart allNext someNext eval iterate bind valueAt bigMeet bigJoin imp iff meetOf joinOf topOf botOf isMeet isJoin element allBelow firstBelow count share tab
-examples-hold = (
-  refl,
-  (
-    settles-by-test _ _ _ 2 refl refl,
-    (
-      refl,
-      (
-        settles-by-test _ _ _ 2 refl refl,
-        (
-          refl,
-          (
-            settles-by-test _ _ _ 1 refl refl,
-            (
-              refl,
-              (
-                settles-by-test _ _ _ 2 refl refl,
-                (
-                  refl,
-                  (
-                    refl,
-                    (
-                      settles-by-test _ _ _ 3 refl refl,
-                      (
-                        refl,
-                        (
-                          refl,
-                          (
-                            refl,
-                            (
-                              refl,
-                              (settles-by-test _ _ _ 1 refl refl, (refl, (refl, tt))),
-                            ),
-                          ),
-                        ),
-                      ),
-                    ),
-                  ),
-                ),
-              ),
-            ),
-          ),
-        ),
-      ),
-    ),
-  ),
-)
+unfolding unchangedTest roundOf F propositionPart successorPart allNext someNext eval iterate bind valueAt wholeValue score bigMeet bigJoin imp iff meetOf joinOf topOf botOf isMeet isJoin element allBelow firstBelow count share tab
+examples-hold =
+    refl & settles-by-test _ _ _ 2 refl refl
+    & refl & settles-by-test _ _ _ 2 refl refl
+    & refl & settles-by-test _ _ _ 1 refl refl
+    & refl & settles-by-test _ _ _ 2 refl refl
+    & refl & refl & settles-by-test _ _ _ 3 refl refl & refl & refl & refl
+    & refl & refl
+    & settles-by-test _ _ _ 1 refl refl
+    & refl & refl
+    & refl & refl
+    & tt

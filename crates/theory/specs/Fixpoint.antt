@@ -12,10 +12,10 @@ use lib.ListN.{length}
 use Rattle.theory.specs.Lattice.{Ops, Laws, Below, Element, Chain, imp, bigMeet, bigJoin}
 use Rattle.theory.specs.Model.{Model, Valued}
 use Rattle.theory.specs.Formula.{Formula, bottom, top, prop, negated, var, or, and, AX, EX, mu, nu, boundBy, overProps}
-use Rattle.theory.specs.Value.{iterate, bind, allNext, someNext, eval, enough, valueAt}
+use Rattle.theory.specs.Value.{iterate, bind, allNext, someNext, eval, enough, valueAt, LeastFixpoint, GreatestFixpoint}
 use Rattle.theory.specs.Folds.{meet-mono, join-mono, imp-mono, bigMeet-mono, bigJoin-mono, bigMeet-cong, bigJoin-cong, bigMeet-element, bigJoin-element}
 use Rattle.theory.specs.Test.{and-l, and-r}
-use Rattle.theory.specs.Descent.{Order, Still, First, first-still, falling, rising, apart-length, apart-length-up}
+use Rattle.theory.specs.Descent.{Preorder, Unlowered, First, first-unlowered, downwards, upwards, apart-length, apart-length-up}
 
 -- ---- a value reads maps and environments only at the states, and an environment only at the variables in scope
 
@@ -75,11 +75,11 @@ module _ {A : Type 0} {O : Ops A} (L : Laws O) where
 
 -- ---- monotone maps on functions, in either direction of the order
 
-module _ {A : Type 0} (W : Order A) (N : ℕ) where
+module _ {A : Type 0} (W : Preorder A) (N : ℕ) where
   abbrev pub Under : (ℕ → A) → (ℕ → A) → Type 0
-  Under x y = (q : ℕ) → q < N → W .rel (x q) (y q)
+  Under x y = (q : ℕ) → q < N → W .test (x q) (y q) ≡ true
 
-  module _ (c : A) (c-max : (a : A) → W .rel a c) (g : (ℕ → A) → ℕ → A) (mono : (x y : ℕ → A) → Under x y → Under (g x) (g y)) where
+  module _ (c : A) (c-max : (a : A) → W .test a c ≡ true) (g : (ℕ → A) → ℕ → A) (mono : (x y : ℕ → A) → Under x y → Under (g x) (g y)) where
     descends : (t : ℕ) → Under (iterate (suc t) g (λ q. c)) (iterate t g (λ q. c))
     unfolding iterate
     descends zero q l = c-max _
@@ -97,14 +97,14 @@ module _ {A : Type 0} (W : Order A) (N : ℕ) where
     iterate-falls t = descends t
 
     -- enough iterates are not lowered
-    pub iterate-fixed : (h : ℕ) → ((t : ℕ) × (t ≤ N * 1 * (h - 1)) × First (Still (W .rel) N 1 (λ t q r. iterate t g (λ q. c) q)) t) → (K : ℕ) → N * (h - 1) ≤ K → Under (iterate K g (λ q. c)) (g (iterate K g (λ q. c)))
+    pub iterate-fixed : (h : ℕ) → ((t : ℕ) × (t ≤ N * 1 * (h - 1)) × First (Unlowered (W .test) N 1 (λ t q r. iterate t g (λ q. c) q)) t) → (K : ℕ) → N * (h - 1) ≤ K → Under (iterate K g (λ q. c)) (g (iterate K g (λ q. c)))
     unfolding iterate
     iterate-fixed h w K e =
         le-ind (λ t. Under (iterate t g (λ q. c)) (iterate (suc t) g (λ q. c)))
         (λ q l. w .2 .here q l 0 (le-refl _)) (λ t m s. mono _ _ s) K
         (le-trans (w .1) (rw mul-one e))
 
-    pub steps-down : (t q : ℕ) → q < N → (r : ℕ) → r < 1 → W .rel (iterate (suc t) g (λ q. c) q) (iterate t g (λ q. c) q)
+    pub steps-down : (t q : ℕ) → q < N → (r : ℕ) → r < 1 → W .test (iterate (suc t) g (λ q. c) q) (iterate t g (λ q. c) q) ≡ true
     steps-down t q l r k = descends t q l
 
 module _ {A : Type 0} {O : Ops A} (L : Laws O) (M : Model A) where
@@ -153,50 +153,50 @@ module _ {A : Type 0} {O : Ops A} (L : Laws O) (M : Model A) where
   pub mu-falls : (K : ℕ) → enough O M ≤ K → (f : Formula) (e : ℕ → ℕ → A) → BelowMap (body K f e (eval O M K (mu f) e)) (eval O M K (mu f) e)
   unfolding eval
   mu-falls K w f e =
-      iterate-fixed (rising L) (M .states) (O .bot) (L .bot-min) (body K f e) (λ x y. body-mono K f e y x) (O .size)
-      (first-still (rising L) (O .size) (apart-length-up L (O .size) (chain-size L)) (M .states) 1 _ (steps-down (rising L) (M .states) (O .bot) (L .bot-min) (body K f e) (λ x y. body-mono K f e y x)))
+      iterate-fixed (upwards L) (M .states) (O .bot) (L .bot-min) (body K f e) (λ x y. body-mono K f e y x) (O .size)
+      (first-unlowered (upwards L) (O .size) (apart-length-up L (O .size) (chain-size L)) (M .states) 1 _ (steps-down (upwards L) (M .states) (O .bot) (L .bot-min) (body K f e) (λ x y. body-mono K f e y x)))
       K w
 
   pub mu-rises : (K : ℕ) (f : Formula) (e : ℕ → ℕ → A) → BelowMap (eval O M K (mu f) e) (body K f e (eval O M K (mu f) e))
   unfolding eval
-  mu-rises K f e = iterate-falls (rising L) (M .states) (O .bot) (L .bot-min) (body K f e) (λ x y. body-mono K f e y x) K
+  mu-rises K f e = iterate-falls (upwards L) (M .states) (O .bot) (L .bot-min) (body K f e) (λ x y. body-mono K f e y x) K
 
   pub mu-least : (K : ℕ) (f : Formula) (e : ℕ → ℕ → A) (y : ℕ → A) → BelowMap (body K f e y) y → BelowMap (eval O M K (mu f) e) y
   unfolding eval
-  mu-least K f e y w = iterate-greatest (rising L) (M .states) (O .bot) (L .bot-min) (body K f e) (λ x y. body-mono K f e y x) y w K
+  mu-least K f e y w = iterate-greatest (upwards L) (M .states) (O .bot) (L .bot-min) (body K f e) (λ x y. body-mono K f e y x) y w K
 
   -- ---- the value of a greatest fixpoint: likewise
 
   pub nu-rises : (K : ℕ) → enough O M ≤ K → (f : Formula) (e : ℕ → ℕ → A) → BelowMap (eval O M K (nu f) e) (body K f e (eval O M K (nu f) e))
   unfolding eval
   nu-rises K w f e =
-      iterate-fixed (falling L) (M .states) (O .top) (L .top-max) (body K f e) (body-mono K f e) (O .size)
-      (first-still (falling L) (O .size) (apart-length L (O .size) (chain-size L)) (M .states) 1 _ (steps-down (falling L) (M .states) (O .top) (L .top-max) (body K f e) (body-mono K f e)))
+      iterate-fixed (downwards L) (M .states) (O .top) (L .top-max) (body K f e) (body-mono K f e) (O .size)
+      (first-unlowered (downwards L) (O .size) (apart-length L (O .size) (chain-size L)) (M .states) 1 _ (steps-down (downwards L) (M .states) (O .top) (L .top-max) (body K f e) (body-mono K f e)))
       K w
 
   pub nu-falls : (K : ℕ) (f : Formula) (e : ℕ → ℕ → A) → BelowMap (body K f e (eval O M K (nu f) e)) (eval O M K (nu f) e)
   unfolding eval
-  nu-falls K f e = iterate-falls (falling L) (M .states) (O .top) (L .top-max) (body K f e) (body-mono K f e) K
+  nu-falls K f e = iterate-falls (downwards L) (M .states) (O .top) (L .top-max) (body K f e) (body-mono K f e) K
 
   pub nu-greatest : (K : ℕ) (f : Formula) (e : ℕ → ℕ → A) (y : ℕ → A) → BelowMap y (body K f e y) → BelowMap y (eval O M K (nu f) e)
   unfolding eval
-  nu-greatest K f e y w = iterate-greatest (falling L) (M .states) (O .top) (L .top-max) (body K f e) (body-mono K f e) y w K
+  nu-greatest K f e y w = iterate-greatest (downwards L) (M .states) (O .top) (L .top-max) (body K f e) (body-mono K f e) y w K
 
   -- ---- the count of applications does not matter, where it is enough; J and K may come from models of different sizes
 
-  pub count-le : (K J : ℕ) → enough O M ≤ K → enough O M ≤ J → (φ : Formula) (e d : ℕ → ℕ → A) → BelowEnv e d → BelowMap (eval O M K φ e) (eval O M J φ d)
+  pub applications-le : (K J : ℕ) → enough O M ≤ K → enough O M ≤ J → (φ : Formula) (e d : ℕ → ℕ → A) → BelowEnv e d → BelowMap (eval O M K φ e) (eval O M J φ d)
   unfolding eval
-  count-le K J u w bottom e d b q l = L .rfl _
-  count-le K J u w top e d b q l = L .rfl _
-  count-le K J u w (prop p) e d b q l = L .rfl _
-  count-le K J u w (negated p) e d b q l = L .rfl _
-  count-le K J u w (var v) e d b q l = b v q l
-  count-le K J u w (or f g) e d b q l = join-mono L (count-le K J u w f e d b q l) (count-le K J u w g e d b q l)
-  count-le K J u w (and f g) e d b q l = meet-mono L (count-le K J u w f e d b q l) (count-le K J u w g e d b q l)
-  count-le K J u w (AX f) e d b q l = allNext-mono L M (count-le K J u w f e d b) q
-  count-le K J u w (EX f) e d b q l = someNext-mono L M (count-le K J u w f e d b) q
-  count-le K J u w (mu f) e d b q l = mu-least K f e _ (λ r m. L .trans (count-le K J u w f _ _ (bind-mono e d _ _ (λ x y. L .rfl _) b) r m) (mu-falls J w f d r m)) q l
-  count-le K J u w (nu f) e d b q l = nu-greatest J f d _ (λ r m. L .trans (nu-rises K u f e r m) (count-le K J u w f _ _ (bind-mono e d _ _ (λ x y. L .rfl _) b) r m)) q l
+  applications-le K J u w bottom e d b q l = L .rfl _
+  applications-le K J u w top e d b q l = L .rfl _
+  applications-le K J u w (prop p) e d b q l = L .rfl _
+  applications-le K J u w (negated p) e d b q l = L .rfl _
+  applications-le K J u w (var v) e d b q l = b v q l
+  applications-le K J u w (or f g) e d b q l = join-mono L (applications-le K J u w f e d b q l) (applications-le K J u w g e d b q l)
+  applications-le K J u w (and f g) e d b q l = meet-mono L (applications-le K J u w f e d b q l) (applications-le K J u w g e d b q l)
+  applications-le K J u w (AX f) e d b q l = allNext-mono L M (applications-le K J u w f e d b) q
+  applications-le K J u w (EX f) e d b q l = someNext-mono L M (applications-le K J u w f e d b) q
+  applications-le K J u w (mu f) e d b q l = mu-least K f e _ (λ r m. L .trans (applications-le K J u w f _ _ (bind-mono e d _ _ (λ x y. L .rfl _) b) r m) (mu-falls J w f d r m)) q l
+  applications-le K J u w (nu f) e d b q l = nu-greatest J f d _ (λ r m. L .trans (nu-rises K u f e r m) (applications-le K J u w f _ _ (bind-mono e d _ _ (λ x y. L .rfl _) b) r m)) q l
 
   -- ---- values are elements, so that all of this is equality
 
@@ -230,36 +230,37 @@ module _ {A : Type 0} {O : Ops A} (L : Laws O) (M : Model A) where
     eval-element K d (nu f) b o e h q l = iterate-element _ _ (λ y w. eval-element K (suc d) f b o _ (bind-element d e y w h)) (λ r m. L .top-element) K q l
 
     module _ (d : ℕ) (f : Formula) (b : boundBy (suc d) f ≡ true) (o : overProps (M .propositions) f ≡ true) (e : ℕ → ℕ → A) (h : ElementEnv d e) (K : ℕ) (w : enough O M ≤ K) where
-      -- 'The least fixpoint is the least map from states to elements that its body sends to itself'
-      pub least-fixpoint : (q : ℕ) → q < M .states → eval O M K f (bind (eval O M K (mu f) e) e) q ≡ eval O M K (mu f) e q
-      unfolding boundBy overProps
-      least-fixpoint q l =
-          L .antisym
-          (eval-element K (suc d) f b o _ (bind-element d e _ (mu-element K) h) q l)
-          (mu-element K q l)
-          (mu-falls K w f e q l) (mu-rises K f e q l)
-        where
-          mu-element : (K q : ℕ) → q < M .states → Element O (eval O M K (mu f) e q)
-          mu-element K = eval-element K d (mu f) b o e h
+      values : (φ : Formula) → boundBy d φ ≡ true → overProps (M .propositions) φ ≡ true → (q : ℕ) → q < M .states → Element O (eval O M K φ e q)
+      values φ c p = eval-element K d φ c p e h
 
-      -- 'the greatest likewise'
-      pub greatest-fixpoint : (q : ℕ) → q < M .states → eval O M K f (bind (eval O M K (nu f) e) e) q ≡ eval O M K (nu f) e q
+      inside : (m : ℕ → A) → ((q : ℕ) → q < M .states → Element O (m q)) → (q : ℕ) → q < M .states → Element O (body K f e m q)
+      inside m v = eval-element K (suc d) f b o _ (bind-element d e m v h)
+
+      -- the value of a least fixpoint
+      pub least-fixpoint : LeastFixpoint O M (body K f e) (eval O M K (mu f) e)
       unfolding boundBy overProps
-      greatest-fixpoint q l =
-          L .antisym
-          (eval-element K (suc d) f b o _ (bind-element d e _ (nu-element K) h) q l)
-          (nu-element K q l)
-          (nu-falls K f e q l) (nu-rises K w f e q l)
-        where
-          nu-element : (K q : ℕ) → q < M .states → Element O (eval O M K (nu f) e q)
-          nu-element K = eval-element K d (nu f) b o e h
+      least-fixpoint = record { fixed = λ q l. L .antisym (inside _ (values (mu f) b o) q l) (values (mu f) b o q l) (mu-falls K w f e q l) (mu-rises K f e q l); least = mu-least K f e }
+
+      -- and of a greatest
+      pub greatest-fixpoint : GreatestFixpoint O M (body K f e) (eval O M K (nu f) e)
+      unfolding boundBy overProps
+      greatest-fixpoint = record { fixed = λ q l. L .antisym (inside _ (values (nu f) b o) q l) (values (nu f) b o q l) (nu-falls K f e q l) (nu-rises K w f e q l); greatest = nu-greatest K f e }
 
     -- the same value for every count that is enough
-    pub count-same : (K J d : ℕ) → enough O M ≤ K → enough O M ≤ J → (φ : Formula) → boundBy d φ ≡ true → overProps (M .propositions) φ ≡ true → (e : ℕ → ℕ → A) → ElementEnv d e → (q : ℕ) → q < M .states → eval O M K φ e q ≡ eval O M J φ e q
-    count-same K J d u w φ b o e h q l =
+    pub applications-same : (K J d : ℕ) → enough O M ≤ K → enough O M ≤ J → (φ : Formula) → boundBy d φ ≡ true → overProps (M .propositions) φ ≡ true → (e : ℕ → ℕ → A) → ElementEnv d e → (q : ℕ) → q < M .states → eval O M K φ e q ≡ eval O M J φ e q
+    applications-same K J d u w φ b o e h q l =
         L .antisym (eval-element K d φ b o e h q l) (eval-element J d φ b o e h q l)
-        (count-le K J u w φ e e (λ v r m. L .rfl _) q l) (count-le J K w u φ e e (λ v r m. L .rfl _) q l)
+        (applications-le K J u w φ e e (λ v r m. L .rfl _) q l) (applications-le J K w u φ e e (λ v r m. L .rfl _) q l)
 
     pub value-element : (φ : Formula) → boundBy 0 φ ≡ true → overProps (M .propositions) φ ≡ true → (q : ℕ) → q < M .states → Element O (valueAt O M φ q)
     unfolding valueAt
     value-element φ b o = eval-element (enough O M) 0 φ b o _ (λ v l. absurd (not-suc-le-zero l))
+
+    -- a closed fixpoint's value, as document 01 says it
+    pub value-least : (f : Formula) → boundBy 1 f ≡ true → overProps (M .propositions) f ≡ true → LeastFixpoint O M (body (enough O M) f (λ v r. O .bot)) (valueAt O M (mu f))
+    unfolding valueAt
+    value-least f b o = least-fixpoint 0 f b o _ (λ v l. absurd (not-suc-le-zero l)) (enough O M) (le-refl _)
+
+    pub value-greatest : (f : Formula) → boundBy 1 f ≡ true → overProps (M .propositions) f ≡ true → GreatestFixpoint O M (body (enough O M) f (λ v r. O .bot)) (valueAt O M (nu f))
+    unfolding valueAt
+    value-greatest f b o = greatest-fixpoint 0 f b o _ (λ v l. absurd (not-suc-le-zero l)) (enough O M) (le-refl _)

@@ -1,21 +1,11 @@
 -- Theorem 1: bounds, monotonicity and distribution of finite meets and joins, the De Morgan laws, and the laws of → and ↔.
--- Rests on Lattice.
+-- Rests on Lattice, Test.
 use Prim.Native.Nat.{ℕ, zero, suc, _≤_, _<_}
-use mathlib.Core.Path.{_≡_, refl, subst, sym}
-use mathlib.Core.Bool.{Bool, true, false}
-use mathlib.Core.Logic.{_⊎_, inl, inr, ⊎-elim}
-use native.Mathlib.Nat.{eq-or-lt-of-le, le-of-suc-le-suc, le-refl, not-suc-le-zero}
+use mathlib.Core.Path.{_≡_, refl}
+use native.Mathlib.Nat.{le-refl, not-suc-le-zero}
 use native.Mathlib.Omega.{arith}
 use Rattle.theory.specs.Lattice.{Ops, Laws, Below, Element, imp, iff, bigMeet, bigJoin}
-
--- the numbers below suc n are those below n, and n
-pub below-suc : {P : ℕ → Type 0} {n : ℕ} → ((i : ℕ) → i < n → P i) → P n → (i : ℕ) → i < suc n → P i
-below-suc {P} f h i q = ⊎-elim (λ e. subst P (sym e) h) (λ l. f i l) (eq-or-lt-of-le (le-of-suc-le-suc q))
-
--- a test is passed or it is not
-pub decide : (b : Bool) → (b ≡ true) ⊎ (¬ (b ≡ true))
-decide true = inl refl
-decide false = inr (λ e. let z : _≡_ {A = ℕ} 0 1 = cc in omega arith)
+use Rattle.theory.specs.Test.{below-suc}
 
 module _ {A : Type 0} (O : Ops A) where
   -- equal entries, equal results

@@ -1,10 +1,11 @@
 -- Formulas of the latticed mu-calculus, and the tests on them that the demands name. Rests on nothing.
 use Prim.Native.Nat.{ℕ, zero, suc, max}
+use mathlib.Core.Path.{_≡_}
 use mathlib.Core.Bool.{Bool, true, false, _&&_}
 use lib.Dec.{ltb}
 
--- 'Codes: 0 bottom; 1 top; 2 proposition; 3 negated proposition; 4 variable, followed by the count of binders between it and
--- its own (0 is the nearest); 5 or; 6 and; 7 AX; 8 EX; 9 least fixpoint; 10 greatest fixpoint.'
+-- Document 01's codes in their order: 0 bottom; 1 top; 2 proposition; 3 negated proposition; 4 variable, with the count of binders
+-- between it and its own (0 is the nearest); 5 or; 6 and; 7 AX; 8 EX; 9 least fixpoint; 10 greatest fixpoint
 pub data Formula : Type 0 where
   bottom top : Formula
   prop negated var : ℕ → Formula
@@ -98,3 +99,9 @@ nestedBinders (AX f) = nestedBinders f
 nestedBinders (EX f) = nestedBinders f
 nestedBinders (mu f) = suc (nestedBinders f)
 nestedBinders (nu f) = suc (nestedBinders f)
+
+-- a closed universal formula over the propositions below k (000: a sentence of ALMC)
+pub record UniversalSentence (k : ℕ) (f : Formula) : Type 0 where
+  pub isClosed : closed f ≡ true
+  pub isUniversal : universal f ≡ true
+  pub isOver : overProps k f ≡ true

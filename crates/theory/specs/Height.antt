@@ -1,5 +1,5 @@
 -- The rest of theorem 4: in a lattice on the numbers below n there is a longest chain, of at most n elements.
--- Rests on Lattice, Descent.
+-- Rests on Lattice, Simulation (one), Test, Descent.
 use Prim.Native.Nat.{ℕ, zero, suc, _+_, _*_, _≤_, _<_, zero-le}
 use mathlib.Core.Path.{_≡_, refl, sym, ap, _∙_}
 use mathlib.Core.Bool.{Bool, true, false}
@@ -11,44 +11,40 @@ use borrow.Author.Tests.{ltb-true, lt-ltb, eqb-true, eq-eqb, ne-eqb, eqb-false}
 use lib.Dec.{eqb, ltb}
 use lib.ListN.{length}
 use Rattle.theory.specs.Lattice.{Ops, Below, Element, All, Pairwise, Chain, LongestChain}
-use Rattle.theory.specs.Folds.{decide}
+use Rattle.theory.specs.Simulation.{one}
+use Rattle.theory.specs.Test.{decide}
 use Rattle.theory.specs.Descent.{sum, sum-le, sum-strict, scan, all-map}
 
 -- ---- a list of distinct numbers below n has at most n of them
 
-hit : Bool → ℕ
-hit true = 1
-hit false = 0
-
 occurs : ℕ → List ℕ → ℕ
 occurs i [] = 0
-occurs i (a ∷ l) = hit (eqb a i) + occurs i l
+occurs i (a ∷ l) = one (eqb a i) + occurs i l
 
 sum-add : (n : ℕ) (f g : ℕ → ℕ) → sum n (λ i. f i + g i) ≡ sum n f + sum n g
 unfolding sum
 sum-add zero f g = refl
 sum-add (suc n) f g = omega (arith, sum-add n f g)
 
-sum-hit : (n a : ℕ) → a < n → 0 < sum n (λ i. hit (eqb a i))
-unfolding hit
-sum-hit n a l = le-trans (omega arith) (sum-strict n (λ i. 0) (λ i. hit (eqb a i)) (λ i m. zero-le) a l (rw (eq-eqb a a refl) (le-refl _)))
+sum-one : (n a : ℕ) → a < n → 0 < sum n (λ i. one (eqb a i))
+sum-one n a l = le-trans (omega arith) (sum-strict n (λ i. 0) (λ i. one (eqb a i)) (λ i m. zero-le) a l (rw (eq-eqb a a refl) (le-refl _)))
 
 length-le : (n : ℕ) (l : List ℕ) → All (λ a. a < n) l → length l ≤ sum n (λ i. occurs i l)
 unfolding occurs
 length-le n [] h = zero-le
-length-le n (a ∷ l) h = omega (arith, sum-add n (λ i. hit (eqb a i)) (λ i. occurs i l), sum-hit n a (h .0), length-le n l (h .1))
+length-le n (a ∷ l) h = omega (arith, sum-add n (λ i. one (eqb a i)) (λ i. occurs i l), sum-one n a (h .0), length-le n l (h .1))
 
 occurs-none : (i : ℕ) (l : List ℕ) → All (λ b. i ≢ b) l → occurs i l ≡ 0
-unfolding occurs hit
+unfolding occurs
 occurs-none i [] h = refl
 occurs-none i (a ∷ l) h = rw (ne-eqb a i (λ e. h .0 (sym e)), occurs-none i l (h .1))
 
 occurs-le : (i : ℕ) (l : List ℕ) → Pairwise (λ a b. a ≢ b) l → occurs i l ≤ 1
-unfolding occurs hit
+unfolding occurs
 occurs-le i [] h = zero-le
 occurs-le i (a ∷ l) h = go (eqb a i) refl (occurs-le i l (h .1))
   where
-    go : (b : Bool) → eqb a i ≡ b → occurs i l ≤ 1 → hit b + occurs i l ≤ 1
+    go : (b : Bool) → eqb a i ≡ b → occurs i l ≤ 1 → one b + occurs i l ≤ 1
     go true e w = omega (arith, occurs-none i l (rw (← eqb-true a i e) (h .0)))
     go false e w = omega arith
 

@@ -5,10 +5,10 @@ pub mod Model
 pub mod Formula
 pub mod Value
 pub mod Simulation
+pub mod Test
 pub mod Part
 -- ---- theorems
 pub mod Folds
-pub mod Test
 pub mod Loop
 pub mod Descent
 pub mod Fixpoint

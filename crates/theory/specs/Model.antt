@@ -1,4 +1,4 @@
--- Latticed Kripke structures. Rests on nothing.
+-- Latticed Kripke structures. Rests on Lattice.
 use Prim.Native.Nat.{ℕ, _<_}
 use mathlib.Core.Path.{_≡_}
 use Rattle.theory.specs.Lattice.{Ops, Element}

@@ -2,30 +2,19 @@
 -- Rests on Value, Simulation, Folds, Fixpoint, Rounds.
 use Prim.Native.Nat.{ℕ, zero, suc, _+_, _*_, _-_, _≤_, _<_, max}
 use mathlib.Core.Path.{_≡_, refl}
-use mathlib.Core.Bool.{Bool, true, false, _&&_}
+use mathlib.Core.Bool.{true}
 use native.Mathlib.Nat.{not-suc-le-zero}
 use native.Mathlib.Omega.{arith}
 use borrow.Author.Tests.{ltb-true}
 use Rattle.theory.specs.Lattice.{Ops, Laws, Below, imp, iff, bigMeet, bigJoin}
 use Rattle.theory.specs.Model.{Model}
-use Rattle.theory.specs.Formula.{Formula, bottom, top, prop, negated, var, or, and, AX, EX, mu, nu, closed, boundBy, universal, fixpointFree, overProps, nestedAX}
+use Rattle.theory.specs.Formula.{Formula, bottom, top, prop, negated, var, or, and, AX, EX, mu, nu, closed, boundBy, universal, fixpointFree, overProps, nestedAX, UniversalSentence}
 use Rattle.theory.specs.Value.{iterate, bind, allNext, someNext, eval, enough, valueAt, wholeValue}
-use Rattle.theory.specs.Simulation.{propositionPart, successorPart, F, round, AllPairs, BelowTable, SameTable, FirstUnchanged, score}
+use Rattle.theory.specs.Simulation.{propositionPart, successorPart, F, roundOf, round, BelowTable, Bounds, FirstUnchanged, score}
 use Rattle.theory.specs.Folds.{bigMeet-le, bigMeet-mono, bigJoin-lub, join-bigMeet, meet-mono, join-mono, imp-mono, imp-meet, imp-join, imp-bot, imp-top, imp-neg, iff-l, iff-r, de-morgan-join}
 use Rattle.theory.specs.Test.{and-l, and-r, false-true}
-use Rattle.theory.specs.Fixpoint.{count-le}
-use Rattle.theory.specs.Rounds.{simulation-below, settled-simulation}
-
-module _ {A : Type 0} (O : Ops A) (M₁ M₂ : Model A) where
-  -- every entry of S is at most 'not g at the pair's state of model 2, joined with f at its state of model 1'
-  abbrev pub Bounds : (ℕ → ℕ → A) → (ℕ → A) → (ℕ → A) → Type 0
-  Bounds S f g = BelowTable O M₁ M₂ S (λ q₁ q₂. imp O (g q₂) (f q₁))
-
-  -- a closed universal formula over the propositions of the models (000: a sentence of ALMC)
-  pub record UniversalSentence (φ : Formula) : Type 0 where
-    pub isClosed : closed φ ≡ true
-    pub isUniversal : universal φ ≡ true
-    pub isOver : overProps (M₁ .propositions) φ ≡ true
+use Rattle.theory.specs.Fixpoint.{applications-le}
+use Rattle.theory.specs.Rounds.{settled-below}
 
 module _ {A : Type 0} {O : Ops A} (L : Laws O) (M₁ M₂ : Model A) where
   open Ops O using (meet as _⊓_, join as _⊔_, neg)
@@ -62,35 +51,35 @@ module _ {A : Type 0} {O : Ops A} (L : Laws O) (M₁ M₂ : Model A) where
 
   -- ---- by rounds: no fixpoint, and fewer nested AX than rounds
 
-  bounded-by-round : (K J : ℕ) (e d : ℕ → ℕ → A) (φ : Formula) → boundBy 0 φ ≡ true → universal φ ≡ true → overProps (M₁ .propositions) φ ≡ true → fixpointFree φ ≡ true → (r : ℕ) → nestedAX φ < r → Bounds O M₁ M₂ (round O M₁ M₂ r) (eval O M₁ K φ e) (eval O M₂ J φ d)
-  unfolding eval round nestedAX boundBy universal overProps fixpointFree
-  bounded-by-round K J e d bottom c u o x r h q₁ l q₂ m = imp-bot L _ _
-  bounded-by-round K J e d top c u o x r h q₁ l q₂ m = imp-top L _ _
-  bounded-by-round K J e d (prop p) c u o x zero h q₁ l q₂ m = absurd (not-suc-le-zero h)
-  bounded-by-round K J e d (prop p) c u o x (suc r) h q₁ l q₂ m = bounds-prop _ p (ltb-true _ _ o) q₁ q₂
-  bounded-by-round K J e d (negated p) c u o x zero h q₁ l q₂ m = absurd (not-suc-le-zero h)
-  bounded-by-round K J e d (negated p) c u o x (suc r) h q₁ l q₂ m = bounds-negated _ p (ltb-true _ _ o) q₁ q₂
-  bounded-by-round K J e d (var v) c u o x r h q₁ l q₂ m = absurd (not-suc-le-zero (ltb-true v 0 c))
-  bounded-by-round K J e d (or f g) c u o x r h q₁ l q₂ m =
+  eval-by-round : (K J : ℕ) (e d : ℕ → ℕ → A) (φ : Formula) → boundBy 0 φ ≡ true → universal φ ≡ true → overProps (M₁ .propositions) φ ≡ true → fixpointFree φ ≡ true → (r : ℕ) → nestedAX φ < r → Bounds O M₁ M₂ (round O M₁ M₂ r) (eval O M₁ K φ e) (eval O M₂ J φ d)
+  unfolding eval roundOf nestedAX boundBy universal overProps fixpointFree
+  eval-by-round K J e d bottom c u o x r h q₁ l q₂ m = imp-bot L _ _
+  eval-by-round K J e d top c u o x r h q₁ l q₂ m = imp-top L _ _
+  eval-by-round K J e d (prop p) c u o x zero h q₁ l q₂ m = absurd (not-suc-le-zero h)
+  eval-by-round K J e d (prop p) c u o x (suc r) h q₁ l q₂ m = bounds-prop _ p (ltb-true _ _ o) q₁ q₂
+  eval-by-round K J e d (negated p) c u o x zero h q₁ l q₂ m = absurd (not-suc-le-zero h)
+  eval-by-round K J e d (negated p) c u o x (suc r) h q₁ l q₂ m = bounds-negated _ p (ltb-true _ _ o) q₁ q₂
+  eval-by-round K J e d (var v) c u o x r h q₁ l q₂ m = absurd (not-suc-le-zero (ltb-true v 0 c))
+  eval-by-round K J e d (or f g) c u o x r h q₁ l q₂ m =
       trans
-      (meet-glb (bounded-by-round K J e d f (and-l _ (boundBy 0 g) c) (and-l _ (universal g) u) (and-l _ (overProps (M₁ .propositions) g) o) (and-l _ (fixpointFree g) x) r (omega arith) q₁ l q₂ m)
-      (bounded-by-round K J e d g (and-r (boundBy 0 f) _ c) (and-r (universal f) _ u) (and-r (overProps (M₁ .propositions) f) _ o) (and-r (fixpointFree f) _ x) r (omega arith) q₁ l q₂ m))
+      (meet-glb (eval-by-round K J e d f (and-l _ (boundBy 0 g) c) (and-l _ (universal g) u) (and-l _ (overProps (M₁ .propositions) g) o) (and-l _ (fixpointFree g) x) r (omega arith) q₁ l q₂ m)
+      (eval-by-round K J e d g (and-r (boundBy 0 f) _ c) (and-r (universal f) _ u) (and-r (overProps (M₁ .propositions) f) _ o) (and-r (fixpointFree f) _ x) r (omega arith) q₁ l q₂ m))
       (imp-join L _ _ _ _)
-  bounded-by-round K J e d (and f g) c u o x r h q₁ l q₂ m =
+  eval-by-round K J e d (and f g) c u o x r h q₁ l q₂ m =
       trans
-      (meet-glb (bounded-by-round K J e d f (and-l _ (boundBy 0 g) c) (and-l _ (universal g) u) (and-l _ (overProps (M₁ .propositions) g) o) (and-l _ (fixpointFree g) x) r (omega arith) q₁ l q₂ m)
-      (bounded-by-round K J e d g (and-r (boundBy 0 f) _ c) (and-r (universal f) _ u) (and-r (overProps (M₁ .propositions) f) _ o) (and-r (fixpointFree f) _ x) r (omega arith) q₁ l q₂ m))
+      (meet-glb (eval-by-round K J e d f (and-l _ (boundBy 0 g) c) (and-l _ (universal g) u) (and-l _ (overProps (M₁ .propositions) g) o) (and-l _ (fixpointFree g) x) r (omega arith) q₁ l q₂ m)
+      (eval-by-round K J e d g (and-r (boundBy 0 f) _ c) (and-r (universal f) _ u) (and-r (overProps (M₁ .propositions) f) _ o) (and-r (fixpointFree f) _ x) r (omega arith) q₁ l q₂ m))
       (imp-meet L _ _ _ _)
-  bounded-by-round K J e d (AX f) c u o x zero h q₁ l q₂ m = absurd (not-suc-le-zero h)
-  bounded-by-round K J e d (AX f) c u o x (suc r) h q₁ l q₂ m = bounds-next _ _ _ (bounded-by-round K J e d f c u o x r (omega arith)) q₁ q₂
-  bounded-by-round K J e d (EX f) c u o x r h q₁ l q₂ m = absurd (false-true refl u)
-  bounded-by-round K J e d (mu f) c u o x r h q₁ l q₂ m = absurd (false-true refl x)
-  bounded-by-round K J e d (nu f) c u o x r h q₁ l q₂ m = absurd (false-true refl x)
+  eval-by-round K J e d (AX f) c u o x zero h q₁ l q₂ m = absurd (not-suc-le-zero h)
+  eval-by-round K J e d (AX f) c u o x (suc r) h q₁ l q₂ m = bounds-next _ _ _ (eval-by-round K J e d f c u o x r (omega arith)) q₁ q₂
+  eval-by-round K J e d (EX f) c u o x r h q₁ l q₂ m = absurd (false-true refl u)
+  eval-by-round K J e d (mu f) c u o x r h q₁ l q₂ m = absurd (false-true refl x)
+  eval-by-round K J e d (nu f) c u o x r h q₁ l q₂ m = absurd (false-true refl x)
 
   -- Theorem 6, by rounds: 'for every closed universal formula without fixpoints and with fewer than r nested AX'
-  pub kept-by-round : (φ : Formula) → UniversalSentence O M₁ M₂ φ → fixpointFree φ ≡ true → (r : ℕ) → nestedAX φ < r → Bounds O M₁ M₂ (round O M₁ M₂ r) (valueAt O M₁ φ) (valueAt O M₂ φ)
+  pub bounded-by-round : (φ : Formula) → UniversalSentence (M₁ .propositions) φ → fixpointFree φ ≡ true → (r : ℕ) → nestedAX φ < r → Bounds O M₁ M₂ (round O M₁ M₂ r) (valueAt O M₁ φ) (valueAt O M₂ φ)
   unfolding valueAt
-  kept-by-round φ s x r h = bounded-by-round _ _ _ _ φ (s .isClosed) (s .isUniversal) (s .isOver) x r h
+  bounded-by-round φ s x r h = eval-by-round _ _ _ _ φ (s .isClosed) (s .isUniversal) (s .isOver) x r h
 
   -- ---- for a table at or below its F: every universal formula, fixpoints among them
 
@@ -132,14 +121,14 @@ module _ {A : Type 0} {O : Ops A} (L : Laws O) (M₁ M₂ : Model A) where
     bounded K (nu f) u o e d b q₁ l q₂ m = bounds-iterate _ _ (λ x y c. bounded K f u o _ _ (bounds-bind e d x y c b)) _ _ (λ q₁ l q₂ m. imp-top L _ _) K q₁ l q₂ m
 
     -- Theorem 6, for every S at or below F S and every closed universal formula
-    pub kept : (φ : Formula) → UniversalSentence O M₁ M₂ φ → Bounds O M₁ M₂ S (valueAt O M₁ φ) (valueAt O M₂ φ)
+    pub bounded-table : (φ : Formula) → UniversalSentence (M₁ .propositions) φ → Bounds O M₁ M₂ S (valueAt O M₁ φ) (valueAt O M₂ φ)
     unfolding valueAt
-    kept φ s q₁ l q₂ m =
+    bounded-table φ s q₁ l q₂ m =
         trans
         (bounded K φ (s .isUniversal) (s .isOver) none none (λ v q₁ l q₂ m. imp-bot L _ _) q₁ l q₂ m)
         (imp-mono L
-        (count-le L M₂ (enough O M₂) K (omega arith) (omega arith) φ none none (λ v q l. rfl _) q₂ m)
-        (count-le L M₁ K (enough O M₁) (omega arith) (omega arith) φ none none (λ v q l. rfl _) q₁ l))
+        (applications-le L M₂ (enough O M₂) K (omega arith) (omega arith) φ none none (λ v q l. rfl _) q₂ m)
+        (applications-le L M₁ K (enough O M₁) (omega arith) (omega arith) φ none none (λ v q l. rfl _) q₁ l))
       where
         K : ℕ
         K = max (enough O M₁) (enough O M₂)
@@ -148,8 +137,8 @@ module _ {A : Type 0} {O : Ops A} (L : Laws O) (M₁ M₂ : Model A) where
         none v q = O .bot
 
   -- 'once r = T for every closed universal formula'
-  pub kept-at-T : (T : ℕ) → FirstUnchanged O M₁ M₂ T → (φ : Formula) → UniversalSentence O M₁ M₂ φ → Bounds O M₁ M₂ (round O M₁ M₂ T) (valueAt O M₁ φ) (valueAt O M₂ φ)
-  kept-at-T T f = kept (round O M₁ M₂ T) (simulation-below L M₁ M₂ _ (settled-simulation O M₁ M₂ T f))
+  pub bounded-at-T : (T : ℕ) → FirstUnchanged O M₁ M₂ T → (φ : Formula) → UniversalSentence (M₁ .propositions) φ → Bounds O M₁ M₂ (round O M₁ M₂ T) (valueAt O M₁ φ) (valueAt O M₂ φ)
+  bounded-at-T T f = bounded-table (round O M₁ M₂ T) (settled-below L M₁ M₂ T f)
 
   -- ---- theorem 7 (theorem 6.1 of 000): the score is at most 'not the whole value on model 2, joined with the whole value on model 1'
 
@@ -157,8 +146,8 @@ module _ {A : Type 0} {O : Ops A} (L : Laws O) (M₁ M₂ : Model A) where
   unfolding score wholeValue
   score-bounds S φ h = bounds-moves S (valueAt O M₁ φ) (valueAt O M₂ φ) (M₁ .initial) (M₂ .initial) h
 
-  pub score-by-round : (φ : Formula) → UniversalSentence O M₁ M₂ φ → fixpointFree φ ≡ true → (r : ℕ) → nestedAX φ < r → Below O (score O M₁ M₂ (round O M₁ M₂ r)) (imp O (wholeValue O M₂ φ) (wholeValue O M₁ φ))
-  score-by-round φ s x r h = score-bounds _ φ (kept-by-round φ s x r h)
+  pub score-by-round : (φ : Formula) → UniversalSentence (M₁ .propositions) φ → fixpointFree φ ≡ true → (r : ℕ) → nestedAX φ < r → Below O (score O M₁ M₂ (round O M₁ M₂ r)) (imp O (wholeValue O M₂ φ) (wholeValue O M₁ φ))
+  score-by-round φ s x r h = score-bounds _ φ (bounded-by-round φ s x r h)
 
-  pub score-at-T : (T : ℕ) → FirstUnchanged O M₁ M₂ T → (φ : Formula) → UniversalSentence O M₁ M₂ φ → Below O (score O M₁ M₂ (round O M₁ M₂ T)) (imp O (wholeValue O M₂ φ) (wholeValue O M₁ φ))
-  score-at-T T f φ s = score-bounds _ φ (kept-at-T T f φ s)
+  pub score-at-T : (T : ℕ) → FirstUnchanged O M₁ M₂ T → (φ : Formula) → UniversalSentence (M₁ .propositions) φ → Below O (score O M₁ M₂ (round O M₁ M₂ T)) (imp O (wholeValue O M₂ φ) (wholeValue O M₁ φ))
+  score-at-T T f φ s = score-bounds _ φ (bounded-at-T T f φ s)

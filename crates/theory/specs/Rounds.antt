@@ -1,19 +1,20 @@
--- Theorems 3 to 5: F is monotone, rounds descend, the first unchanged round T exists and comes soon, and round T is the greatest
--- simulation. Rests on Simulation, Folds, Descent, Fixpoint.
-use Prim.Native.Nat.{ℕ, zero, suc, pred, _+_, _*_, _-_, _≤_, _<_}
+-- Theorems 3 to 5: F is monotone, rounds descend, the first unchanged round T exists within its bound, and round T is the greatest
+-- simulation. Stated for any operator on tables that is monotone, reads its table only at pairs of states and gives elements.
+-- Rests on Simulation, Folds, Descent, Fixpoint.
+use Prim.Native.Nat.{ℕ, zero, suc, _+_, _*_, _-_, _≤_, _<_}
 use mathlib.Core.Path.{_≡_, refl, sym, ap, _∙_, subst}
 use mathlib.Core.List.{List}
-use native.Mathlib.Nat.{le-refl, le-trans, not-suc-le-zero}
+use native.Mathlib.Nat.{not-suc-le-zero, mul-zero}
 use native.Mathlib.Numerals.{sub-one}
 use native.Mathlib.Decide.{le-ind}
 use native.Mathlib.Omega.{arith}
 use lib.ListN.{length}
-use Rattle.theory.specs.Lattice.{Ops, Laws, Below, Element, Chain, LongestChain, imp, bigMeet, bigJoin}
+use Rattle.theory.specs.Lattice.{Ops, Laws, Below, Element, Chain, LongestChain, imp}
 use Rattle.theory.specs.Model.{Model}
 use Rattle.theory.specs.Value.{allNext, someNext}
-use Rattle.theory.specs.Simulation.{propositionPart, successorPart, F, round, AllPairs, SameTable, BelowTable, Simulation, GreatestSimulation, FirstUnchanged, score}
-use Rattle.theory.specs.Folds.{meet-mono, imp-mono, bigMeet-mono, bigJoin-mono, bigMeet-cong, bigJoin-cong, bigMeet-element}
-use Rattle.theory.specs.Descent.{First, Still, first-still, falling, apart-length}
+use Rattle.theory.specs.Simulation.{successorPart, F, round, roundOf, SameTable, BelowTable, FixedBy, GreatestFixedBy, FirstUnchangedOf, FirstUnchanged, Simulation, GreatestSimulation, score}
+use Rattle.theory.specs.Folds.{meet-mono, bigMeet-cong, bigJoin-cong}
+use Rattle.theory.specs.Descent.{First, Unlowered, lowerings, first-unlowered, lowerings-le, downwards, apart-length}
 use Rattle.theory.specs.Fixpoint.{allNext-cong, someNext-cong, allNext-mono, someNext-mono, chain-size}
 
 -- ---- F and score read a table only at the pairs of states
@@ -27,88 +28,138 @@ module _ {A : Type 0} (O : Ops A) (M₁ M₂ : Model A) where
   unfolding score
   score-cong {S} {U} h = bigMeet-cong O (M₁ .states) _ _ (λ q₁ l. ap (imp O (M₁ .initial q₁)) (bigJoin-cong O (M₂ .states) _ _ (λ q₂ m. ap (O .meet (M₂ .initial q₂)) (h q₁ l q₂ m))))
 
-  -- a round that equals the one before is followed by none that differs
-  pub round-stays : (T : ℕ) → FirstUnchanged O M₁ M₂ T → (r : ℕ) → T ≤ r → SameTable O M₁ M₂ (round O M₁ M₂ r) (round O M₁ M₂ T)
-  unfolding round
-  round-stays zero f r l = absurd (not-suc-le-zero (f .above0))
-  round-stays (suc t) f r l = le-ind (λ r. SameTable O M₁ M₂ (round O M₁ M₂ r) (round O M₁ M₂ (suc t))) (λ q₁ l q₂ m. refl) next r l
-    where
-      same : SameTable O M₁ M₂ (round O M₁ M₂ (suc t)) (round O M₁ M₂ t)
-      same = subst (λ (n : ℕ). SameTable O M₁ M₂ (round O M₁ M₂ (suc t)) (round O M₁ M₂ n)) (sub-one (suc t)) (f .unchanged)
+  -- round r + 1 is F of round r
+  pub round-next : (r q₁ q₂ : ℕ) → round O M₁ M₂ (suc r) q₁ q₂ ≡ F O M₁ M₂ (round O M₁ M₂ r) q₁ q₂
+  unfolding roundOf
+  round-next r q₁ q₂ = refl
 
-      next : (r : ℕ) → suc t ≤ r → SameTable O M₁ M₂ (round O M₁ M₂ r) (round O M₁ M₂ (suc t)) → SameTable O M₁ M₂ (round O M₁ M₂ (suc r)) (round O M₁ M₂ (suc t))
-      next r l h q₁ k q₂ m = F-cong (λ x a y b. h x a y b ∙ same x a y b) q₁ q₂
+  -- ---- an operator that reads its table only at the pairs of states
 
-  -- theorem 5, first half: 'round T is a simulation'
-  pub settled-simulation : (T : ℕ) → FirstUnchanged O M₁ M₂ T → Simulation O M₁ M₂ (round O M₁ M₂ T)
-  unfolding round
-  settled-simulation T f q₁ l q₂ m = sym (round-stays T f (suc T) (omega arith) q₁ l q₂ m)
+  module _ (G : (ℕ → ℕ → A) → ℕ → ℕ → A) (cong : (S U : ℕ → ℕ → A) → SameTable O M₁ M₂ S U → (q₁ q₂ : ℕ) → G S q₁ q₂ ≡ G U q₁ q₂) where
+    -- after a round that equals the one before, none differs
+    pub stays : (T : ℕ) → FirstUnchangedOf O M₁ M₂ G T → (r : ℕ) → T ≤ r → SameTable O M₁ M₂ (roundOf O M₁ M₂ G r) (roundOf O M₁ M₂ G T)
+    unfolding roundOf
+    stays zero f r l = absurd (not-suc-le-zero (f .above0))
+    stays (suc t) f r l = le-ind (λ r. SameTable O M₁ M₂ (roundOf O M₁ M₂ G r) (roundOf O M₁ M₂ G (suc t))) (λ q₁ l q₂ m. refl) next r l
+      where
+        same : SameTable O M₁ M₂ (roundOf O M₁ M₂ G (suc t)) (roundOf O M₁ M₂ G t)
+        same = subst (λ (n : ℕ). SameTable O M₁ M₂ (roundOf O M₁ M₂ G (suc t)) (roundOf O M₁ M₂ G n)) (sub-one (suc t)) (f .unchanged)
 
-  -- T is one number
-  pub first-unchanged-unique : (T U : ℕ) → FirstUnchanged O M₁ M₂ T → FirstUnchanged O M₁ M₂ U → T ≡ U
-  first-unchanged-unique T U f g =
-      let x : ¬ (U < T) = λ l. f .least U (g .above0) l (g .unchanged) in
-      let y : ¬ (T < U) = λ l. g .least T (f .above0) l (f .unchanged) in
-      omega arith
+        next : (r : ℕ) → suc t ≤ r → SameTable O M₁ M₂ (roundOf O M₁ M₂ G r) (roundOf O M₁ M₂ G (suc t)) → SameTable O M₁ M₂ (roundOf O M₁ M₂ G (suc r)) (roundOf O M₁ M₂ G (suc t))
+        next r l h q₁ k q₂ m = cong _ _ (λ x a y b. h x a y b ∙ same x a y b) q₁ q₂
+
+    pub fixed-at-T : (T : ℕ) → FirstUnchangedOf O M₁ M₂ G T → FixedBy O M₁ M₂ G (roundOf O M₁ M₂ G T)
+    unfolding roundOf
+    fixed-at-T T f q₁ l q₂ m = sym (stays T f (suc T) (omega arith) q₁ l q₂ m)
+
+    -- T is one number
+    pub T-unique : (T U : ℕ) → FirstUnchangedOf O M₁ M₂ G T → FirstUnchangedOf O M₁ M₂ G U → T ≡ U
+    T-unique T U f g =
+        let x : ¬ (U < T) = λ l. f .least U (g .above0) l (g .unchanged) in
+        let y : ¬ (T < U) = λ l. g .least T (f .above0) l (f .unchanged) in
+        omega arith
 
 module _ {A : Type 0} {O : Ops A} (L : Laws O) (M₁ M₂ : Model A) where
-  -- ---- theorem 3
-
   pub F-mono : {S U : ℕ → ℕ → A} → BelowTable O M₁ M₂ S U → (q₁ q₂ : ℕ) → Below O (F O M₁ M₂ S q₁ q₂) (F O M₁ M₂ U q₁ q₂)
   unfolding F successorPart
   F-mono h q₁ q₂ = meet-mono L (L .rfl _) (allNext-mono L M₁ (λ q₁' l. someNext-mono L M₂ (λ q₂' m. h q₁' l q₂' m) q₂) q₁)
 
-  pub rounds-descend : (r q₁ q₂ : ℕ) → Below O (round O M₁ M₂ (suc r) q₁ q₂) (round O M₁ M₂ r q₁ q₂)
-  unfolding round
-  rounds-descend zero q₁ q₂ = L .top-max _
-  rounds-descend (suc r) q₁ q₂ = F-mono (λ q₁' l q₂' m. rounds-descend r q₁' q₂') q₁ q₂
+  pub F-element : (S : ℕ → ℕ → A) (q₁ q₂ : ℕ) → Element O (F O M₁ M₂ S q₁ q₂)
+  unfolding F
+  F-element S q₁ q₂ = L .meet-element _ _
 
-  -- a table that F does not lower lies at or below every round
+  -- ---- a monotone operator
+
+  module _ (G : (ℕ → ℕ → A) → ℕ → ℕ → A) (mono : (S U : ℕ → ℕ → A) → BelowTable O M₁ M₂ S U → (q₁ q₂ : ℕ) → Below O (G S q₁ q₂) (G U q₁ q₂)) where
+    pub descend : (r q₁ q₂ : ℕ) → Below O (roundOf O M₁ M₂ G (suc r) q₁ q₂) (roundOf O M₁ M₂ G r q₁ q₂)
+    unfolding roundOf
+    descend zero q₁ q₂ = L .top-max _
+    descend (suc r) q₁ q₂ = mono _ _ (λ q₁' l q₂' m. descend r q₁' q₂') q₁ q₂
+
+    -- a table that G does not lower lies at or below every round
+    pub below-every : (S : ℕ → ℕ → A) → BelowTable O M₁ M₂ S (G S) → (r : ℕ) → BelowTable O M₁ M₂ S (roundOf O M₁ M₂ G r)
+    unfolding roundOf
+    below-every S h zero q₁ l q₂ m = L .top-max _
+    below-every S h (suc r) q₁ l q₂ m = L .trans (h q₁ l q₂ m) (mono _ _ (below-every S h r) q₁ q₂)
+
+    pub fixed-below : (S : ℕ → ℕ → A) → FixedBy O M₁ M₂ G S → BelowTable O M₁ M₂ S (G S)
+    fixed-below S s q₁ l q₂ m = rw (← s q₁ l q₂ m) (L .rfl _)
+
+    -- all rounds together lower at most N1·N2·(h − 1) entries
+    pub rounds-lower : (h : ℕ) → LongestChain O h → (t : ℕ) → lowerings (O .atMost) (M₁ .states) (M₂ .states) (roundOf O M₁ M₂ G) t ≤ M₁ .states * M₂ .states * (h - 1)
+    rounds-lower h c = lowerings-le (downwards L) h (apart-length L h (c .longest)) (M₁ .states) (M₂ .states) (roundOf O M₁ M₂ G) (λ t q₁ l q₂ m. descend t q₁ q₂)
+
+    module _ (element : (S : ℕ → ℕ → A) (q₁ q₂ : ℕ) → Element O (G S q₁ q₂)) where
+      pub rounds-element : (r q₁ q₂ : ℕ) → Element O (roundOf O M₁ M₂ G r q₁ q₂)
+      unfolding roundOf
+      rounds-element zero q₁ q₂ = L .top-element
+      rounds-element (suc r) q₁ q₂ = element _ q₁ q₂
+
+      -- T exists within the bound that the chains give
+      pub exists-T : (h : ℕ) → ((l : List A) → Chain O l → length l ≤ h) → (T : ℕ) × (T ≤ M₁ .states * M₂ .states * (h - 1) + 1) × FirstUnchangedOf O M₁ M₂ G T
+      exists-T h longest = go (first-unlowered (downwards L) h (apart-length L h longest) (M₁ .states) (M₂ .states) (roundOf O M₁ M₂ G) (λ t q₁ l q₂ m. descend t q₁ q₂))
+        where
+          go : (t : ℕ) × (t ≤ M₁ .states * M₂ .states * (h - 1)) × First (Unlowered (O .atMost) (M₁ .states) (M₂ .states) (roundOf O M₁ M₂ G)) t → (T : ℕ) × (T ≤ M₁ .states * M₂ .states * (h - 1) + 1) × FirstUnchangedOf O M₁ M₂ G T
+          go w = (
+            suc (w .0),
+            omega (arith, w .1),
+            record {
+              above0 = omega arith;
+              unchanged = subst (λ (n : ℕ). SameTable O M₁ M₂ (roundOf O M₁ M₂ G (suc (w .0))) (roundOf O M₁ M₂ G n)) (sym (sub-one (suc (w .0))))
+                  (λ q₁ l q₂ m. L .antisym (rounds-element _ q₁ q₂) (rounds-element _ q₁ q₂) (descend (w .0) q₁ q₂) (w .2 .here q₁ l q₂ m));
+              least = earlier;
+            },
+          )
+            where
+              earlier : (t : ℕ) → 0 < t → t < suc (w .0) → SameTable O M₁ M₂ (roundOf O M₁ M₂ G t) (roundOf O M₁ M₂ G (t - 1)) → ⊥
+              earlier zero p l s = not-suc-le-zero p
+              earlier (suc t) p l s =
+                  w .2 .earlier t (omega arith)
+                  (λ q₁ k q₂ m. subst (λ (n : ℕ). Below O (roundOf O M₁ M₂ G n q₁ q₂) (roundOf O M₁ M₂ G (suc t) q₁ q₂)) (sub-one (suc t)) (rw (← s q₁ k q₂ m) (L .rfl _)))
+
+      -- whatever T is, the bound holds of it
+      pub T-within : (cong : (S U : ℕ → ℕ → A) → SameTable O M₁ M₂ S U → (q₁ q₂ : ℕ) → G S q₁ q₂ ≡ G U q₁ q₂) (h : ℕ) → ((l : List A) → Chain O l → length l ≤ h) → (T : ℕ) → FirstUnchangedOf O M₁ M₂ G T → T ≤ M₁ .states * M₂ .states * (h - 1) + 1
+      T-within cong h longest T f = let w = exists-T h longest in omega (arith, w .1, T-unique O M₁ M₂ G cong T (w .0) f (w .2))
+
+  -- ==== for F
+
+  -- theorem 3
+  pub rounds-descend : (r q₁ q₂ : ℕ) → Below O (round O M₁ M₂ (suc r) q₁ q₂) (round O M₁ M₂ r q₁ q₂)
+  rounds-descend = descend (F O M₁ M₂) (λ S U. F-mono)
+
   pub below-rounds : (S : ℕ → ℕ → A) → BelowTable O M₁ M₂ S (F O M₁ M₂ S) → (r : ℕ) → BelowTable O M₁ M₂ S (round O M₁ M₂ r)
-  unfolding round
-  below-rounds S h zero q₁ l q₂ m = L .top-max _
-  below-rounds S h (suc r) q₁ l q₂ m = L .trans (h q₁ l q₂ m) (F-mono (below-rounds S h r) q₁ q₂)
+  below-rounds = below-every (F O M₁ M₂) (λ S U. F-mono)
 
   pub round-element : (r q₁ q₂ : ℕ) → Element O (round O M₁ M₂ r q₁ q₂)
-  unfolding round F
-  round-element zero q₁ q₂ = L .top-element
-  round-element (suc r) q₁ q₂ = L .meet-element _ _
+  round-element = rounds-element (F O M₁ M₂) (λ S U. F-mono) F-element
 
-  -- ---- theorem 4: T exists, and 'T is at most N1·N2·(h − 1) + 1'
+  -- theorem 4: T exists, 'T is at most N1·N2·(h − 1) + 1, h being the number of elements in the lattice's longest chain', and so with n for h
+  pub T-exists : (h : ℕ) → LongestChain O h → (T : ℕ) × (T ≤ M₁ .states * M₂ .states * (h - 1) + 1) × FirstUnchanged O M₁ M₂ T
+  T-exists h c = exists-T (F O M₁ M₂) (λ S U. F-mono) F-element h (c .longest)
 
-  pub settles : (h : ℕ) → ((l : List A) → Chain O l → length l ≤ h) → (T : ℕ) × (T ≤ M₁ .states * M₂ .states * (h - 1) + 1) × FirstUnchanged O M₁ M₂ T
-  settles h longest = go (first-still (falling L) h (apart-length L h longest) (M₁ .states) (M₂ .states) (round O M₁ M₂) (λ t q₁ l q₂ m. rounds-descend t q₁ q₂))
+  pub T-at-most : (h : ℕ) → LongestChain O h → (T : ℕ) → FirstUnchanged O M₁ M₂ T → T ≤ M₁ .states * M₂ .states * (h - 1) + 1
+  T-at-most h c = T-within (F O M₁ M₂) (λ S U. F-mono) F-element (λ S U. F-cong O M₁ M₂) h (c .longest)
+
+  pub T-at-most-size : (T : ℕ) → FirstUnchanged O M₁ M₂ T → T ≤ M₁ .states * M₂ .states * (O .size - 1) + 1
+  T-at-most-size = T-within (F O M₁ M₂) (λ S U. F-mono) F-element (λ S U. F-cong O M₁ M₂) (O .size) (chain-size L)
+
+  -- worked example 6: 'One element, n = 1: T = 1', for any two models
+  pub T-of-one-element : O .size ≡ 1 → FirstUnchanged O M₁ M₂ 1
+  T-of-one-element e = go (exists-T (F O M₁ M₂) (λ S U. F-mono) F-element (O .size) (chain-size L))
     where
-      go : (t : ℕ) × (t ≤ M₁ .states * M₂ .states * (h - 1)) × First (Still (Below O) (M₁ .states) (M₂ .states) (round O M₁ M₂)) t → (T : ℕ) × (T ≤ M₁ .states * M₂ .states * (h - 1) + 1) × FirstUnchanged O M₁ M₂ T
-      go w = (
-        suc (w .0),
-        omega (arith, w .1),
-        record {
-          above0 = omega arith;
-          unchanged = subst (λ (n : ℕ). SameTable O M₁ M₂ (round O M₁ M₂ (suc (w .0))) (round O M₁ M₂ n)) (sym (sub-one (suc (w .0))))
-              (λ q₁ l q₂ m. L .antisym (round-element _ q₁ q₂) (round-element _ q₁ q₂) (rounds-descend (w .0) q₁ q₂) (w .2 .here q₁ l q₂ m));
-          least = earlier;
-        },
-      )
-        where
-          earlier : (t : ℕ) → 0 < t → t < suc (w .0) → SameTable O M₁ M₂ (round O M₁ M₂ t) (round O M₁ M₂ (t - 1)) → ⊥
-          earlier zero p l s = not-suc-le-zero p
-          earlier (suc t) p l s =
-              w .2 .earlier t (omega arith)
-              (λ q₁ k q₂ m. subst (λ (n : ℕ). Below O (round O M₁ M₂ n q₁ q₂) (round O M₁ M₂ (suc t) q₁ q₂)) (sub-one (suc t)) (rw (← s q₁ k q₂ m) (L .rfl _)))
+      go : (T : ℕ) × (T ≤ M₁ .states * M₂ .states * (O .size - 1) + 1) × FirstUnchanged O M₁ M₂ T → FirstUnchanged O M₁ M₂ 1
+      go w =
+          let z : O .size - 1 ≡ 0 = omega arith in
+          let q : w .0 ≡ 1 = omega (arith, rw (z, mul-zero (M₁ .states * M₂ .states)) at (w .1), w .2 .above0) in
+          subst (λ (n : ℕ). FirstUnchanged O M₁ M₂ n) q (w .2)
 
-  -- the same with h, 'the number of elements in the lattice's longest chain'
-  pub settles-soon : (h : ℕ) → LongestChain O h → (T : ℕ) × (T ≤ M₁ .states * M₂ .states * (h - 1) + 1) × FirstUnchanged O M₁ M₂ T
-  settles-soon h c = settles h (c .longest)
-
-  -- ---- theorem 5: round T is the greatest simulation, and at or above every S at or below F S
-
-  pub simulation-below : (S : ℕ → ℕ → A) → Simulation O M₁ M₂ S → BelowTable O M₁ M₂ S (F O M₁ M₂ S)
-  simulation-below S s q₁ l q₂ m = rw (← s q₁ l q₂ m) (L .rfl _)
-
+  -- theorem 5: round T is a simulation, and the greatest; S ≤ F S is enough to lie at or below it, by below-rounds
   pub settled-greatest : (T : ℕ) → FirstUnchanged O M₁ M₂ T → GreatestSimulation O M₁ M₂ (round O M₁ M₂ T)
-  settled-greatest T f = record { isSimulation = settled-simulation O M₁ M₂ T f; greatest = λ U u. below-rounds U (simulation-below U u) T }
+  settled-greatest T f = record { isFixed = fixed-at-T O M₁ M₂ (F O M₁ M₂) (λ S U. F-cong O M₁ M₂) T f; greatest = λ U u. below-rounds U (fixed-below (F O M₁ M₂) (λ S U. F-mono) U u) T }
+
+  pub settled-below : (T : ℕ) → FirstUnchanged O M₁ M₂ T → BelowTable O M₁ M₂ (round O M₁ M₂ T) (F O M₁ M₂ (round O M₁ M₂ T))
+  settled-below T f = fixed-below (F O M₁ M₂) (λ S U. F-mono) _ (settled-greatest T f .isFixed)
 
   -- 'Each entry is at or above the greatest simulation's.'
   pub above-settled : (T : ℕ) → FirstUnchanged O M₁ M₂ T → (r : ℕ) → BelowTable O M₁ M₂ (round O M₁ M₂ T) (round O M₁ M₂ r)
-  above-settled T f r = below-rounds (round O M₁ M₂ T) (simulation-below _ (settled-simulation O M₁ M₂ T f)) r
+  above-settled T f r = below-rounds (round O M₁ M₂ T) (settled-below T f) r

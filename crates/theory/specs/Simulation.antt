@@ -7,6 +7,8 @@ use Rattle.theory.specs.Model.{Model}
 use Rattle.theory.specs.Value.{allNext, someNext}
 
 module _ {A : Type 0} (O : Ops A) (M₁ M₂ : Model A) where
+  -- ---- F. Both models have the same propositions; those of model 1 are counted.
+
   -- 'the meet of p1 ↔ p2 over all propositions'
   unfoldable pub propositionPart : ℕ → ℕ → A
   propositionPart q₁ q₂ = bigMeet O (M₁ .propositions) (λ p. iff O (M₁ .label q₁ p) (M₂ .label q₂ p))
@@ -21,47 +23,70 @@ module _ {A : Type 0} (O : Ops A) (M₁ M₂ : Model A) where
   unfolding propositionPart successorPart
   F S q₁ q₂ = O .meet (propositionPart q₁ q₂) (successorPart S q₁ q₂)
 
-  -- 'Round 0 is all top; round r + 1 is F of round r.'
-  unfoldable pub round : ℕ → ℕ → ℕ → A
-  unfolding F
-  round zero q₁ q₂ = O .top
-  round (suc r) q₁ q₂ = F (round r) q₁ q₂
+  -- ---- tables, at the pairs of states
 
-  -- P holds at every pair of states
   abbrev pub AllPairs : (ℕ → ℕ → Type 0) → Type 0
   AllPairs P = (q₁ : ℕ) → q₁ < M₁ .states → (q₂ : ℕ) → q₂ < M₂ .states → P q₁ q₂
 
-  -- table S equals table U; table S lies at or below table U
+  -- table S equals table U; every entry of S is at or below that of U
   abbrev pub SameTable : (ℕ → ℕ → A) → (ℕ → ℕ → A) → Type 0
   SameTable S U = AllPairs (λ q₁ q₂. S q₁ q₂ ≡ U q₁ q₂)
 
   abbrev pub BelowTable : (ℕ → ℕ → A) → (ℕ → ℕ → A) → Type 0
   BelowTable S U = AllPairs (λ q₁ q₂. Below O (S q₁ q₂) (U q₁ q₂))
 
+  -- every entry of S is at most 'not g at the pair's state of model 2, joined with f at the pair's state of model 1'
+  abbrev pub Bounds : (ℕ → ℕ → A) → (ℕ → A) → (ℕ → A) → Type 0
+  Bounds S f g = BelowTable S (λ q₁ q₂. imp O (g q₂) (f q₁))
+
+  -- ---- for any operator G on tables; F is the one that document 01 speaks of
+
+  module _ (G : (ℕ → ℕ → A) → ℕ → ℕ → A) where
+    -- 'Round 0 is all top; round r + 1 is F of round r.'
+    unfoldable pub roundOf : ℕ → ℕ → ℕ → A
+    roundOf zero q₁ q₂ = O .top
+    roundOf (suc r) q₁ q₂ = G (roundOf r) q₁ q₂
+
+    -- 'T is the least t above 0 for which round t equals round t − 1.'
+    pub record FirstUnchangedOf (T : ℕ) : Type 0 where
+      pub above0 : 0 < T
+      pub unchanged : SameTable (roundOf T) (roundOf (T - 1))
+      pub least : (t : ℕ) → 0 < t → t < T → SameTable (roundOf t) (roundOf (t - 1)) → ⊥
+
+    -- S = G(S); and the greatest such: 'it meets their equation, and every other table that does lies at or below it'
+    abbrev pub FixedBy : (ℕ → ℕ → A) → Type 0
+    FixedBy S = SameTable S (G S)
+
+    pub record GreatestFixedBy (S : ℕ → ℕ → A) : Type 0 where
+      pub isFixed : FixedBy S
+      pub greatest : (U : ℕ → ℕ → A) → FixedBy U → BelowTable U S
+
+  abbrev pub round : ℕ → ℕ → ℕ → A
+  round = roundOf F
+
+  abbrev pub FirstUnchanged : ℕ → Type 0
+  FirstUnchanged = FirstUnchangedOf F
+
   -- 'A table S is a simulation when S = F(S).'
   abbrev pub Simulation : (ℕ → ℕ → A) → Type 0
-  Simulation S = SameTable S (F S)
+  Simulation = FixedBy F
 
-  -- the greatest simulation: 'it meets their equation, and every other table that does lies at or below it'
-  pub record GreatestSimulation (S : ℕ → ℕ → A) : Type 0 where
-    pub isSimulation : Simulation S
-    pub greatest : (U : ℕ → ℕ → A) → Simulation U → BelowTable U S
+  abbrev pub GreatestSimulation : (ℕ → ℕ → A) → Type 0
+  GreatestSimulation = GreatestFixedBy F
 
-  -- 'T is the least t above 0 for which round t equals round t − 1.'
-  pub record FirstUnchanged (T : ℕ) : Type 0 where
-    pub above0 : 0 < T
-    pub unchanged : SameTable (round T) (round (T - 1))
-    pub least : (t : ℕ) → 0 < t → t < T → SameTable (round t) (round (t - 1)) → ⊥
+  -- ---- score
 
   -- 'score is the meet over q1 of Q0(q1) → the join over q2 of Q0(q2) met with the shown entry'
   unfoldable pub score : (ℕ → ℕ → A) → A
   score S = bigMeet O (M₁ .states) (λ q₁. imp O (M₁ .initial q₁) (bigJoin O (M₂ .states) (λ q₂. O .meet (M₂ .initial q₂) (S q₁ q₂))))
 
--- how many of f 0, .., f (n - 1) are true
+-- ---- share
+
 abbrev pub one : Bool → ℕ
 one true = 1
 one false = 0
 
+-- how many of f 0, .., f (n - 1) are true
 unfoldable pub count : ℕ → (ℕ → Bool) → ℕ
 count zero f = 0
 count (suc n) f = count n f + one (f n)
@@ -70,7 +95,7 @@ count (suc n) f = count n f + one (f n)
 abbrev pub perCent : ℕ → ℕ → ℕ
 perCent c t = (200 * c + t) / (2 * t)
 
--- 'share is the per cent of shown entries at or above a given element'; entry i of the table is S i
+-- 'share is the per cent of shown entries at or above a given element'; the entries are S 0, .., S (n - 1)
 unfoldable pub share : {A : Type 0} → Ops A → ℕ → (ℕ → A) → A → ℕ
 unfolding count
-share O entries S l = perCent (count entries (λ i. O .atMost l (S i))) entries
+share O n S l = perCent (count n (λ i. O .atMost l (S i))) n

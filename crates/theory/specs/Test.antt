@@ -1,14 +1,13 @@
 -- Tests over the numbers below a bound, and the laws that loops and theorems use of them. Rests on nothing.
 use Prim.Native.Nat.{ℕ, zero, suc, _+_, _≤_, _<_}
-use mathlib.Core.Path.{_≡_, refl, sym, ap, ap₂, _∙_}
+use mathlib.Core.Path.{_≡_, refl, sym, ap₂, subst}
 use mathlib.Core.Bool.{Bool, true, false, cond, _&&_}
-use mathlib.Core.Logic.{_⊎_, inl, inr}
-use native.Mathlib.Nat.{le-refl, not-suc-le-zero}
+use mathlib.Core.Logic.{_⊎_, inl, inr, ⊎-elim}
+use native.Mathlib.Nat.{le-refl, eq-or-lt-of-le, le-of-suc-le-suc, not-suc-le-zero}
 use native.Mathlib.Numerals.{add-one}
 use native.Mathlib.Omega.{arith}
 use borrow.Author.Tests.{ltb-true, ltb-false}
 use lib.Dec.{ltb}
-use Rattle.theory.specs.Folds.{below-suc}
 
 -- f passes at every number below n
 unfoldable pub allBelow : ℕ → (ℕ → Bool) → Bool
@@ -21,10 +20,23 @@ true ⇒ b = b
 false ⇒ b = true
 
 infixr 20 _⇒_
+-- r where it is below n; else n where the test at n is passed, and n + 1 where it is not
+abbrev pub orNext : ℕ → Bool → ℕ → ℕ
+orNext n passed r = cond (ltb r n) r (cond passed n (suc n))
+
 -- the least number below n at which f passes; n where there is none
 unfoldable pub firstBelow : ℕ → (ℕ → Bool) → ℕ
 firstBelow zero f = zero
-firstBelow (suc n) f = cond (ltb (firstBelow n f) n) (firstBelow n f) (cond (f n) n (suc n))
+firstBelow (suc n) f = orNext n (f n) (firstBelow n f)
+
+-- the numbers below suc n are those below n, and n
+pub below-suc : {P : ℕ → Type 0} {n : ℕ} → ((i : ℕ) → i < n → P i) → P n → (i : ℕ) → i < suc n → P i
+below-suc {P} f h i q = ⊎-elim (λ e. subst P (sym e) h) (λ l. f i l) (eq-or-lt-of-le (le-of-suc-le-suc q))
+
+-- a test is passed or it is not
+pub decide : (b : Bool) → (b ≡ true) ⊎ (¬ (b ≡ true))
+decide true = inl refl
+decide false = inr (λ e. let z : _≡_ {A = ℕ} 0 1 = cc in omega arith)
 
 -- ---- Boolean laws
 

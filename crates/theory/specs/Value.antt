@@ -1,6 +1,7 @@
 -- The value of a formula at a state and on a whole model. Rests on Lattice, Model, Formula.
-use Prim.Native.Nat.{ℕ, zero, suc, _*_, _-_}
-use Rattle.theory.specs.Lattice.{Ops, imp, bigMeet, bigJoin}
+use Prim.Native.Nat.{ℕ, zero, suc, _*_, _-_, _<_}
+use mathlib.Core.Path.{_≡_}
+use Rattle.theory.specs.Lattice.{Ops, Below, imp, bigMeet, bigJoin}
 use Rattle.theory.specs.Model.{Model}
 use Rattle.theory.specs.Formula.{Formula, bottom, top, prop, negated, var, or, and, AX, EX, mu, nu}
 
@@ -13,6 +14,20 @@ iterate (suc t) g x = g (iterate t g x)
 unfoldable pub bind : {A : Type 0} → (ℕ → A) → (ℕ → ℕ → A) → ℕ → ℕ → A
 bind m env zero = m
 bind m env (suc v) = env v
+
+-- ---- least and greatest fixpoints, of maps from the states of M to values; g sends maps to maps
+
+module _ {A : Type 0} (O : Ops A) (M : Model A) (g : (ℕ → A) → ℕ → A) where
+  -- 'The least fixpoint is the least map from states to elements that its body sends to itself'; m lies at or below every map that
+  -- g sends to a map at or below it, so at or below every other fixpoint
+  pub record LeastFixpoint (m : ℕ → A) : Type 0 where
+    pub fixed : (q : ℕ) → q < M .states → g m q ≡ m q
+    pub least : (y : ℕ → A) → ((q : ℕ) → q < M .states → Below O (g y q) (y q)) → (q : ℕ) → q < M .states → Below O (m q) (y q)
+
+  -- 'the greatest likewise'
+  pub record GreatestFixpoint (m : ℕ → A) : Type 0 where
+    pub fixed : (q : ℕ) → q < M .states → g m q ≡ m q
+    pub greatest : (y : ℕ → A) → ((q : ℕ) → q < M .states → Below O (y q) (g y q)) → (q : ℕ) → q < M .states → Below O (y q) (m q)
 
 module _ {A : Type 0} (O : Ops A) where
   -- 'AX f at q is the meet over all q' of (not R(q, q')) joined with f(q')'
