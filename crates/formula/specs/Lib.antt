@@ -1,2 +1,3 @@
 -- Definitions of `formula`.
 pub mod Bytes
+pub mod RoundTrip

@@ -1,0 +1,195 @@
+-- The parse and the bytes of a formula are inverse to one another, so that a formula part is read as φ exactly when it is the bytes
+-- of φ, at most 255 of them, and φ is allowed. Rests on Bytes.
+use Prim.Native.Nat.{ℕ, zero, suc, _+_, _-_, _≤_, _<_}
+use mathlib.Core.Path.{_≡_, refl, sym, ap, _∙_}
+use mathlib.Core.Bool.{Bool, true, false, cond, _&&_}
+use mathlib.Core.Logic.{_↔_}
+use mathlib.Core.List.{List, [], _∷_, _++_, append-assoc, append-nil}
+use native.Mathlib.Numerals.{sub-one}
+use native.Mathlib.Omega.{arith}
+use lib.Dec.{leb, eqb}
+use lib.ListN.{length, length-append}
+use borrow.Author.Tests.{ne-eqb, le-leb, leb-true}
+use Rattle.theory.specs.Formula.{Formula, bottom, top, prop, negated, var, or, and, AX, EX, mu, nu, closed, overProps, nestedBinders}
+use Rattle.theory.specs.Test.{and-l, and-r}
+use Rattle.formula.specs.Bytes.{bytesOf, Parsed, parsed, unparsed, numbered, unary, binary, byCode, parse, allowed, whole, FormulaReading, read, refused, formulaReading}
+
+-- ---- the bytes of a formula are read as it
+
+-- the code first, with less depth for what follows
+pub parse-code : (d c : ℕ) (b : List ℕ) → 0 < d → parse d (c ∷ b) ≡ byCode (parse (d - 1)) c b
+unfolding parse
+parse-code zero c b l = absurd (omega arith)
+parse-code (suc d) c b l = simp sub-one
+
+pub parse-nil : (d : ℕ) → parse d [] ≡ unparsed
+unfolding parse
+parse-nil zero = refl
+parse-nil (suc d) = refl
+
+-- a depth of as many formulas as there are bytes is enough
+pub parse-bytes : (φ : Formula) (d : ℕ) (rest : List ℕ) → length (bytesOf φ) ≤ d → parse d (bytesOf φ ++ rest) ≡ parsed φ rest
+unfolding bytesOf byCode
+parse-bytes bottom d rest l = parse-code d 0 _ (omega arith)
+parse-bytes top d rest l = parse-code d 1 _ (omega arith)
+parse-bytes (prop p) d rest l = parse-code d 2 _ (omega arith)
+parse-bytes (negated p) d rest l = parse-code d 3 _ (omega arith)
+parse-bytes (var v) d rest l = parse-code d 4 _ (omega arith)
+parse-bytes (or f g) d rest l =
+    let h = simp length-append at l in
+    parse-code d 5 _ (omega arith)
+    ∙ simp (append-assoc (bytesOf f) (bytesOf g) rest, parse-bytes f (d - 1) (bytesOf g ++ rest) (omega arith), parse-bytes g (d - 1) rest (omega arith))
+parse-bytes (and f g) d rest l =
+    let h = simp length-append at l in
+    parse-code d 6 _ (omega arith)
+    ∙ simp (append-assoc (bytesOf f) (bytesOf g) rest, parse-bytes f (d - 1) (bytesOf g ++ rest) (omega arith), parse-bytes g (d - 1) rest (omega arith))
+parse-bytes (AX f) d rest l = parse-code d 7 _ (omega arith) ∙ simp (parse-bytes f (d - 1) rest (omega arith))
+parse-bytes (EX f) d rest l = parse-code d 8 _ (omega arith) ∙ simp (parse-bytes f (d - 1) rest (omega arith))
+parse-bytes (mu f) d rest l = parse-code d 9 _ (omega arith) ∙ simp (parse-bytes f (d - 1) rest (omega arith))
+parse-bytes (nu f) d rest l = parse-code d 10 _ (omega arith) ∙ simp (parse-bytes f (d - 1) rest (omega arith))
+
+-- ---- what is read as a formula is its bytes
+
+-- 'Any code from 11 to 255 is refused'
+pub code-refused : (more : List ℕ → Parsed) (c : ℕ) (b : List ℕ) → 11 ≤ c → byCode more c b ≡ unparsed
+unfolding byCode
+code-refused more c b l =
+    simp (
+      ne-eqb c 0 (λ e. omega arith),
+      ne-eqb c 1 (λ e. omega arith),
+      ne-eqb c 2 (λ e. omega arith),
+      ne-eqb c 3 (λ e. omega arith),
+      ne-eqb c 4 (λ e. omega arith),
+      ne-eqb c 5 (λ e. omega arith),
+      ne-eqb c 6 (λ e. omega arith),
+      ne-eqb c 7 (λ e. omega arith),
+      ne-eqb c 8 (λ e. omega arith),
+      ne-eqb c 9 (λ e. omega arith),
+      ne-eqb c 10 (λ e. omega arith),
+    )
+
+-- a reading that is another one's has its bytes
+same-bytes : (b : List ℕ) (f φ : Formula) (t rest : List ℕ) → parsed f t ≡ parsed φ rest → b ≡ bytesOf f ++ t → b ≡ bytesOf φ ++ rest
+same-bytes b f φ t rest e h = cc
+
+-- `front` is what stands before the one part of a formula that f makes
+unary-bytes : (f : Formula → Formula) (front : List ℕ) → ((a : Formula) → bytesOf (f a) ≡ front ++ bytesOf a)
+    → (b : List ℕ) (p : Parsed) → ((a : Formula) (t : List ℕ) → p ≡ parsed a t → b ≡ bytesOf a ++ t)
+    → (φ : Formula) (rest : List ℕ) → unary f p ≡ parsed φ rest → front ++ b ≡ bytesOf φ ++ rest
+unary-bytes f front w b unparsed h φ rest e = let z : _≡_ {A = ℕ} 0 1 = cc in absurd (omega arith)
+unary-bytes f front w b (parsed a t) h φ rest e = same-bytes _ (f a) φ t rest e (simp (w a, append-assoc, h a t refl))
+
+binary-bytes : (f : Formula → Formula → Formula) (c : ℕ) → ((a g : Formula) → bytesOf (f a g) ≡ (c ∷ bytesOf a) ++ bytesOf g)
+    → (more : List ℕ → Parsed) → ((b : List ℕ) (a : Formula) (t : List ℕ) → more b ≡ parsed a t → b ≡ bytesOf a ++ t)
+    → (b : List ℕ) (p : Parsed) → more b ≡ p → (φ : Formula) (rest : List ℕ) → binary f more p ≡ parsed φ rest → c ∷ b ≡ bytesOf φ ++ rest
+binary-bytes f c w more h b unparsed q φ rest e = let z : _≡_ {A = ℕ} 0 1 = cc in absurd (omega arith)
+binary-bytes f c w more h b (parsed a t) q φ rest e =
+    ap (λ (x : List ℕ). c ∷ x) (h b a t q) ∙ unary-bytes (f a) (c ∷ bytesOf a) (w a) t (more t) (h t) φ rest e
+
+numbered-bytes : (f : ℕ → Formula) (c : ℕ) → ((p : ℕ) → bytesOf (f p) ≡ c ∷ p ∷ []) → (b : List ℕ) (φ : Formula) (rest : List ℕ)
+    → numbered f b ≡ parsed φ rest → c ∷ b ≡ bytesOf φ ++ rest
+numbered-bytes f c w [] φ rest e = let z : _≡_ {A = ℕ} 0 1 = cc in absurd (omega arith)
+numbered-bytes f c w (p ∷ b) φ rest e = same-bytes _ (f p) φ b rest e (simp (w p))
+
+-- by the code, where `more` is right for what stands inside
+code-bytes : (more : List ℕ → Parsed) → ((b : List ℕ) (a : Formula) (t : List ℕ) → more b ≡ parsed a t → b ≡ bytesOf a ++ t)
+    → (c : ℕ) (b : List ℕ) (φ : Formula) (rest : List ℕ) → byCode more c b ≡ parsed φ rest → c ∷ b ≡ bytesOf φ ++ rest
+unfolding bytesOf byCode
+code-bytes more h zero b φ rest e = same-bytes _ bottom φ b rest e refl
+code-bytes more h (suc zero) b φ rest e = same-bytes _ top φ b rest e refl
+code-bytes more h (suc (suc zero)) b φ rest e = numbered-bytes prop 2 (λ p. refl) b φ rest e
+code-bytes more h (suc (suc (suc zero))) b φ rest e = numbered-bytes negated 3 (λ p. refl) b φ rest e
+code-bytes more h (suc (suc (suc (suc zero)))) b φ rest e = numbered-bytes var 4 (λ p. refl) b φ rest e
+code-bytes more h (suc (suc (suc (suc (suc zero))))) b φ rest e = binary-bytes or 5 (λ a g. refl) more h b (more b) refl φ rest e
+code-bytes more h (suc (suc (suc (suc (suc (suc zero)))))) b φ rest e = binary-bytes and 6 (λ a g. refl) more h b (more b) refl φ rest e
+code-bytes more h (suc (suc (suc (suc (suc (suc (suc zero))))))) b φ rest e = unary-bytes AX (7 ∷ []) (λ a. refl) b (more b) (h b) φ rest e
+code-bytes more h (suc (suc (suc (suc (suc (suc (suc (suc zero)))))))) b φ rest e = unary-bytes EX (8 ∷ []) (λ a. refl) b (more b) (h b) φ rest e
+code-bytes more h (suc (suc (suc (suc (suc (suc (suc (suc (suc zero))))))))) b φ rest e = unary-bytes mu (9 ∷ []) (λ a. refl) b (more b) (h b) φ rest e
+code-bytes more h (suc (suc (suc (suc (suc (suc (suc (suc (suc (suc zero)))))))))) b φ rest e = unary-bytes nu (10 ∷ []) (λ a. refl) b (more b) (h b) φ rest e
+code-bytes more h (suc (suc (suc (suc (suc (suc (suc (suc (suc (suc (suc n))))))))))) b φ rest e =
+    let u = code-refused more (suc (suc (suc (suc (suc (suc (suc (suc (suc (suc (suc n))))))))))) b (omega arith) in
+    let z : _≡_ {A = ℕ} 0 1 = cc in
+    absurd (omega arith)
+
+pub bytes-parse : (d : ℕ) (b : List ℕ) (φ : Formula) (rest : List ℕ) → parse d b ≡ parsed φ rest → b ≡ bytesOf φ ++ rest
+unfolding parse
+bytes-parse zero b φ rest e = let z : _≡_ {A = ℕ} 0 1 = cc in absurd (omega arith)
+bytes-parse (suc d) [] φ rest e = let z : _≡_ {A = ℕ} 0 1 = cc in absurd (omega arith)
+bytes-parse (suc d) (c ∷ b) φ rest e = code-bytes (parse d) (bytes-parse d) c b φ rest e
+
+-- two formulas with the same bytes are the same
+pub bytes-injective : (φ ψ : Formula) → bytesOf φ ≡ bytesOf ψ → φ ≡ ψ
+bytes-injective φ ψ e =
+    let n = length (bytesOf φ) + length (bytesOf ψ) in
+    let p = parse-bytes φ n [] (omega arith) in
+    let q = parse-bytes ψ n [] (omega arith) in
+    let same : parsed φ [] ≡ parsed ψ [] = cc in
+    cc
+
+-- a formula has at least its code
+pub bytes-length : (φ : Formula) → 1 ≤ length (bytesOf φ)
+unfolding bytesOf
+bytes-length bottom = omega arith
+bytes-length top = omega arith
+bytes-length (prop p) = omega arith
+bytes-length (negated p) = omega arith
+bytes-length (var v) = omega arith
+bytes-length (or f g) = omega arith
+bytes-length (and f g) = omega arith
+bytes-length (AX f) = omega arith
+bytes-length (EX f) = omega arith
+bytes-length (mu f) = omega arith
+bytes-length (nu f) = omega arith
+
+-- ---- a formula part that is accepted
+
+cond-read : (t : Bool) (x : FormulaReading) (φ : Formula) → cond t x refused ≡ read φ → (t ≡ true) × (x ≡ read φ)
+cond-read true x φ e = (refl, e)
+cond-read false x φ e = let z : _≡_ {A = ℕ} 0 1 = cc in absurd (omega arith)
+
+whole-read : (k : ℕ) (p : Parsed) (φ : Formula) → whole k p ≡ read φ → (p ≡ parsed φ []) × (allowed k φ ≡ true)
+whole-read k unparsed φ e = let z : _≡_ {A = ℕ} 0 1 = cc in absurd (omega arith)
+whole-read k (parsed f []) φ e =
+    let h = cond-read (allowed k f) (read f) φ e in
+    let q : f ≡ φ = cc in
+    (ap (λ (g : Formula). parsed g []) q, ap (allowed k) (sym q) ∙ h .0)
+whole-read k (parsed f (c ∷ b)) φ e = let z : _≡_ {A = ℕ} 0 1 = cc in absurd (omega arith)
+
+-- 'A formula part has 1 to 255 bytes in prefix form and is used up exactly': a part is read as φ exactly when it is the bytes of φ, they
+-- are at most 255, and φ is allowed
+pub reading-exact : (k : ℕ) (b : List ℕ) (φ : Formula) → (formulaReading k b ≡ read φ) ↔ ((b ≡ bytesOf φ) × (length b ≤ 255) × (allowed k φ ≡ true))
+unfolding formulaReading
+reading-exact k b φ = (there, back)
+  where
+    there : formulaReading k b ≡ read φ → (b ≡ bytesOf φ) × (length b ≤ 255) × (allowed k φ ≡ true)
+    there e =
+        let h = cond-read (leb (length b) 255) (whole k (parse (length b) b)) φ e in
+        let w = whole-read k (parse (length b) b) φ (h .1) in
+        (bytes-parse (length b) b φ [] (w .0) ∙ append-nil (bytesOf φ), leb-true _ _ (h .0), w .1)
+
+    back : (b ≡ bytesOf φ) × (length b ≤ 255) × (allowed k φ ≡ true) → formulaReading k b ≡ read φ
+    back h =
+        let p : parse (length b) b ≡ parsed φ [] = ap (λ (x : List ℕ). parse (length b) x) (h .0 ∙ sym (append-nil (bytesOf φ))) ∙ parse-bytes φ (length b) [] (omega (arith, ap length (h .0))) in
+        simp (le-leb (length b) 255 (h .1), p, h .2)
+
+-- what is known of a part that is read as φ
+pub record FormulaPart (k : ℕ) (b : List ℕ) (φ : Formula) : Type 0 where
+  pub bytes : b ≡ bytesOf φ
+  pub least : 1 ≤ length b
+  pub most : length b ≤ 255
+  pub bound : closed φ ≡ true
+  pub props : overProps k φ ≡ true
+  pub binders : nestedBinders φ ≤ 3
+
+pub formula-part : (k : ℕ) (b : List ℕ) (φ : Formula) → formulaReading k b ≡ read φ → FormulaPart k b φ
+formula-part k b φ e =
+    let h = reading-exact k b φ .0 e in
+    let both = and-l (closed φ && overProps k φ) (leb (nestedBinders φ) 3) (h .2) in
+    record {
+      bytes = h .0;
+      least = omega (arith, bytes-length φ, ap length (h .0));
+      most = h .1;
+      bound = and-l (closed φ) (overProps k φ) both;
+      props = and-r (closed φ) (overProps k φ) both;
+      binders = leb-true _ _ (and-r (closed φ && overProps k φ) (leb (nestedBinders φ) 3) (h .2));
+    }
