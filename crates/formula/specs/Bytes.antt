@@ -1,7 +1,7 @@
 -- Formulas as bytes in prefix form: the bytes of a formula, the parse, and when a formula part is refused.
 -- Rests on theory's Formula.
 use Prim.Native.Nat.{ℕ, zero, suc}
-use mathlib.Core.Bool.{Bool, true, false, cond, _&&_}
+use mathlib.Core.Bool.{Bool, cond, _&&_}
 use mathlib.Core.List.{List, [], _∷_, _++_}
 use lib.Dec.{eqb, leb}
 use lib.ListN.{length}

@@ -1,3 +1,4 @@
 -- Definitions of `formula`.
 pub mod Bytes
 pub mod RoundTrip
+pub mod Check

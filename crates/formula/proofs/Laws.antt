@@ -1,0 +1,311 @@
+-- Where a formula ends, from where its parts end: a law for each arm of `node`, and one for the whole part.
+-- Rests on RoundTrip and Check.
+use Prim.Native.Nat.{ℕ, suc, max, _+_, _-_, _≤_, _<_}
+use mathlib.Core.Path.{_≡_, refl, sym, ap, _∙_}
+use mathlib.Core.Bool.{Bool, true, false, cond, _&&_, and-true}
+use mathlib.Core.Logic.{_⊎_, inl, inr, ⊎-elim}
+use mathlib.Core.List.{List, [], _∷_, _++_}
+use native.Mathlib.Nat.{eq-or-lt-of-le, zero-add}
+use native.Mathlib.Numerals.{add-one}
+use native.Mathlib.Omega.{arith}
+use lib.Dec.{ltb, leb}
+use lib.ListN.{length, getD, drop, length-append, length-drop, drop-of-length-le}
+use lib.Seq.{drop-cons, drop-drop, drop-at}
+use borrow.Author.Tests.{lt-ltb, le-ltb, le-leb, lt-leb, leb-true, ltb-true, ltb-false}
+use Rattle.theory.specs.Formula.{Formula, bottom, top, prop, negated, var, or, and, AX, EX, mu, nu, boundBy, overProps, nestedBinders}
+use Rattle.theory.specs.Test.{and-l, and-r, and-in, and-false, bool-same}
+use Rattle.formula.specs.Bytes.{bytesOf, Parsed, parsed, unparsed, numbered, unary, binary, byCode, parse, allowed, whole, formulaReading}
+use Rattle.formula.specs.RoundTrip.{parse-code, parse-nil, code-refused, bytes-parse, bytes-length}
+use Rattle.formula.specs.Check.{checked, allowedUnder, endOf, NodeIs, numberBelow}
+use Rattle.formula.specs.declared.FormulaCheck.the-variants.{Accepted, Refused}
+use Rattle.formula.specs.declared.NodeEnd.{NodeEnd}
+use Rattle.formula.specs.declared.NodeEnd.the-variants.{At, Broken}
+
+-- ---- the rules under binders, by the formula's shape
+
+shuffled : (a b c d e f : Bool) → (a && b && (c && d) && (e && f)) ≡ (a && c && e && (b && d && f))
+shuffled true b true d true f = refl
+shuffled true b true d false f = and-false (b && d)
+shuffled true true false d e f = refl
+shuffled true false false d e f = refl
+shuffled false b c d e f = refl
+
+-- the deeper of two parts decides
+deepest : (d x y : ℕ) → leb (d + max x y) 3 ≡ (leb (d + x) 3 && leb (d + y) 3)
+deepest d x y =
+    bool-same _ (leb (d + x) 3 && leb (d + y) 3)
+    (λ e. let h = leb-true (d + max x y) 3 e in and-in (leb (d + x) 3) (leb (d + y) 3) (le-leb (d + x) 3 (omega arith)) (le-leb (d + y) 3 (omega arith)))
+    (λ e. let h = leb-true (d + x) 3 (and-l _ (leb (d + y) 3) e) in let g = leb-true (d + y) 3 (and-r (leb (d + x) 3) _ e) in le-leb (d + max x y) 3 (omega arith))
+
+one-more : (d n : ℕ) → d + suc n ≡ d + 1 + n
+one-more d n = omega arith
+
+-- the rules for a formula of two parts are those for both
+joined : (k d : ℕ) (f g : Formula) → (boundBy d f && boundBy d g && (overProps k f && overProps k g) && leb (d + max (nestedBinders f) (nestedBinders g)) 3) ≡ (allowedUnder k d f && allowedUnder k d g)
+unfolding allowedUnder
+joined k d f g =
+    rw (deepest d (nestedBinders f) (nestedBinders g))
+    (shuffled (boundBy d f) (boundBy d g) (overProps k f) (overProps k g) (leb (d + nestedBinders f) 3) (leb (d + nestedBinders g) 3))
+
+module _ (k d : ℕ) where
+  under-or : (f g : Formula) → allowedUnder k d (or f g) ≡ (allowedUnder k d f && allowedUnder k d g)
+  unfolding allowedUnder boundBy overProps nestedBinders
+  under-or f g = joined k d f g
+
+  under-and : (f g : Formula) → allowedUnder k d (and f g) ≡ (allowedUnder k d f && allowedUnder k d g)
+  unfolding allowedUnder boundBy overProps nestedBinders
+  under-and f g = joined k d f g
+
+  under-bottom : d ≤ 3 → allowedUnder k d bottom ≡ true
+  unfolding allowedUnder boundBy overProps nestedBinders
+  under-bottom l = le-leb (d + 0) 3 (omega arith)
+
+  under-top : d ≤ 3 → allowedUnder k d top ≡ true
+  unfolding allowedUnder boundBy overProps nestedBinders
+  under-top l = le-leb (d + 0) 3 (omega arith)
+
+  under-prop : d ≤ 3 → (p : ℕ) → allowedUnder k d (prop p) ≡ ltb p k
+  unfolding allowedUnder boundBy overProps nestedBinders
+  under-prop l p = rw (le-leb (d + 0) 3 (omega arith)) (and-true (ltb p k))
+
+  under-negated : d ≤ 3 → (p : ℕ) → allowedUnder k d (negated p) ≡ ltb p k
+  unfolding allowedUnder boundBy overProps nestedBinders
+  under-negated l p = rw (le-leb (d + 0) 3 (omega arith)) (and-true (ltb p k))
+
+  under-var : d ≤ 3 → (v : ℕ) → allowedUnder k d (var v) ≡ ltb v d
+  unfolding allowedUnder boundBy overProps nestedBinders
+  under-var l v = rw (le-leb (d + 0) 3 (omega arith)) (and-true (ltb v d && true) ∙ and-true (ltb v d))
+
+  under-AX : (f : Formula) → allowedUnder k d (AX f) ≡ allowedUnder k d f
+  unfolding allowedUnder boundBy overProps nestedBinders
+  under-AX f = refl
+
+  under-EX : (f : Formula) → allowedUnder k d (EX f) ≡ allowedUnder k d f
+  unfolding allowedUnder boundBy overProps nestedBinders
+  under-EX f = refl
+
+  under-mu : (f : Formula) → allowedUnder k d (mu f) ≡ allowedUnder k (d + 1) f
+  unfolding allowedUnder boundBy overProps nestedBinders
+  under-mu f = rw (one-more d (nestedBinders f), add-one)
+
+  under-nu : (f : Formula) → allowedUnder k d (nu f) ≡ allowedUnder k (d + 1) f
+  unfolding allowedUnder boundBy overProps nestedBinders
+  under-nu f = rw (one-more d (nestedBinders f), add-one)
+
+  -- nothing is allowed under four binders
+  under-four : 4 ≤ d → (f : Formula) → allowedUnder k d f ≡ false
+  unfolding allowedUnder
+  under-four l f = rw (lt-leb (d + nestedBinders f) 3 (omega arith)) (and-false (boundBy d f && overProps k f))
+
+  -- ---- the end of a formula, from the ends of its parts
+
+  -- a formula of one part ends where its part does
+  unary-end : (g : Formula → Formula) (d' n : ℕ) → ((a : Formula) → allowedUnder k d (g a) ≡ allowedUnder k d' a) → (p : Parsed) → endOf k d n (unary g p) ≡ endOf k d' n p
+  unary-end g d' n w unparsed = refl
+  unary-end g d' n w (parsed a t) = rw (w a)
+
+  unary-broken : (g : Formula → Formula) (n : ℕ) → ((a : Formula) → allowedUnder k d (g a) ≡ false) → (p : Parsed) → Broken ≡ endOf k d n (unary g p)
+  unary-broken g n w unparsed = refl
+  unary-broken g n w (parsed a t) = rw (w a)
+
+-- an answer that is given under a test
+cond-at : (t : Bool) (i j : ℕ) → At i ≡ cond t (At j) Broken → (t ≡ true) × (i ≡ j)
+cond-at true i j e = (refl, (cc))
+cond-at false i j e = let z : _≡_ {A = ℕ} 0 1 = cc in absurd (omega arith)
+
+cond-broken : (t : Bool) (j : ℕ) → Broken ≡ cond t (At j) Broken → t ≡ false
+cond-broken true j e = let z : _≡_ {A = ℕ} 0 1 = cc in absurd (omega arith)
+cond-broken false j e = refl
+
+never-at : (i : ℕ) → At i ≡ Broken → ⊥
+never-at i e = let z : _≡_ {A = ℕ} 0 1 = cc in omega arith
+
+-- what comes after a front at j stands as far from the end as it is long
+rest-at : (b : List ℕ) (j : ℕ) (front t : List ℕ) → j ≤ length b → drop j b ≡ front ++ t → drop (length b - length t) b ≡ t
+rest-at b j front t l e =
+    let h = length-drop j b in
+    let g = length-append front t in
+    let s : length b - length t ≡ j + length front = omega (arith, ap length e) in
+    rw s (sym (drop-drop (length front) j b) ∙ rw e (drop-at front t (length front) refl))
+
+length-before : (b : List ℕ) (j : ℕ) → j ≤ length b → length b - length (drop j b) ≡ j
+length-before b j l = omega (arith, length-drop j b)
+
+module _ (b : List ℕ) (k d n j : ℕ) (l : j ≤ length b) (g : Formula → Formula → Formula) (w : (a c : Formula) → allowedUnder k d (g a c) ≡ (allowedUnder k d a && allowedUnder k d c)) where
+  -- a formula of two parts ends where its second part does, which begins where the first ends
+  binary-end : (i : ℕ) (r : NodeEnd) (p : Parsed) → parse n (drop j b) ≡ p → At i ≡ endOf k d (length b) p → r ≡ endOf k d (length b) (parse n (drop i b))
+      → r ≡ endOf k d (length b) (binary g (parse n) p)
+  binary-end i r unparsed q e h = absurd (never-at i e)
+  binary-end i r (parsed a t) q e h =
+      let s = cond-at (allowedUnder k d a) i (length b - length t) e in
+      let u : drop i b ≡ t = rw (s .1) (rest-at b j (bytesOf a) t l (bytes-parse n (drop j b) a t q)) in
+      h ∙ rw u (sym (unary-end k d (g a) d (length b) (λ c. w a c ∙ rw (s .0)) (parse n t)))
+
+  binary-broken : (p : Parsed) → Broken ≡ endOf k d (length b) p → Broken ≡ endOf k d (length b) (binary g (parse n) p)
+  binary-broken unparsed e = refl
+  binary-broken (parsed a t) e = unary-broken k d (g a) (length b) (λ c. w a c ∙ rw (cond-broken (allowedUnder k d a) (length b - length t) e)) (parse n t)
+
+lt-or-le : (i n : ℕ) → (i < n) ⊎ (n ≤ i)
+lt-or-le i n = go (ltb i n) refl
+  where
+    go : (t : Bool) → ltb i n ≡ t → (i < n) ⊎ (n ≤ i)
+    go true e = inl (ltb-true i n e)
+    go false e = inr (ltb-false i n e)
+
+-- a paired code is one of the two
+pair : (c x : ℕ) → c ≤ x → x ≤ suc c → (x ≡ c) ⊎ (x ≡ suc c)
+pair c x l m = ⊎-elim (λ e. inr e) (λ h. inl (omega arith)) (eq-or-lt-of-le m)
+
+-- a formula that is one number ends after it
+numbered-end : (b : List ℕ) (k d j bound : ℕ) (g : ℕ → Formula) → ((p : ℕ) → allowedUnder k d (g p) ≡ ltb p bound) → numberBelow b j bound ≡ endOf k d (length b) (numbered g (drop j b))
+unfolding numberBelow
+numbered-end b k d j bound g w = ⊎-elim inside outside (lt-or-le j (length b))
+  where
+    inside : j < length b → cond (ltb j (length b)) (cond (ltb (getD b j 0) bound) (At (j + 1)) Broken) Broken ≡ endOf k d (length b) (numbered g (drop j b))
+    inside l = rw (lt-ltb j (length b) l, drop-cons b j 0 l, w (getD b j 0), length-before b (suc j) l, add-one)
+
+    outside : length b ≤ j → cond (ltb j (length b)) (cond (ltb (getD b j 0) bound) (At (j + 1)) Broken) Broken ≡ endOf k d (length b) (numbered g (drop j b))
+    outside l = rw (le-ltb j (length b) l, drop-of-length-le b l)
+
+-- ---- the arms of `node`
+
+-- by the code at the position
+coded : (b : List ℕ) (at n c : ℕ) → at < length b → getD b at 0 ≡ c → length b ≤ n + at → parse n (drop at b) ≡ byCode (parse (n - 1)) c (drop (at + 1) b)
+coded b at n c l q h = rw (drop-cons b at 0 l, q, add-one) (parse-code n c (drop (suc at) b) (omega arith))
+
+-- what comes after the code
+abbrev after : List ℕ → ℕ → List ℕ
+after b at = drop (at + 1) b
+
+-- the answer that a match found
+pub told : {b : List ℕ} {at k d : ℕ} {r s : NodeEnd} → NodeIs b at k d r → r ≡ s → NodeIs b at k d s
+told h e = rw e at h
+
+-- the answer is further on than the position, and within the part
+pub forward : {b : List ℕ} {at k d : ℕ} (i : ℕ) → NodeIs b at k d (At i) → (at < i) × (i ≤ length b)
+forward {b} {at} {k} {d} i e = go (parse (length b) (drop at b)) refl (e .is (length b) (omega arith))
+  where
+    go : (p : Parsed) → parse (length b) (drop at b) ≡ p → At i ≡ endOf k d (length b) p → (at < i) × (i ≤ length b)
+    go unparsed q h = absurd (never-at i h)
+    go (parsed a t) q h =
+        let s = cond-at (allowedUnder k d a) i (length b - length t) h in
+        let u = ap length (bytes-parse (length b) (drop at b) a t q) in
+        omega (arith, u, length-drop at b, length-append (bytesOf a) t, bytes-length a)
+
+module _ {b : List ℕ} {at k d : ℕ} where
+  -- past the end there is no formula
+  pub ended : length b ≤ at → NodeIs b at k d Broken
+  ended l = record { is = λ n h. rw (drop-of-length-le b l, parse-nil n) }
+
+  module _ (l : at < length b) where
+    arm : (c : ℕ) {r : NodeEnd} → ((n : ℕ) → length b ≤ n + (at + 1) → r ≡ endOf k d (length b) (byCode (parse n) c (after b at))) → getD b at 0 ≡ c → NodeIs b at k d r
+    arm c f q = record { is = λ n h. rw (coded b at n c l q h) (f (n - 1) (omega arith)) }
+
+    -- each kind of code, where c is the code and g makes the formula
+    number-arm : (c bound : ℕ) (g : ℕ → Formula) {r : NodeEnd} → ((n : ℕ) → byCode (parse n) c (after b at) ≡ numbered g (after b at)) → ((p : ℕ) → allowedUnder k d (g p) ≡ ltb p bound)
+        → r ≡ numberBelow b (at + 1) bound → getD b at 0 ≡ c → NodeIs b at k d r
+    number-arm c bound g u w e = arm c (λ n h. e ∙ rw (u n) (numbered-end b k d (at + 1) bound g w))
+
+    unary-arm : (c d' : ℕ) (g : Formula → Formula) {r : NodeEnd} → ((n : ℕ) → byCode (parse n) c (after b at) ≡ unary g (parse n (after b at)))
+        → ((f : Formula) → allowedUnder k d (g f) ≡ allowedUnder k d' f) → NodeIs b (at + 1) k d' r → getD b at 0 ≡ c → NodeIs b at k d r
+    unary-arm c d' g u w e = arm c (λ n h. e .is n h ∙ rw (u n) (sym (unary-end k d g d' (length b) w (parse n (after b at)))))
+
+    binary-arm : (c i : ℕ) (g : Formula → Formula → Formula) {r : NodeEnd} → ((n : ℕ) → byCode (parse n) c (after b at) ≡ binary g (parse n) (parse n (after b at)))
+        → ((f h : Formula) → allowedUnder k d (g f h) ≡ (allowedUnder k d f && allowedUnder k d h))
+        → NodeIs b (at + 1) k d (At i) → NodeIs b i k d r → getD b at 0 ≡ c → NodeIs b at k d r
+    binary-arm c i g {r} u w e f =
+        arm c (λ n h. rw (u n) (binary-end b k d n (at + 1) (omega arith) g w i r (parse n (after b at)) refl (e .is n h) (f .is n (omega (arith, forward i e .0)))))
+
+    broken-arm : (c : ℕ) (g : Formula → Formula → Formula) → ((n : ℕ) → byCode (parse n) c (after b at) ≡ binary g (parse n) (parse n (after b at)))
+        → ((f h : Formula) → allowedUnder k d (g f h) ≡ (allowedUnder k d f && allowedUnder k d h))
+        → NodeIs b (at + 1) k d Broken → getD b at 0 ≡ c → NodeIs b at k d Broken
+    broken-arm c g u w e = arm c (λ n h. rw (u n) (binary-broken b k d n (at + 1) (omega arith) g w (parse n (after b at)) (e .is n h)))
+
+    -- the codes
+    pub at-bottom : d ≤ 3 → getD b at 0 ≡ 0 → NodeIs b at k d (At (at + 1))
+    unfolding byCode
+    at-bottom s = arm 0 (λ n h. rw (under-bottom k d s, length-before b (at + 1) (omega arith)))
+
+    pub at-top : d ≤ 3 → getD b at 0 ≡ 1 → NodeIs b at k d (At (at + 1))
+    unfolding byCode
+    at-top s = arm 1 (λ n h. rw (under-top k d s, length-before b (at + 1) (omega arith)))
+
+    pub at-proposition : {r : NodeEnd} → d ≤ 3 → 2 ≤ getD b at 0 → getD b at 0 ≤ 3 → r ≡ numberBelow b (at + 1) k → NodeIs b at k d r
+    unfolding byCode
+    at-proposition s x y e =
+        ⊎-elim (number-arm 2 k prop (λ n. refl) (under-prop k d s) e) (number-arm 3 k negated (λ n. refl) (under-negated k d s) e) (pair 2 (getD b at 0) x y)
+
+    pub at-variable : {r : NodeEnd} → d ≤ 3 → r ≡ numberBelow b (at + 1) d → getD b at 0 ≡ 4 → NodeIs b at k d r
+    unfolding byCode
+    at-variable s e = number-arm 4 d var (λ n. refl) (under-var k d s) e
+
+    pub at-two : {r : NodeEnd} (i : ℕ) → 5 ≤ getD b at 0 → getD b at 0 ≤ 6 → NodeIs b (at + 1) k d (At i) → NodeIs b i k d r → NodeIs b at k d r
+    unfolding byCode
+    at-two i x y e f =
+        ⊎-elim (binary-arm 5 i or (λ n. refl) (under-or k d) e f) (binary-arm 6 i and (λ n. refl) (under-and k d) e f) (pair 5 (getD b at 0) x y)
+
+    pub at-two-broken : 5 ≤ getD b at 0 → getD b at 0 ≤ 6 → NodeIs b (at + 1) k d Broken → NodeIs b at k d Broken
+    unfolding byCode
+    at-two-broken x y e =
+        ⊎-elim (broken-arm 5 or (λ n. refl) (under-or k d) e) (broken-arm 6 and (λ n. refl) (under-and k d) e) (pair 5 (getD b at 0) x y)
+
+    pub at-next : {r : NodeEnd} → 7 ≤ getD b at 0 → getD b at 0 ≤ 8 → NodeIs b (at + 1) k d r → NodeIs b at k d r
+    unfolding byCode
+    at-next x y e = ⊎-elim (unary-arm 7 d AX (λ n. refl) (under-AX k d) e) (unary-arm 8 d EX (λ n. refl) (under-EX k d) e) (pair 7 (getD b at 0) x y)
+
+    pub at-binder : {r : NodeEnd} → 9 ≤ getD b at 0 → getD b at 0 ≤ 10 → NodeIs b (at + 1) k (d + 1) r → NodeIs b at k d r
+    unfolding byCode
+    at-binder x y e =
+        ⊎-elim (unary-arm 9 (d + 1) mu (λ n. refl) (under-mu k d) e) (unary-arm 10 (d + 1) nu (λ n. refl) (under-nu k d) e) (pair 9 (getD b at 0) x y)
+
+    -- a binder under three
+    pub at-fourth : 9 ≤ getD b at 0 → getD b at 0 ≤ 10 → 3 ≤ d → NodeIs b at k d Broken
+    at-fourth x y s = at-binder x y (record { is = λ n h. no-end (parse n (after b at)) })
+      where
+        no-end : (p : Parsed) → Broken ≡ endOf k (d + 1) (length b) p
+        no-end unparsed = refl
+        no-end (parsed f t) = rw (under-four k (d + 1) (omega arith) f)
+
+    -- a code that stands for no formula
+    pub at-other : 11 ≤ getD b at 0 → NodeIs b at k d Broken
+    at-other q = arm (getD b at 0) (λ n h. rw (code-refused (parse n) (getD b at 0) (after b at) q)) refl
+
+-- ---- the whole part
+
+allowed-zero : (k : ℕ) (f : Formula) → allowedUnder k 0 f ≡ allowed k f
+unfolding allowedUnder
+allowed-zero k f = rw (zero-add (nestedBinders f))
+
+module _ (b : List ℕ) (k : ℕ) (l : length b ≤ 255) where
+  reading : formulaReading k b ≡ whole k (parse (length b) b)
+  unfolding formulaReading
+  reading = rw (le-leb (length b) 255 l)
+
+  pub used-up : (e : ℕ) → NodeIs b 0 k 0 (At e) → e ≡ length b → Accepted ≡ checked (formulaReading k b)
+  used-up e h q = rw reading (go (parse (length b) b) refl (h .is (length b) (omega arith)))
+    where
+      go : (p : Parsed) → parse (length b) b ≡ p → At e ≡ endOf k 0 (length b) p → Accepted ≡ checked (whole k p)
+      go unparsed w s = absurd (never-at e s)
+      go (parsed a []) w s = rw (← allowed-zero k a, cond-at (allowedUnder k 0 a) e _ s .0)
+      go (parsed a (c ∷ t)) w s =
+          absurd (omega (arith, cond-at (allowedUnder k 0 a) e (length b - length (c ∷ t)) s .1, ap length (bytes-parse (length b) b a (c ∷ t) w), length-append (bytesOf a) (c ∷ t)))
+
+  pub left-over : (e : ℕ) → NodeIs b 0 k 0 (At e) → (e ≡ length b → ⊥) → Refused ≡ checked (formulaReading k b)
+  left-over e h q = rw reading (go (parse (length b) b) (h .is (length b) (omega arith)))
+    where
+      go : (p : Parsed) → At e ≡ endOf k 0 (length b) p → Refused ≡ checked (whole k p)
+      go unparsed s = refl
+      go (parsed a []) s = absurd (q (omega (arith, cond-at (allowedUnder k 0 a) e (length b - 0) s .1)))
+      go (parsed a (c ∷ t)) s = refl
+
+  pub broken : NodeIs b 0 k 0 Broken → Refused ≡ checked (formulaReading k b)
+  broken h = rw reading (go (parse (length b) b) (h .is (length b) (omega arith)))
+    where
+      go : (p : Parsed) → Broken ≡ endOf k 0 (length b) p → Refused ≡ checked (whole k p)
+      go unparsed s = refl
+      go (parsed a []) s = rw (← allowed-zero k a, cond-broken (allowedUnder k 0 a) (length b - 0) s)
+      go (parsed a (c ∷ t)) s = refl
+
+pub too-long : (b : List ℕ) (k : ℕ) → 255 < length b → Refused ≡ checked (formulaReading k b)
+unfolding formulaReading
+too-long b k l = rw (lt-leb (length b) 255 l)

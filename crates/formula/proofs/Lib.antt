@@ -1,0 +1,2 @@
+-- Laws of `formula`
+pub mod Laws

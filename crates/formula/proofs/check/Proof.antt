@@ -1,0 +1,31 @@
+-- `formula::check` meets its contract: each answer is a law of the whole part.
+use borrow.Author.Needs.{needs}
+use Rattle.formula.proofs.Laws.{told, used-up, left-over, broken, too-long}
+use Rattle.formula.proofs.check.Statement.{statement}
+use Rattle.formula.proofs.check.Tie as tie
+
+node-requires : tie.Need-node-requires
+node-requires c κs = search needs
+
+enum-known-whole : tie.Need-enum-known-whole
+enum-known-whole c = search needs
+
+enum-told : tie.Need-enum-told
+enum-told c = search needs
+
+returns : tie.Need-returns
+returns c = used-up _ _ (c .before .before .before .before .before .if1 .taken) _ (told (c .before .before .before .before .node .ensures) (c .before .before .whole .given .1)) (c .if2 .taken)
+
+returns-2 : tie.Need-returns-2
+returns-2 c = left-over _ _ (c .before .before .before .before .before .if1 .taken) _ (told (c .before .before .before .before .node .ensures) (c .before .before .whole .given .1)) (c .if2 .left)
+
+returns-3 : tie.Need-returns-3
+returns-3 c = broken _ _ (c .before .before .before .if1 .taken) (told (c .before .before .node .ensures) (c .enum-told .given .1))
+
+returns-4 : tie.Need-returns-4
+returns-4 c = too-long _ _ (c .if1 .left)
+
+pub check-spec : {M : Type 1} → statement M
+check-spec =
+    tie.close
+    (tie.spec node-requires enum-known-whole enum-told returns returns-2 returns-3 returns-4)
