@@ -23,6 +23,7 @@ use Rattle.formula.specs.declared.NodeEnd.the-variants.{At, Broken}
 
 -- ---- the rules under binders, by the formula's shape
 
+-- three rules for each of two parts, sorted by the part
 shuffled : (a b c d e f : Bool) → (a && b && (c && d) && (e && f)) ≡ (a && c && e && (b && d && f))
 shuffled true b true d true f = refl
 shuffled true b true d false f = and-false (b && d)
@@ -108,19 +109,19 @@ module _ (k d : ℕ) where
   unary-broken g n w unparsed = refl
   unary-broken g n w (parsed a t) = rw (w a)
 
--- an answer that is given under a test
-cond-at : (t : Bool) (i j : ℕ) → At i ≡ cond t (At j) Broken → (t ≡ true) × (i ≡ j)
-cond-at true i j e = (refl, (cc))
-cond-at false i j e = let z : _≡_ {A = ℕ} 0 1 = cc in absurd (omega arith)
-
-cond-broken : (t : Bool) (j : ℕ) → Broken ≡ cond t (At j) Broken → t ≡ false
-cond-broken true j e = let z : _≡_ {A = ℕ} 0 1 = cc in absurd (omega arith)
-cond-broken false j e = refl
-
 never-at : (i : ℕ) → At i ≡ Broken → ⊥
 never-at i e = let z : _≡_ {A = ℕ} 0 1 = cc in omega arith
 
--- what comes after a front at j stands as far from the end as it is long
+-- an answer that is given under a test
+cond-at : (t : Bool) (i j : ℕ) → At i ≡ cond t (At j) Broken → (t ≡ true) × (i ≡ j)
+cond-at true i j e = (refl, (cc))
+cond-at false i j e = absurd (never-at i e)
+
+cond-broken : (t : Bool) (j : ℕ) → Broken ≡ cond t (At j) Broken → t ≡ false
+cond-broken true j e = absurd (never-at j (sym e))
+cond-broken false j e = refl
+
+-- what comes after a front that begins at j is the end of b
 rest-at : (b : List ℕ) (j : ℕ) (front t : List ℕ) → j ≤ length b → drop j b ≡ front ++ t → drop (length b - length t) b ≡ t
 rest-at b j front t l e =
     let h = length-drop j b in
@@ -128,6 +129,7 @@ rest-at b j front t l e =
     let s : length b - length t ≡ j + length front = omega (arith, ap length e) in
     rw s (sym (drop-drop (length front) j b) ∙ rw e (drop-at front t (length front) refl))
 
+-- how many bytes stand before j
 length-before : (b : List ℕ) (j : ℕ) → j ≤ length b → length b - length (drop j b) ≡ j
 length-before b j l = omega (arith, length-drop j b)
 
@@ -159,13 +161,11 @@ pair c x l m = ⊎-elim (λ e. inr e) (λ h. inl (omega arith)) (eq-or-lt-of-le 
 -- a formula that is one number ends after it
 numbered-end : (b : List ℕ) (k d j bound : ℕ) (g : ℕ → Formula) → ((p : ℕ) → allowedUnder k d (g p) ≡ ltb p bound) → numberBelow b j bound ≡ endOf k d (length b) (numbered g (drop j b))
 unfolding numberBelow
-numbered-end b k d j bound g w = ⊎-elim inside outside (lt-or-le j (length b))
+numbered-end b k d j bound g w = go (lt-or-le j (length b))
   where
-    inside : j < length b → cond (ltb j (length b)) (cond (ltb (getD b j 0) bound) (At (j + 1)) Broken) Broken ≡ endOf k d (length b) (numbered g (drop j b))
-    inside l = rw (lt-ltb j (length b) l, drop-cons b j 0 l, w (getD b j 0), length-before b (suc j) l, add-one)
-
-    outside : length b ≤ j → cond (ltb j (length b)) (cond (ltb (getD b j 0) bound) (At (j + 1)) Broken) Broken ≡ endOf k d (length b) (numbered g (drop j b))
-    outside l = rw (le-ltb j (length b) l, drop-of-length-le b l)
+    go : (j < length b) ⊎ (length b ≤ j) → cond (ltb j (length b)) (cond (ltb (getD b j 0) bound) (At (j + 1)) Broken) Broken ≡ endOf k d (length b) (numbered g (drop j b))
+    go (inl l) = rw (lt-ltb j (length b) l, drop-cons b j 0 l, w (getD b j 0), length-before b (suc j) l, add-one)
+    go (inr l) = rw (le-ltb j (length b) l, drop-of-length-le b l)
 
 -- ---- the arms of `node`
 
@@ -281,6 +281,7 @@ module _ (b : List ℕ) (k : ℕ) (l : length b ≤ 255) where
   unfolding formulaReading
   reading = rw (le-leb (length b) 255 l)
 
+  -- a formula that keeps the rules and ends with the part; one that ends before it; none
   pub used-up : (e : ℕ) → NodeIs b 0 k 0 (At e) → e ≡ length b → Accepted ≡ checked (formulaReading k b)
   used-up e h q = rw reading (go (parse (length b) b) refl (h .is (length b) (omega arith)))
     where
@@ -306,6 +307,7 @@ module _ (b : List ℕ) (k : ℕ) (l : length b ≤ 255) where
       go (parsed a []) s = rw (← allowed-zero k a, cond-broken (allowedUnder k 0 a) (length b - 0) s)
       go (parsed a (c ∷ t)) s = refl
 
+-- a part over 255 bytes
 pub too-long : (b : List ℕ) (k : ℕ) → 255 < length b → Refused ≡ checked (formulaReading k b)
 unfolding formulaReading
 too-long b k l = rw (lt-leb (length b) 255 l)

@@ -1,8 +1,9 @@
 -- What the checker of formula parts answers, and what it answers at each position. Rests on Bytes.
 use Prim.Native.Nat.{ℕ, _+_, _-_, _≤_}
-use mathlib.Core.Path.{_≡_}
+use mathlib.Core.Path.{_≡_, refl}
 use mathlib.Core.Bool.{Bool, cond, _&&_}
 use mathlib.Core.List.{List}
+use native.Mathlib.Omega.{arith}
 use lib.Dec.{ltb, leb}
 use lib.ListN.{length, getD, drop}
 use Rattle.theory.specs.Formula.{Formula, boundBy, overProps, nestedBinders}
@@ -19,19 +20,30 @@ checked refused = Refused
 
 -- ---- at a position
 
--- the rules for a formula that stands under d binders: with d = 0 they are `allowed`
+-- the rules for a formula that stands under d binders; under none they are `allowed`
 unfoldable pub allowedUnder : ℕ → ℕ → Formula → Bool
 allowedUnder k d f = boundBy d f && overProps k f && leb (d + nestedBinders f) 3
 
--- where a formula of a part of n bytes ends
+-- where a formula ends, in a part of n bytes: before the bytes that are left
 abbrev pub endOf : ℕ → ℕ → ℕ → Parsed → NodeEnd
 endOf k d n unparsed = Broken
 endOf k d n (parsed f rest) = cond (allowedUnder k d f) (At (n - length rest)) Broken
 
--- what a call says of the formula at a position: at every depth of the parse that is enough, it is there and keeps the rules, and ends where the answer says
+-- what a call answers for the formula that begins at a position, with k propositions and under d binders; n is any depth of the parse that is
+-- enough
 pub record NodeIs (b : List ℕ) (at k d : ℕ) (r : NodeEnd) : Type 0 where
   pub is : (n : ℕ) → length b ≤ n + at → r ≡ endOf k d (length b) (parse n (drop at b))
 
--- the number at a position is below a bound, and what comes after it
+-- the end of a number at a position, which has to be below a bound
 unfoldable pub numberBelow : List ℕ → ℕ → ℕ → NodeEnd
 numberBelow b at bound = cond (ltb at (length b)) (cond (ltb (getD b at 0) bound) (At (at + 1)) Broken) Broken
+
+-- ---- what an answer says of the reading
+
+pub accepted-read : (x : FormulaReading) → Accepted ≡ checked x → (f : Formula) × (x ≡ read f)
+accepted-read (read f) e = (f, refl)
+accepted-read refused e = let z : _≡_ {A = ℕ} 0 1 = cc in absurd (omega arith)
+
+pub refused-read : (x : FormulaReading) → Refused ≡ checked x → x ≡ refused
+refused-read (read f) e = let z : _≡_ {A = ℕ} 0 1 = cc in absurd (omega arith)
+refused-read refused e = refl

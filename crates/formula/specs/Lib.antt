@@ -1,4 +1,7 @@
--- Definitions of `formula`.
+-- `formula`: the bytes of a formula and the reading of a formula part. Definitions first, then the theorems on them.
+-- ---- what a reader must believe
 pub mod Bytes
-pub mod RoundTrip
 pub mod Check
+-- ---- theorems
+pub mod RoundTrip
+pub mod Examples

@@ -14,6 +14,13 @@ use Rattle.theory.specs.Formula.{Formula, bottom, top, prop, negated, var, or, 
 use Rattle.theory.specs.Test.{and-l, and-r}
 use Rattle.formula.specs.Bytes.{bytesOf, Parsed, parsed, unparsed, numbered, unary, binary, byCode, parse, allowed, whole, FormulaReading, read, refused, formulaReading}
 
+-- a formula is found or not
+never-parsed : {φ : Formula} {rest : List ℕ} → unparsed ≡ parsed φ rest → ⊥
+never-parsed e = let z : _≡_ {A = ℕ} 0 1 = cc in omega arith
+
+never-read : {φ : Formula} → refused ≡ read φ → ⊥
+never-read e = let z : _≡_ {A = ℕ} 0 1 = cc in omega arith
+
 -- ---- the bytes of a formula are read as it
 
 -- the code first, with less depth for what follows
@@ -27,6 +34,10 @@ unfolding parse
 parse-nil zero = refl
 parse-nil (suc d) = refl
 
+two-parts : (g : Formula → Formula → Formula) (a c : Formula) (d : ℕ) (rest : List ℕ) → parse d (bytesOf a ++ (bytesOf c ++ rest)) ≡ parsed a (bytesOf c ++ rest)
+    → parse d (bytesOf c ++ rest) ≡ parsed c rest → binary g (parse d) (parse d (bytesOf a ++ bytesOf c ++ rest)) ≡ parsed (g a c) rest
+two-parts g a c d rest p q = rw (append-assoc (bytesOf a) (bytesOf c) rest, p, q)
+
 -- a depth of as many formulas as there are bytes is enough
 pub parse-bytes : (φ : Formula) (d : ℕ) (rest : List ℕ) → length (bytesOf φ) ≤ d → parse d (bytesOf φ ++ rest) ≡ parsed φ rest
 unfolding bytesOf byCode
@@ -37,12 +48,10 @@ parse-bytes (negated p) d rest l = parse-code d 3 _ (omega arith)
 parse-bytes (var v) d rest l = parse-code d 4 _ (omega arith)
 parse-bytes (or f g) d rest l =
     let h = simp length-append at l in
-    parse-code d 5 _ (omega arith)
-    ∙ simp (append-assoc (bytesOf f) (bytesOf g) rest, parse-bytes f (d - 1) (bytesOf g ++ rest) (omega arith), parse-bytes g (d - 1) rest (omega arith))
+    parse-code d 5 _ (omega arith) ∙ two-parts or f g (d - 1) rest (parse-bytes f (d - 1) (bytesOf g ++ rest) (omega arith)) (parse-bytes g (d - 1) rest (omega arith))
 parse-bytes (and f g) d rest l =
     let h = simp length-append at l in
-    parse-code d 6 _ (omega arith)
-    ∙ simp (append-assoc (bytesOf f) (bytesOf g) rest, parse-bytes f (d - 1) (bytesOf g ++ rest) (omega arith), parse-bytes g (d - 1) rest (omega arith))
+    parse-code d 6 _ (omega arith) ∙ two-parts and f g (d - 1) rest (parse-bytes f (d - 1) (bytesOf g ++ rest) (omega arith)) (parse-bytes g (d - 1) rest (omega arith))
 parse-bytes (AX f) d rest l = parse-code d 7 _ (omega arith) ∙ simp (parse-bytes f (d - 1) rest (omega arith))
 parse-bytes (EX f) d rest l = parse-code d 8 _ (omega arith) ∙ simp (parse-bytes f (d - 1) rest (omega arith))
 parse-bytes (mu f) d rest l = parse-code d 9 _ (omega arith) ∙ simp (parse-bytes f (d - 1) rest (omega arith))
@@ -76,19 +85,19 @@ same-bytes b f φ t rest e h = cc
 unary-bytes : (f : Formula → Formula) (front : List ℕ) → ((a : Formula) → bytesOf (f a) ≡ front ++ bytesOf a)
     → (b : List ℕ) (p : Parsed) → ((a : Formula) (t : List ℕ) → p ≡ parsed a t → b ≡ bytesOf a ++ t)
     → (φ : Formula) (rest : List ℕ) → unary f p ≡ parsed φ rest → front ++ b ≡ bytesOf φ ++ rest
-unary-bytes f front w b unparsed h φ rest e = let z : _≡_ {A = ℕ} 0 1 = cc in absurd (omega arith)
+unary-bytes f front w b unparsed h φ rest e = absurd (never-parsed e)
 unary-bytes f front w b (parsed a t) h φ rest e = same-bytes _ (f a) φ t rest e (simp (w a, append-assoc, h a t refl))
 
 binary-bytes : (f : Formula → Formula → Formula) (c : ℕ) → ((a g : Formula) → bytesOf (f a g) ≡ (c ∷ bytesOf a) ++ bytesOf g)
     → (more : List ℕ → Parsed) → ((b : List ℕ) (a : Formula) (t : List ℕ) → more b ≡ parsed a t → b ≡ bytesOf a ++ t)
     → (b : List ℕ) (p : Parsed) → more b ≡ p → (φ : Formula) (rest : List ℕ) → binary f more p ≡ parsed φ rest → c ∷ b ≡ bytesOf φ ++ rest
-binary-bytes f c w more h b unparsed q φ rest e = let z : _≡_ {A = ℕ} 0 1 = cc in absurd (omega arith)
+binary-bytes f c w more h b unparsed q φ rest e = absurd (never-parsed e)
 binary-bytes f c w more h b (parsed a t) q φ rest e =
     ap (λ (x : List ℕ). c ∷ x) (h b a t q) ∙ unary-bytes (f a) (c ∷ bytesOf a) (w a) t (more t) (h t) φ rest e
 
 numbered-bytes : (f : ℕ → Formula) (c : ℕ) → ((p : ℕ) → bytesOf (f p) ≡ c ∷ p ∷ []) → (b : List ℕ) (φ : Formula) (rest : List ℕ)
     → numbered f b ≡ parsed φ rest → c ∷ b ≡ bytesOf φ ++ rest
-numbered-bytes f c w [] φ rest e = let z : _≡_ {A = ℕ} 0 1 = cc in absurd (omega arith)
+numbered-bytes f c w [] φ rest e = absurd (never-parsed e)
 numbered-bytes f c w (p ∷ b) φ rest e = same-bytes _ (f p) φ b rest e (simp (w p))
 
 -- by the code, where `more` is right for what stands inside
@@ -107,14 +116,12 @@ code-bytes more h (suc (suc (suc (suc (suc (suc (suc (suc zero)))))))) b φ rest
 code-bytes more h (suc (suc (suc (suc (suc (suc (suc (suc (suc zero))))))))) b φ rest e = unary-bytes mu (9 ∷ []) (λ a. refl) b (more b) (h b) φ rest e
 code-bytes more h (suc (suc (suc (suc (suc (suc (suc (suc (suc (suc zero)))))))))) b φ rest e = unary-bytes nu (10 ∷ []) (λ a. refl) b (more b) (h b) φ rest e
 code-bytes more h (suc (suc (suc (suc (suc (suc (suc (suc (suc (suc (suc n))))))))))) b φ rest e =
-    let u = code-refused more (suc (suc (suc (suc (suc (suc (suc (suc (suc (suc (suc n))))))))))) b (omega arith) in
-    let z : _≡_ {A = ℕ} 0 1 = cc in
-    absurd (omega arith)
+    absurd (never-parsed (sym (code-refused more (suc (suc (suc (suc (suc (suc (suc (suc (suc (suc (suc n))))))))))) b (omega arith)) ∙ e))
 
 pub bytes-parse : (d : ℕ) (b : List ℕ) (φ : Formula) (rest : List ℕ) → parse d b ≡ parsed φ rest → b ≡ bytesOf φ ++ rest
 unfolding parse
-bytes-parse zero b φ rest e = let z : _≡_ {A = ℕ} 0 1 = cc in absurd (omega arith)
-bytes-parse (suc d) [] φ rest e = let z : _≡_ {A = ℕ} 0 1 = cc in absurd (omega arith)
+bytes-parse zero b φ rest e = absurd (never-parsed e)
+bytes-parse (suc d) [] φ rest e = absurd (never-parsed e)
 bytes-parse (suc d) (c ∷ b) φ rest e = code-bytes (parse d) (bytes-parse d) c b φ rest e
 
 -- two formulas with the same bytes are the same
@@ -126,34 +133,24 @@ bytes-injective φ ψ e =
     let same : parsed φ [] ≡ parsed ψ [] = cc in
     cc
 
--- a formula has at least its code
+-- a formula has at least its code, since at no depth there is none
 pub bytes-length : (φ : Formula) → 1 ≤ length (bytesOf φ)
-unfolding bytesOf
-bytes-length bottom = omega arith
-bytes-length top = omega arith
-bytes-length (prop p) = omega arith
-bytes-length (negated p) = omega arith
-bytes-length (var v) = omega arith
-bytes-length (or f g) = omega arith
-bytes-length (and f g) = omega arith
-bytes-length (AX f) = omega arith
-bytes-length (EX f) = omega arith
-bytes-length (mu f) = omega arith
-bytes-length (nu f) = omega arith
+unfolding parse
+bytes-length φ = let some : ¬ (length (bytesOf φ) ≤ 0) = λ l. never-parsed (parse-bytes φ 0 [] l) in omega arith
 
 -- ---- a formula part that is accepted
 
 cond-read : (t : Bool) (x : FormulaReading) (φ : Formula) → cond t x refused ≡ read φ → (t ≡ true) × (x ≡ read φ)
 cond-read true x φ e = (refl, e)
-cond-read false x φ e = let z : _≡_ {A = ℕ} 0 1 = cc in absurd (omega arith)
+cond-read false x φ e = absurd (never-read e)
 
 whole-read : (k : ℕ) (p : Parsed) (φ : Formula) → whole k p ≡ read φ → (p ≡ parsed φ []) × (allowed k φ ≡ true)
-whole-read k unparsed φ e = let z : _≡_ {A = ℕ} 0 1 = cc in absurd (omega arith)
+whole-read k unparsed φ e = absurd (never-read e)
 whole-read k (parsed f []) φ e =
     let h = cond-read (allowed k f) (read f) φ e in
     let q : f ≡ φ = cc in
     (ap (λ (g : Formula). parsed g []) q, ap (allowed k) (sym q) ∙ h .0)
-whole-read k (parsed f (c ∷ b)) φ e = let z : _≡_ {A = ℕ} 0 1 = cc in absurd (omega arith)
+whole-read k (parsed f (c ∷ b)) φ e = absurd (never-read e)
 
 -- 'A formula part has 1 to 255 bytes in prefix form and is used up exactly': a part is read as φ exactly when it is the bytes of φ, they
 -- are at most 255, and φ is allowed
