@@ -1,0 +1,19 @@
+-- `rounds::equivalent` meets its contract: ↔ written out. Assumes nothing.
+use borrow.Author.Needs.{needs}
+use Rattle.rounds.proofs.equivalent.Statement.{statement}
+use Rattle.rounds.proofs.equivalent.Tie as tie
+
+implies-requires : tie.Need-implies-requires
+implies-requires c κs = search needs
+
+implies-requires-2 : tie.Need-implies-requires-2
+implies-requires-2 c κs = search needs
+
+meet-requires : tie.Need-meet-requires
+meet-requires c κs = search needs
+
+returns : tie.Need-returns
+returns c = cc
+
+pub equivalent-spec : {M : Type 1} → statement M
+equivalent-spec = tie.close (tie.spec implies-requires implies-requires-2 meet-requires returns)

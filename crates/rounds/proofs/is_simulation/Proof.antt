@@ -1,0 +1,68 @@
+-- `rounds::is_simulation` meets its contract: the rows below q1 are equal. Assumes nothing.
+use mathlib.Core.Path.{sym, _∙_}
+use Prim.Native.Nat.{_≤_, _-_}
+use native.Mathlib.Omega.{arith}
+use borrow.Author.Needs.{needs}
+use borrow.Author.Tests.{not-true, not-false}
+use lib.ListN.{getD}
+use Rattle.theory.specs.Part.{modelOf}
+use Rattle.theory.specs.Test.{all-fails}
+use Rattle.operations.specs.Table.{opsIn}
+use Rattle.rounds.specs.Table.{tableOf, rowSame, simulationTest}
+use Rattle.rounds.specs.Folded.{Passed, passed-none, passed-more, passed-all}
+use Rattle.rounds.proofs.is_simulation.Statement.{statement}
+use Rattle.rounds.proofs.is_simulation.Tie as tie
+
+abbrev Inv-loop : tie.InvT-loop
+Inv-loop t l m1 m2 s n1 q1₀ q1 =
+    (q1 ≤ n1) × Passed (rowSame (opsIn t l) (modelOf m1) (modelOf m2) (tableOf s (getD m2 0 0))) q1
+
+abbrev μ-loop : tie.MeasureT-loop
+μ-loop t l m1 m2 s n1 q1₀ q1 = n1 - q1
+
+states-requires : tie.Need-states-requires Inv-loop μ-loop
+states-requires c κs = search needs
+
+loop-holds : tie.Need-loop-holds Inv-loop μ-loop
+loop-holds c = (omega arith, passed-none)
+
+cast-t9 : tie.Need-cast-t9 Inv-loop μ-loop
+cast-t9 c = search needs
+
+row-same-requires : tie.Need-row-same-requires Inv-loop μ-loop
+row-same-requires c κs = search needs
+
+returns : tie.Need-returns Inv-loop μ-loop
+unfolding simulationTest
+returns c = sym (all-fails _ _ _ (omega arith) (sym (c .before .row-same .ensures) ∙ not-true _ (c .if1 .taken)))
+
+add-q1 : tie.Need-add-q1 Inv-loop μ-loop
+add-q1 c = search needs
+
+loop-less : tie.Need-loop-less Inv-loop μ-loop
+loop-less c = search needs
+
+loop-again : tie.Need-loop-again Inv-loop μ-loop
+loop-again c =
+    let i = c .before .before .before .loop .inv in
+    (omega arith, passed-more (i .1) (sym (c .before .row-same .ensures) ∙ not-false _ (c .if1 .left)))
+
+returns-2 : tie.Need-returns-2 Inv-loop μ-loop
+unfolding simulationTest
+returns-2 c = let i = c .before .loop .inv in passed-all (i .1) (omega arith) (omega arith)
+
+pub is-simulation-spec : {M : Type 1} → statement M
+is-simulation-spec =
+    tie.close
+    (tie.spec
+    Inv-loop
+    μ-loop
+    states-requires
+    loop-holds
+    cast-t9
+    row-same-requires
+    returns
+    add-q1
+    loop-less
+    loop-again
+    returns-2)

@@ -1,0 +1,67 @@
+-- `rounds::join_of_meets` meets its contract: the join so far. Assumes nothing.
+use Prim.Native.Nat.{_+_, _≤_, _-_}
+use native.Mathlib.Omega.{arith}
+use borrow.Author.Needs.{needs}
+use lib.ListN.{getD}
+use Rattle.operations.specs.Table.{meetIn, joinIn}
+use Rattle.rounds.specs.Folded.{Folded, folded-none, folded-more, folded-join}
+use Rattle.rounds.proofs.join_of_meets.Statement.{statement}
+use Rattle.rounds.proofs.join_of_meets.Tie as tie
+
+abbrev Inv-loop : tie.InvT-loop
+Inv-loop t a at b from n x₀ q₀ x q =
+    (q ≤ n) × Folded (joinIn t) (x₀ .0) (λ i. meetIn t (getD a (at + i) 0) (getD b (from + i) 0)) q (x .0)
+
+abbrev μ-loop : tie.MeasureT-loop
+μ-loop t a at b from n x₀ q₀ x q = n - q
+
+loop-holds : tie.Need-loop-holds Inv-loop μ-loop
+loop-holds c = (omega arith, folded-none)
+
+add-t12 : tie.Need-add-t12 Inv-loop μ-loop
+add-t12 c = omega arith
+
+shared-slice-read-t14 : tie.Need-shared-slice-read-t14 Inv-loop μ-loop
+shared-slice-read-t14 c = omega arith
+
+add-t16 : tie.Need-add-t16 Inv-loop μ-loop
+add-t16 c = omega arith
+
+shared-slice-read-t18 : tie.Need-shared-slice-read-t18 Inv-loop μ-loop
+shared-slice-read-t18 c = omega arith
+
+meet-requires : tie.Need-meet-requires Inv-loop μ-loop
+meet-requires c κs = search needs
+
+join-requires : tie.Need-join-requires Inv-loop μ-loop
+join-requires c κs = search needs
+
+add-q : tie.Need-add-q Inv-loop μ-loop
+add-q c = omega arith
+
+loop-less : tie.Need-loop-less Inv-loop μ-loop
+loop-less c = omega arith
+
+loop-again : tie.Need-loop-again Inv-loop μ-loop
+loop-again c = (omega arith, folded-more (c .before .before .before .before .before .loop .inv .1) (cc))
+
+returns : tie.Need-returns Inv-loop μ-loop
+returns c = folded-join _ (c .before .loop .inv .1) (c .before .loop .inv .0) (c .loop-test .left)
+
+pub join-of-meets-spec : {M : Type 1} → statement M
+join-of-meets-spec =
+    tie.close
+    (tie.spec
+    Inv-loop
+    μ-loop
+    loop-holds
+    add-t12
+    shared-slice-read-t14
+    add-t16
+    shared-slice-read-t18
+    meet-requires
+    join-requires
+    add-q
+    loop-less
+    loop-again
+    returns)

@@ -1,0 +1,75 @@
+-- `rounds::matching` meets its contract: the meet so far. Assumes nothing.
+use Prim.Native.Nat.{_+_, _*_, _≤_, _-_}
+use native.Mathlib.Omega.{arith}
+use borrow.Author.Needs.{needs}
+use lib.ListN.{getD}
+use Rattle.theory.specs.Lattice.{imp, bigJoin}
+use Rattle.operations.specs.Table.{meetIn, joinIn, complementIn, opsIn}
+use Rattle.model.specs.Places.{row-le}
+use Rattle.rounds.specs.Folded.{Folded, folded-none, folded-more, folded-meet}
+use Rattle.rounds.proofs.matching.Statement.{statement}
+use Rattle.rounds.proofs.matching.Tie as tie
+
+abbrev Inv-loop : tie.InvT-loop
+Inv-loop t l a at1 n1 b at2 n2 s x₀ q₀ x q =
+    (q ≤ n1)
+    × Folded (meetIn t) (x₀ .0)
+    (λ i. joinIn t (complementIn t (getD a (at1 + i) 0)) (bigJoin (opsIn t l) n2 (λ j. meetIn t (getD b (at2 + j) 0) (getD s (i * n2 + j) 0))))
+    q (x .0)
+
+abbrev μ-loop : tie.MeasureT-loop
+μ-loop t l a at1 n1 b at2 n2 s x₀ q₀ x q = n1 - q
+
+loop-holds : tie.Need-loop-holds Inv-loop μ-loop
+loop-holds c = (omega arith, folded-none)
+
+mul-join-of-meets : tie.Need-mul-join-of-meets Inv-loop μ-loop
+mul-join-of-meets c = omega (arith, row-le (c .before .loop .q) (c .before .before .before .before .before .before .args .n1) (c .before .before .before .before .before .before .args .n2) (c .loop-test .taken))
+
+join-of-meets-requires : tie.Need-join-of-meets-requires Inv-loop μ-loop
+join-of-meets-requires c κs = omega (arith, row-le (c .before .loop .q) (c .before .before .before .before .before .before .args .n1) (c .before .before .before .before .before .before .args .n2) (c .loop-test .taken))
+
+add-t14 : tie.Need-add-t14 Inv-loop μ-loop
+add-t14 c = search needs
+
+shared-slice-read-t17 : tie.Need-shared-slice-read-t17 Inv-loop μ-loop
+shared-slice-read-t17 c = search needs
+
+implies-requires : tie.Need-implies-requires Inv-loop μ-loop
+implies-requires c κs = search needs
+
+meet-requires : tie.Need-meet-requires Inv-loop μ-loop
+meet-requires c κs = search needs
+
+add-q : tie.Need-add-q Inv-loop μ-loop
+add-q c = search needs
+
+loop-less : tie.Need-loop-less Inv-loop μ-loop
+loop-less c = search needs
+
+loop-again : tie.Need-loop-again Inv-loop μ-loop
+loop-again c = (omega arith, folded-more (c .before .before .before .before .before .loop .inv .1) (cc))
+
+returns : tie.Need-returns Inv-loop μ-loop
+unfolding imp
+returns c =
+    let a = c .before .before .before .before .before .before .args in
+    folded-meet (opsIn (a .t .now) (a .l)) (c .before .loop .inv .1) (c .before .loop .inv .0) (c .loop-test .left)
+
+pub matching-spec : {M : Type 1} → statement M
+matching-spec =
+    tie.close
+    (tie.spec
+    Inv-loop
+    μ-loop
+    loop-holds
+    mul-join-of-meets
+    join-of-meets-requires
+    add-t14
+    shared-slice-read-t17
+    implies-requires
+    meet-requires
+    add-q
+    loop-less
+    loop-again
+    returns)

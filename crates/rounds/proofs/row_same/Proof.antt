@@ -1,0 +1,102 @@
+-- `rounds::row_same` meets its contract: the entries below q2 are equal. Assumes nothing.
+use mathlib.Core.Path.{sym}
+use Prim.Native.Nat.{_*_, _≤_, _-_}
+use native.Mathlib.Omega.{arith}
+use borrow.Author.Needs.{needs}
+use lib.ListN.{getD}
+use Rattle.theory.specs.Part.{modelOf}
+use Rattle.theory.specs.Test.{all-fails}
+use Rattle.operations.specs.Table.{opsIn}
+use Rattle.rounds.specs.Table.{tableOf, entrySame, rowSame}
+use Rattle.rounds.specs.Row.{RowAt, row-at, row-entry, same-eqb, differ-eqb}
+use Rattle.rounds.specs.Folded.{Passed, passed-none, passed-more, passed-all}
+use Rattle.rounds.proofs.row_same.Statement.{statement}
+use Rattle.rounds.proofs.row_same.Tie as tie
+
+abbrev Inv-loop : tie.InvT-loop
+Inv-loop t l m1 m2 s q1 n2 at q2₀ q2 =
+    RowAt m1 m2 (q1 .0) n2 at
+    × (q2 ≤ n2)
+    × Passed (entrySame (opsIn t l) (modelOf m1) (modelOf m2) (tableOf s (getD m2 0 0)) (q1 .0)) q2
+
+abbrev μ-loop : tie.MeasureT-loop
+μ-loop t l m1 m2 s q1 n2 at q2₀ q2 = n2 - q2
+
+-- where the row stands
+place : (c : tie.After-wide Inv-loop μ-loop) → RowAt (c .before .before .before .before .before .args .m1 .now) (c .before .before .before .before .before .args .m2 .now) (c .before .before .before .before .before .args .q1 .0) (c .before .states .result) (c .wide .result * c .before .states .result)
+place c =
+    let b = c .before .before .before .before .before in
+    row-at _ _ (b .args .s .now) _ _ _ (b .pre .0) (b .pre .1) (c .before .states .ensures) (c .wide .ensures .0)
+
+states-requires : tie.Need-states-requires Inv-loop μ-loop
+states-requires c κs = search needs
+
+wide-requires : tie.Need-wide-requires Inv-loop μ-loop
+wide-requires c κs = search needs
+
+mul-at : tie.Need-mul-at Inv-loop μ-loop
+mul-at c = omega (arith, place c, c .before .before .before .before .before .pre .0 .held)
+
+loop-holds : tie.Need-loop-holds Inv-loop μ-loop
+loop-holds c = (place c, omega arith, passed-none)
+
+cast-if1 : tie.Need-cast-if1 Inv-loop μ-loop
+cast-if1 c = search needs
+
+entry-requires : tie.Need-entry-requires Inv-loop μ-loop
+entry-requires c κs = search needs
+
+add-if1 : tie.Need-add-if1 Inv-loop μ-loop
+add-if1 c = search needs
+
+shared-slice-read-if1 : tie.Need-shared-slice-read-if1 Inv-loop μ-loop
+shared-slice-read-if1 c = search needs
+
+returns : tie.Need-returns Inv-loop μ-loop
+unfolding rowSame
+returns c =
+    let i = c .before .before .before .before .before .loop .inv in
+    let a = c .before .before .before .before .before .before .before .before .before .before .before .args in
+    sym
+    (all-fails _ _ _ (omega arith)
+    (differ-eqb (row-entry (a .m1 .now) (a .m2 .now) (a .s .now) (a .q1 .0) _ _ _ (i .0)) (c .before .before .before .entry .ensures) (c .if1 .taken)))
+
+add-q2 : tie.Need-add-q2 Inv-loop μ-loop
+add-q2 c = search needs
+
+loop-less : tie.Need-loop-less Inv-loop μ-loop
+loop-less c = search needs
+
+loop-again : tie.Need-loop-again Inv-loop μ-loop
+loop-again c =
+    let i = c .before .before .before .before .before .loop .inv in
+    let a = c .before .before .before .before .before .before .before .before .before .before .before .args in (
+      i .0,
+      omega arith,
+      passed-more (i .2)
+          (same-eqb (row-entry (a .m1 .now) (a .m2 .now) (a .s .now) (a .q1 .0) _ _ _ (i .0)) (c .before .before .before .entry .ensures) (c .if1 .left)),
+    )
+
+returns-2 : tie.Need-returns-2 Inv-loop μ-loop
+unfolding rowSame
+returns-2 c = let i = c .before .loop .inv in passed-all (i .2) (omega arith) (omega arith)
+
+pub row-same-spec : {M : Type 1} → statement M
+row-same-spec =
+    tie.close
+    (tie.spec
+    Inv-loop
+    μ-loop
+    states-requires
+    wide-requires
+    mul-at
+    loop-holds
+    cast-if1
+    entry-requires
+    add-if1
+    shared-slice-read-if1
+    returns
+    add-q2
+    loop-less
+    loop-again
+    returns-2)

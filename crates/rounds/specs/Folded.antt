@@ -1,0 +1,92 @@
+-- What a loop that goes up from 0 has done so far: a fold (finite meets and joins are such), a count, a test. For invariants.
+-- Rests on theory's Lattice, Simulation, Loop, Test.
+use Prim.Native.Nat.{ℕ, zero, suc, _+_, _*_, _≤_, _<_}
+use mathlib.Core.Path.{_≡_, refl, sym, ap, ap₂, _∙_}
+use mathlib.Core.Bool.{Bool, true, false}
+use native.Mathlib.Nat.{le-refl, div-lt-iff-lt-mul}
+use native.Mathlib.Numerals.{add-one}
+use native.Mathlib.Omega.{arith}
+use Rattle.theory.specs.Lattice.{Ops, bigMeet, bigJoin}
+use Rattle.theory.specs.Simulation.{one, count, perCent}
+use Rattle.theory.specs.Loop.{count-none, count-more}
+use Rattle.theory.specs.Test.{allBelow, all-none, all-more, all-done}
+
+-- g (.. (g start (f 0)) ..) (f (n - 1))
+unfoldable pub fold : {A : Type 0} → (A → A → A) → A → (ℕ → A) → ℕ → A
+fold g start f zero = start
+fold g start f (suc n) = g (fold g start f n) (f n)
+
+-- x is the fold of the first n values. A record, so that a goal shows g, start, f and n
+pub record Folded {A : Type 0} (g : A → A → A) (start : A) (f : ℕ → A) (n : ℕ) (x : A) : Type 0 where
+  pub eq : x ≡ fold g start f n
+
+pub folded-none : {A : Type 0} {g : A → A → A} {start : A} {f : ℕ → A} → Folded g start f 0 start
+unfolding fold
+folded-none = record { eq = refl }
+
+-- one turn
+pub folded-more : {A : Type 0} {g : A → A → A} {start : A} {f : ℕ → A} {n : ℕ} {x y : A} → Folded g start f n x → y ≡ g x (f n) → Folded g start f (n + 1) y
+unfolding fold
+folded-more u e = record { eq = e ∙ rw (add-one, ← u .eq) }
+
+module _ {A : Type 0} (O : Ops A) where
+  meet-fold : (n : ℕ) (f : ℕ → A) → fold (O .meet) (O .top) f n ≡ bigMeet O n f
+  unfolding fold bigMeet
+  meet-fold zero f = refl
+  meet-fold (suc n) f = ap₂ (O .meet) (meet-fold n f) refl
+
+  join-fold : (n : ℕ) (f : ℕ → A) → fold (O .join) (O .bot) f n ≡ bigJoin O n f
+  unfolding fold bigJoin
+  join-fold zero f = refl
+  join-fold (suc n) f = ap₂ (O .join) (join-fold n f) refl
+
+  -- at the loop's end the counter i has reached n
+  pub folded-meet : {f : ℕ → A} {n i : ℕ} {x : A} → Folded (O .meet) (O .top) f i x → i ≤ n → n ≤ i → x ≡ bigMeet O n f
+  folded-meet {f} {n} {i} u p q = let e : i ≡ n = omega arith in rw e at (u .eq) ∙ meet-fold n f
+
+  pub folded-join : {f : ℕ → A} {n i : ℕ} {x : A} → Folded (O .join) (O .bot) f i x → i ≤ n → n ≤ i → x ≡ bigJoin O n f
+  folded-join {f} {n} {i} u p q = let e : i ≡ n = omega arith in rw e at (u .eq) ∙ join-fold n f
+
+-- ---- a loop that counts
+
+-- c of the first n pass
+pub record Counted (f : ℕ → Bool) (n c : ℕ) : Type 0 where
+  pub eq : c ≡ count n f
+  pub most : c ≤ n
+
+pub counted-none : {f : ℕ → Bool} → Counted f 0 0
+counted-none {f} = record { eq = sym (count-none f); most = le-refl _ }
+
+pub one-most : (b : Bool) → one b ≤ 1
+one-most true = omega arith
+one-most false = omega arith
+
+pub counted-more : {f : ℕ → Bool} {n c d : ℕ} → Counted f n c → d ≡ c + one (f n) → Counted f (n + 1) d
+counted-more {f} {n} {c} {d} u e = record { eq = e ∙ rw (count-more n f, ← u .eq); most = omega (arith, u .most, one-most (f n)) }
+
+pub counted-all : {f : ℕ → Bool} {i n c : ℕ} → Counted f i c → i ≤ n → n ≤ i → Counted f n c
+counted-all {i = i} {n = n} u p q = let e : i ≡ n = omega arith in rw e at u
+
+pub count-cong : (n : ℕ) (f g : ℕ → Bool) → ((i : ℕ) → i < n → f i ≡ g i) → count n f ≡ count n g
+unfolding count
+count-cong zero f g h = refl
+count-cong (suc n) f g h = ap₂ _+_ (count-cong n f g (λ i l. h i (omega arith))) (ap one (h n (le-refl _)))
+
+-- ---- a loop that tests, up to the first failure
+
+-- the first n pass
+pub record Passed (f : ℕ → Bool) (n : ℕ) : Type 0 where
+  pub eq : allBelow n f ≡ true
+
+pub passed-none : {f : ℕ → Bool} → Passed f 0
+passed-none {f} = record { eq = all-none f }
+
+pub passed-more : {f : ℕ → Bool} {n : ℕ} → Passed f n → f n ≡ true → Passed f (n + 1)
+passed-more {f} {n} u e = record { eq = all-more n f (u .eq) e }
+
+pub passed-all : {f : ℕ → Bool} {i n : ℕ} → Passed f i → i ≤ n → n ≤ i → true ≡ allBelow n f
+passed-all {f} {i} {n} u p q = sym (all-done n i f p q (u .eq))
+
+-- a per cent is at most 100
+pub percent-most : (c t : ℕ) → 0 < t → c ≤ t → perCent c t ≤ 100
+percent-most c t p h = let l : perCent c t < 101 = div-lt-iff-lt-mul {k = 2 * t} {x = 200 * c + t} {y = 101} (omega arith) .1 (omega arith) in omega arith

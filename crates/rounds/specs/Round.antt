@@ -1,0 +1,178 @@
+-- A whole round by its rows is F; no row changed exactly when the round equals the one before; the test for a simulation.
+-- Rests on Table, Row, and theory's Simulation, Rounds, Loop, Test.
+use Prim.Native.Nat.{ℕ, suc, _+_, _*_, _/_, _%_, _≤_, _<_}
+use mathlib.Core.Path.{_≡_, refl, sym, ap, ap₂, _∙_}
+use mathlib.Core.Bool.{Bool, true, false, not, _||_}
+use mathlib.Core.Logic.{_↔_, ⊎-elim}
+use mathlib.Core.List.{List}
+use native.Mathlib.Nat.{suc-mul, eq-or-lt-of-le, not-suc-le-zero, div-add-mod', div-lt-iff-lt-mul, mod-lt}
+use native.Mathlib.Numerals.{add-one}
+use native.Mathlib.Omega.{arith}
+use borrow.Author.Tests.{eq-eqb, eqb-true}
+use lib.Dec.{eqb}
+use lib.ListN.{length, getD, take}
+use lib.Seq.{ext-getD, getD-take, length-take-le}
+use Rattle.theory.specs.Lattice.{Ops, Laws, Element}
+use Rattle.theory.specs.Model.{Model}
+use Rattle.theory.specs.Simulation.{F, roundOf, round, SameTable, Simulation, perCent, share}
+use Rattle.theory.specs.Rounds.{F-cong}
+use Rattle.theory.specs.Loop.{tab, tab-at, tab-length}
+use Rattle.theory.specs.Test.{allBelow, all-at, all-in, all-cong}
+use Rattle.model.specs.Places.{row-le}
+use Rattle.rounds.specs.Folded.{count-cong}
+use Rattle.rounds.specs.Table.{tableOf, rowWritten, entrySame, rowSame, rowChanged, changedBelow, simulationTest}
+use Rattle.rounds.specs.Row.{written-length, written-at, written-before, written-after, written-all, not-and}
+
+-- in `out` the rows below q are those of F S, and every byte past them is that of `before`
+pub record Worked (O : Ops ℕ) (M₁ M₂ : Model ℕ) (S : ℕ → ℕ → ℕ) (before : List ℕ) (q : ℕ) (out : List ℕ) : Type 0 where
+  pub rows : (q₁ : ℕ) → q₁ < q → (q₂ : ℕ) → q₂ < M₂ .states → tableOf out (M₂ .states) q₁ q₂ ≡ F O M₁ M₂ S q₁ q₂
+  pub kept : (i : ℕ) → q * M₂ .states ≤ i → getD out i 0 ≡ getD before i 0
+  pub same-length : length out ≡ length before
+
+not-false : (a : Bool) → not a ≡ false → a ≡ true
+not-false true e = refl
+not-false false e = sym e
+
+-- entry (q₁, q₂) is among the first n₁ · n₂ bytes
+pub cell-lt : (n₁ n₂ q₁ q₂ : ℕ) → q₁ < n₁ → q₂ < n₂ → q₁ * n₂ + q₂ < n₁ * n₂
+cell-lt n₁ n₂ q₁ q₂ k l = omega (arith, row-le q₁ n₁ n₂ k)
+
+-- share reads no more than the entries that it counts
+pub share-cong : (O : Ops ℕ) (n : ℕ) (S U : ℕ → ℕ) (l : ℕ) → ((i : ℕ) → i < n → S i ≡ U i) → share O n S l ≡ share O n U l
+unfolding share
+share-cong O n S U l h = ap (λ (c : ℕ). perCent c n) (count-cong n _ _ (λ i k. ap (O .atMost l) (h i k)))
+
+module _ (O : Ops ℕ) (M₁ M₂ : Model ℕ) where
+  -- ---- a table by its bytes
+
+  -- round 0, from bytes that are all top
+  pub top-round : (s : List ℕ) → ((i : ℕ) → i < M₁ .states * M₂ .states → getD s i 0 ≡ O .top) → SameTable O M₁ M₂ (tableOf s (M₂ .states)) (round O M₁ M₂ 0)
+  unfolding roundOf
+  top-round s h q₁ l q₂ m = h _ (cell-lt (M₁ .states) (M₂ .states) q₁ q₂ l m)
+
+  -- byte i is the entry whose row and column are i divided by N2 and what remains
+  pub byte-at : (s : List ℕ) (S : ℕ → ℕ → ℕ) → SameTable O M₁ M₂ (tableOf s (M₂ .states)) S → 0 < M₂ .states → (i : ℕ) → i < M₁ .states * M₂ .states → getD s i 0 ≡ S (i / M₂ .states) (i % M₂ .states)
+  byte-at s S h p i l = ap (λ (j : ℕ). getD s j 0) (sym (div-add-mod' i (M₂ .states))) ∙ h _ (div-lt-iff-lt-mul p .1 l) _ (mod-lt i p)
+
+  -- the first N1·N2 bytes, as a list
+  pub shown-bytes : (s : List ℕ) (S : ℕ → ℕ → ℕ) → SameTable O M₁ M₂ (tableOf s (M₂ .states)) S → 0 < M₂ .states → M₁ .states * M₂ .states ≤ length s → take (M₁ .states * M₂ .states) s ≡ tab (λ i. S (i / M₂ .states) (i % M₂ .states)) (M₁ .states * M₂ .states) 0
+  shown-bytes s S h p l =
+      let e : length (take (M₁ .states * M₂ .states) s) ≡ M₁ .states * M₂ .states = length-take-le _ s l in
+      ext-getD 0 _ _ (e ∙ sym (tab-length _ _ 0))
+      (λ i k. let m : i < M₁ .states * M₂ .states = omega arith in getD-take (M₁ .states * M₂ .states) s i 0 m ∙ byte-at s S h p i m ∙ sym (tab-at _ _ i m))
+
+  -- ---- a round by its rows
+
+  pub worked-none : (S : ℕ → ℕ → ℕ) (out : List ℕ) → Worked O M₁ M₂ S out 0 out
+  worked-none S out = record { rows = λ q₁ l. absurd (not-suc-le-zero l); kept = λ i l. refl; same-length = refl }
+
+  pub worked-more : (S : ℕ → ℕ → ℕ) (before : List ℕ) (q : ℕ) (out : List ℕ) → q < M₁ .states → M₁ .states * M₂ .states ≤ length before → Worked O M₁ M₂ S before q out → Worked O M₁ M₂ S before (q + 1) (rowWritten O M₁ M₂ S q out)
+  worked-more S before q out l h w =
+      record {
+        rows = λ q₁ k q₂ m.
+            ⊎-elim
+            (λ (p : q₁ ≡ q). rw p (written-at (q * M₂ .states) (M₂ .states) (F O M₁ M₂ S q) out (omega (arith, row-le q (M₁ .states) (M₂ .states) l, w .same-length)) q₂ m))
+            (λ (p : q₁ < q). written-before (q * M₂ .states) (M₂ .states) (F O M₁ M₂ S q) out (q₁ * M₂ .states + q₂) (omega (arith, row-le q₁ q (M₂ .states) p)) ∙ w .rows q₁ p q₂ m)
+            (eq-or-lt-of-le (omega arith));
+        kept = λ i k.
+            let e : q * M₂ .states + M₂ .states ≤ i = rw (add-one, suc-mul) at k in
+            written-after (q * M₂ .states) (M₂ .states) (F O M₁ M₂ S q) out i e ∙ w .kept i (omega arith);
+        same-length = written-length _ _ _ out ∙ w .same-length;
+      }
+
+  -- the same rows, whichever of two equal tables is read
+  pub worked-cong : (S U : ℕ → ℕ → ℕ) (before : List ℕ) (q : ℕ) (out : List ℕ) → SameTable O M₁ M₂ S U → Worked O M₁ M₂ S before q out → Worked O M₁ M₂ U before q out
+  worked-cong S U before q out h w =
+      record {
+        rows = λ q₁ k q₂ m. w .rows q₁ k q₂ m ∙ F-cong O M₁ M₂ h q₁ q₂;
+        kept = w .kept;
+        same-length = w .same-length;
+      }
+
+  -- after all rows the table is F of the one that was read; after round r it is round r + 1
+  pub worked-all : (S : ℕ → ℕ → ℕ) (before out : List ℕ) → Worked O M₁ M₂ S before (M₁ .states) out → SameTable O M₁ M₂ (tableOf out (M₂ .states)) (F O M₁ M₂ S)
+  worked-all S before out w = w .rows
+
+  pub worked-round : (r : ℕ) (S : ℕ → ℕ → ℕ) (before out : List ℕ) → SameTable O M₁ M₂ S (round O M₁ M₂ r) → Worked O M₁ M₂ S before (M₁ .states) out → SameTable O M₁ M₂ (tableOf out (M₂ .states)) (round O M₁ M₂ (suc r))
+  unfolding roundOf
+  worked-round r S before out h w q₁ l q₂ m = w .rows q₁ l q₂ m ∙ F-cong O M₁ M₂ h q₁ q₂
+
+  -- a row of F has elements alone, where the operations give elements
+  pub row-elements : Laws O → (S : ℕ → ℕ → ℕ) (q : ℕ) (out : List ℕ) → M₁ .states * M₂ .states ≤ length out → ((i : ℕ) → i < M₁ .states * M₂ .states → Element O (getD out i 0)) → (i : ℕ) → i < M₁ .states * M₂ .states → Element O (getD (rowWritten O M₁ M₂ S q out) i 0)
+  unfolding F
+  row-elements L S q out h e = written-all (Element O) _ _ _ out _ h (λ i. L .meet-element _ _) e
+
+  -- ---- the test for a simulation
+
+  pub simulation-test : (S : ℕ → ℕ → ℕ) → (simulationTest O M₁ M₂ S ≡ true) ↔ Simulation O M₁ M₂ S
+  unfolding simulationTest rowSame
+  simulation-test S = (
+    λ t q₁ l q₂ m. eqb-true _ _ (all-at _ (entrySame O M₁ M₂ S q₁) (all-at _ (rowSame O M₁ M₂ S) t q₁ l) q₂ m),
+    λ s. all-in _ _ (λ q₁ l. all-in _ _ (λ q₂ m. eq-eqb _ _ (s q₁ l q₂ m))),
+  )
+
+  -- ---- whether a round changed anything
+
+  pub changed-none : (S : ℕ → ℕ → ℕ) → changedBelow O M₁ M₂ S 0 ≡ false
+  unfolding changedBelow allBelow
+  changed-none S = refl
+
+  pub changed-more : (S : ℕ → ℕ → ℕ) (q : ℕ) → changedBelow O M₁ M₂ S (q + 1) ≡ (changedBelow O M₁ M₂ S q || rowChanged O M₁ M₂ S q)
+  unfolding changedBelow allBelow
+  changed-more S q = rw (add-one, not-and)
+
+  -- F reads a table only at the pairs of states, and so do these tests
+  pub row-same-cong : (S U : ℕ → ℕ → ℕ) → SameTable O M₁ M₂ S U → (q₁ : ℕ) → q₁ < M₁ .states → rowSame O M₁ M₂ S q₁ ≡ rowSame O M₁ M₂ U q₁
+  unfolding rowSame
+  row-same-cong S U h q₁ l = all-cong _ _ _ (λ q₂ m. ap₂ eqb (h q₁ l q₂ m) (F-cong O M₁ M₂ h q₁ q₂))
+
+  pub changed-cong : (S U : ℕ → ℕ → ℕ) → SameTable O M₁ M₂ S U → (q : ℕ) → q ≤ M₁ .states → changedBelow O M₁ M₂ S q ≡ changedBelow O M₁ M₂ U q
+  unfolding changedBelow
+  changed-cong S U h q l = ap not (all-cong _ _ _ (λ q₁ k. row-same-cong S U h q₁ (omega arith)))
+
+  -- no row changed exactly when the table is a simulation: 'this round equals the one before'
+  pub unchanged-simulation : (S : ℕ → ℕ → ℕ) → (changedBelow O M₁ M₂ S (M₁ .states) ≡ false) ↔ Simulation O M₁ M₂ S
+  unfolding changedBelow simulationTest
+  unchanged-simulation S = (λ e. simulation-test S .0 (not-false _ e), λ s. ap not (simulation-test S .1 s))
+
+  pub unchanged-round : (r : ℕ) (S : ℕ → ℕ → ℕ) → SameTable O M₁ M₂ S (round O M₁ M₂ r) → (changedBelow O M₁ M₂ S (M₁ .states) ≡ false) ↔ SameTable O M₁ M₂ (round O M₁ M₂ (suc r)) (round O M₁ M₂ r)
+  unfolding roundOf
+  unchanged-round r S h = (
+    λ e q₁ l q₂ m. sym (F-cong O M₁ M₂ h q₁ q₂) ∙ sym (unchanged-simulation S .0 e q₁ l q₂ m) ∙ h q₁ l q₂ m,
+    λ s. unchanged-simulation S .1 (λ q₁ l q₂ m. h q₁ l q₂ m ∙ sym (s q₁ l q₂ m) ∙ sym (F-cong O M₁ M₂ h q₁ q₂)),
+  )
+
+-- ---- a round that is worked row by row, with what it has changed so far
+
+pub record RoundSoFar (O : Ops ℕ) (M₁ M₂ : Model ℕ) (S : ℕ → ℕ → ℕ) (before : List ℕ) (q : ℕ) (out : List ℕ) (changed : Bool) : Type 0 where
+  pub worked : Worked O M₁ M₂ S before q out
+  pub changed-is : changed ≡ changedBelow O M₁ M₂ S q
+
+pub round-none : {O : Ops ℕ} {M₁ M₂ : Model ℕ} {S : ℕ → ℕ → ℕ} {out : List ℕ} → RoundSoFar O M₁ M₂ S out 0 out false
+round-none {O} {M₁} {M₂} {S} {out} = record { worked = worked-none O M₁ M₂ S out; changed-is = sym (changed-none O M₁ M₂ S) }
+
+-- one row more: what `row` writes and answers
+pub round-more : {O : Ops ℕ} {M₁ M₂ : Model ℕ} {S : ℕ → ℕ → ℕ} {before : List ℕ} {q : ℕ} {out next : List ℕ} {changed row now : Bool} → RoundSoFar O M₁ M₂ S before q out changed → q < M₁ .states → M₁ .states * M₂ .states ≤ length before → next ≡ rowWritten O M₁ M₂ S q out → row ≡ rowChanged O M₁ M₂ S q → now ≡ (changed || row) → RoundSoFar O M₁ M₂ S before (q + 1) next now
+round-more {O} {M₁} {M₂} {S} {before} {q} {out} u l h e f g =
+    record {
+      worked = rw e (worked-more O M₁ M₂ S before q out l h (u .worked));
+      changed-is = g ∙ ap₂ _||_ (u .changed-is) f ∙ sym (changed-more O M₁ M₂ S q);
+    }
+
+pub round-reached : {O : Ops ℕ} {M₁ M₂ : Model ℕ} {S : ℕ → ℕ → ℕ} {before : List ℕ} {q n : ℕ} {out : List ℕ} {changed : Bool} → RoundSoFar O M₁ M₂ S before q out changed → q ≤ n → n ≤ q → RoundSoFar O M₁ M₂ S before n out changed
+round-reached {q = q} {n = n} u a b = let e : q ≡ n = omega arith in rw e at u
+
+-- what all rows of a round have made of round r: round r + 1, with nothing changed exactly when the two are equal
+pub record RoundDone (O : Ops ℕ) (M₁ M₂ : Model ℕ) (r : ℕ) (out : List ℕ) (changed : Bool) : Type 0 where
+  pub holds : SameTable O M₁ M₂ (tableOf out (M₂ .states)) (round O M₁ M₂ (suc r))
+  pub unchanged : (changed ≡ false) ↔ SameTable O M₁ M₂ (round O M₁ M₂ (suc r)) (round O M₁ M₂ r)
+
+pub round-done : {O : Ops ℕ} {M₁ M₂ : Model ℕ} {S : ℕ → ℕ → ℕ} {before out : List ℕ} {changed : Bool} (r : ℕ) → SameTable O M₁ M₂ S (round O M₁ M₂ r) → RoundSoFar O M₁ M₂ S before (M₁ .states) out changed → RoundDone O M₁ M₂ r out changed
+round-done {O} {M₁} {M₂} {S} {before} {out} {changed} r h u =
+    record {
+      holds = worked-round O M₁ M₂ r S before out h (u .worked);
+      unchanged = (
+        λ e. unchanged-round O M₁ M₂ r S h .0 (sym (u .changed-is) ∙ e),
+        λ s. u .changed-is ∙ unchanged-round O M₁ M₂ r S h .1 s,
+      );
+    }

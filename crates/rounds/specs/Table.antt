@@ -1,0 +1,61 @@
+-- Tables of elements held as bytes, a row that is written into one, and the tests on them.
+-- Rests on theory's Lattice, Model, Part, Simulation, Test, and operations' Table.
+use Prim.Native.Nat.{ℕ, zero, suc, _+_, _*_, _≤_}
+use mathlib.Core.Path.{_≡_}
+use mathlib.Core.Bool.{Bool, not}
+use mathlib.Core.List.{List}
+use lib.Dec.{eqb}
+use lib.ListN.{length, getD, set}
+use Rattle.theory.specs.Lattice.{Ops, imp, bigMeet, bigJoin}
+use Rattle.theory.specs.Model.{Model}
+use Rattle.theory.specs.Part.{ModelShape}
+use Rattle.theory.specs.Simulation.{F}
+use Rattle.theory.specs.Test.{allBelow}
+use Rattle.operations.specs.Table.{meetIn, joinIn, complementIn}
+
+-- 'Entry (q1, q2) is byte q1·N2 + q2', of a table with n for N2
+abbrev pub tableOf : List ℕ → ℕ → ℕ → ℕ → ℕ
+tableOf s n q₁ q₂ = getD s (q₁ * n + q₂) 0
+
+-- the list with f 0, .., f (n - 1) at its places from `at` on, and every other byte as it was
+unfoldable pub written : ℕ → ℕ → (ℕ → ℕ) → List ℕ → List ℕ
+written at zero f out = out
+written at (suc n) f out = set (written at n f out) (at + n) (f n)
+
+-- a ↔ b by the tables t, whatever their lattice's bounds: the meet of a → b and b → a
+abbrev pub iffIn : List ℕ → ℕ → ℕ → ℕ
+iffIn t a b = meetIn t (joinIn t (complementIn t a) b) (joinIn t (complementIn t b) a)
+
+-- two model parts over the same propositions, and a table for their states
+pub record Shaped (m₁ m₂ s : List ℕ) : Type 0 where
+  pub first : ModelShape m₁
+  pub second : ModelShape m₂
+  pub same-propositions : getD m₁ 1 0 ≡ getD m₂ 1 0
+  pub held : getD m₁ 0 0 * getD m₂ 0 0 ≤ length s
+
+-- the meet over q1 of a(q1) → the join over q2 of b(q2) met with S(q1, q2), which is the form of F's second part and of score
+abbrev pub matched : Ops ℕ → ℕ → ℕ → (ℕ → ℕ) → (ℕ → ℕ) → (ℕ → ℕ → ℕ) → ℕ
+matched O n₁ n₂ a b S = bigMeet O n₁ (λ q₁. imp O (a q₁) (bigJoin O n₂ (λ q₂. O .meet (b q₂) (S q₁ q₂))))
+
+module _ (O : Ops ℕ) (M₁ M₂ : Model ℕ) where
+  -- the list with row q1 of F S in its place
+  abbrev pub rowWritten : (ℕ → ℕ → ℕ) → ℕ → List ℕ → List ℕ
+  rowWritten S q₁ out = written (q₁ * M₂ .states) (M₂ .states) (F O M₁ M₂ S q₁) out
+
+  -- S equals F S at (q1, q2); in row q1
+  abbrev pub entrySame : (ℕ → ℕ → ℕ) → ℕ → ℕ → Bool
+  entrySame S q₁ q₂ = eqb (S q₁ q₂) (F O M₁ M₂ S q₁ q₂)
+
+  unfoldable pub rowSame : (ℕ → ℕ → ℕ) → ℕ → Bool
+  rowSame S q₁ = allBelow (M₂ .states) (entrySame S q₁)
+
+  -- S differs from F S in row q1; in some row below q
+  abbrev pub rowChanged : (ℕ → ℕ → ℕ) → ℕ → Bool
+  rowChanged S q₁ = not (rowSame S q₁)
+
+  unfoldable pub changedBelow : (ℕ → ℕ → ℕ) → ℕ → Bool
+  changedBelow S q = not (allBelow q (rowSame S))
+
+  -- 'A table S is a simulation when S = F(S)', as a test
+  unfoldable pub simulationTest : (ℕ → ℕ → ℕ) → Bool
+  simulationTest S = allBelow (M₁ .states) (rowSame S)
