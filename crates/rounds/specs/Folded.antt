@@ -1,13 +1,13 @@
 -- What a loop that goes up from 0 has done so far: a fold (finite meets and joins are such), a count, a test. For invariants.
 -- Rests on theory's Lattice, Simulation, Loop, Test.
-use Prim.Native.Nat.{ℕ, zero, suc, _+_, _*_, _≤_, _<_}
+use Prim.Native.Nat.{ℕ, zero, suc, _+_, _*_, _/_, _≤_, _<_}
 use mathlib.Core.Path.{_≡_, refl, sym, ap, ap₂, _∙_}
 use mathlib.Core.Bool.{Bool, true, false}
 use native.Mathlib.Nat.{le-refl, div-lt-iff-lt-mul}
 use native.Mathlib.Numerals.{add-one}
 use native.Mathlib.Omega.{arith}
 use Rattle.theory.specs.Lattice.{Ops, bigMeet, bigJoin}
-use Rattle.theory.specs.Simulation.{one, count, perCent}
+use Rattle.theory.specs.Simulation.{one, count}
 use Rattle.theory.specs.Loop.{count-none, count-more}
 use Rattle.theory.specs.Test.{allBelow, all-none, all-more, all-done}
 
@@ -87,6 +87,6 @@ passed-more {f} {n} u e = record { eq = all-more n f (u .eq) e }
 pub passed-all : {f : ℕ → Bool} {i n : ℕ} → Passed f i → i ≤ n → n ≤ i → true ≡ allBelow n f
 passed-all {f} {i} {n} u p q = sym (all-done n i f p q (u .eq))
 
--- a per cent is at most 100
-pub percent-most : (c t : ℕ) → 0 < t → c ≤ t → perCent c t ≤ 100
-percent-most c t p h = let l : perCent c t < 101 = div-lt-iff-lt-mul {k = 2 * t} {x = 200 * c + t} {y = 101} (omega arith) .1 (omega arith) in omega arith
+-- a quotient by twice t, as a per cent is, fits a byte
+pub percent-fits : {x t : ℕ} → 0 < t → x < 256 * (2 * t) → x / (2 * t) < 256
+percent-fits {x} {t} p h = div-lt-iff-lt-mul {k = 2 * t} {x = x} {y = 256} (omega arith) .1 h

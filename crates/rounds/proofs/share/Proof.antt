@@ -1,7 +1,7 @@
 -- `rounds::share` meets its contract: the count, as a per cent. Assumes nothing.
 use native.Mathlib.Omega.{arith}
 use Rattle.theory.specs.Simulation.{share}
-use Rattle.rounds.specs.Folded.{percent-most}
+use Rattle.rounds.specs.Folded.{percent-fits}
 use borrow.Author.Needs.{needs}
 use Rattle.rounds.proofs.share.Statement.{statement}
 use Rattle.rounds.proofs.share.Tie as tie
@@ -22,7 +22,9 @@ div-result : tie.Need-div-result
 div-result c = search needs
 
 cast-result : tie.Need-cast-result
-cast-result c = let b = c .before .before in omega (arith, percent-most (c .count-from .result) (b .args .n) (b .pre .0) (c .count-from .ensures .most))
+cast-result c =
+    let b = c .before .before in
+    record { fits = percent-fits {t = b .args .n} (b .pre .0) (omega (arith, c .count-from .ensures .most)) }
 
 returns : tie.Need-returns
 unfolding share
