@@ -1,0 +1,2 @@
+-- Definitions of `rounds_timing`.
+pub mod Full
