@@ -1,0 +1,211 @@
+-- The answer at a place, by the code there: one law for each arm of the valuer, and that its parts stand where it looks for them.
+-- Rests on Node, Code, Places.
+use Prim.Native.Nat.{ℕ, _+_, _*_, _-_, _≤_, _<_}
+use mathlib.Core.Path.{_≡_, refl, sym, ap, ap₂, _∙_, subst}
+use mathlib.Core.Logic.{_⊎_, inl, inr, ⊎-elim}
+use mathlib.Core.List.{List}
+use native.Mathlib.Nat.{le-refl, eq-or-lt-of-le}
+use native.Mathlib.Omega.{arith}
+use borrow.Author.Tests.{ltb-true}
+use lib.ListN.{length, getD, replicate, getD-replicate, length-append}
+use Rattle.theory.specs.Lattice.{imp}
+use Rattle.theory.specs.Folds.{bigMeet-cong}
+use Rattle.theory.specs.Formula.{Formula, bottom, top, and, boundBy, overProps}
+use Rattle.theory.specs.Fixpoint.{allNext-cong, someNext-cong}
+use Rattle.theory.specs.Loop.{Filled}
+use Rattle.theory.specs.Part.{modelOf}
+use Rattle.theory.specs.Value.{eval, valueAt, wholeValue}
+use Rattle.operations.specs.Table.{opsIn, meetIn, joinIn}
+use Rattle.operations.specs.declared.Lattice.{Lattice}
+use Rattle.formula.specs.Bytes.{bytesOf}
+use Rattle.valuer.specs.declared.Valued.{Valued}
+use Rattle.valuer.specs.Values.{Reads, fromInitial, Values, WholeValue}
+use Rattle.valuer.specs.Code.{literal, combine, nextOf, startOf}
+use Rattle.valuer.specs.Node.{Spelled, Here, Holds, slotOf, Answer, Node, Iterated}
+use Rattle.valuer.proofs.Loops.{filled-as}
+use Rattle.valuer.proofs.Places.{build, Parts, Numbered, inside, code-small, by-code, of-prop, of-negated, of-var, of-or, of-and, of-AX, of-EX, of-mu, of-nu, read-spelled}
+
+-- the same value at all 64 places
+everywhere : (n a : ℕ) (f : ℕ → ℕ) → n ≤ 64 → ((q : ℕ) → a ≡ f q) → Filled f n (replicate 64 a)
+everywhere n a f l e = record { at = λ q b. getD-replicate 64 q a 0 (omega arith) ∙ e q }
+
+-- a code of a pair
+pub either : (c a : ℕ) → a ≤ c → c ≤ a + 1 → (c ≡ a) ⊎ (c ≡ a + 1)
+either c a l b = ⊎-elim (λ e. inl (sym e)) (λ w. inr (omega arith)) (eq-or-lt-of-le l)
+
+-- ---- the parts of what stands at a place stand there too
+
+-- a proposition's number
+pub record Number (f : List ℕ) (at k : ℕ) : Type 0 where
+  pub inside : at + 1 < length f
+  pub small : getD f (at + 1) 0 < k
+
+number : {f : List ℕ} {at k p : ℕ} → Numbered f at p → p < k → Number f at k
+number w l = record { inside = w .inside; small = omega (arith, w .number) }
+
+here : {f : List ℕ} {at d k : ℕ} {φ : Formula} → Spelled f at d k φ → Here f at k
+here {d = d} {φ = φ} s = record { depth = d; formula = φ; spelled = s }
+
+module _ {f : List ℕ} {at k : ℕ} where
+  -- of a formula with a known code
+  known : (c : ℕ) → getD f at 0 ≡ c → (Q : Type 0) → ((d p : ℕ) (g h : Formula) → Spelled f at d k (build c p g h) → Q) → Here f at k → Q
+  known c e Q w x = by-code (x .spelled) c e (λ φ. Spelled f at (x .depth) k φ → Q) (w (x .depth)) (x .spelled)
+
+  pub here-inside : Here f at k → at < length f
+  here-inside x = inside (x .spelled)
+
+  pub here-number : (getD f at 0 ≡ 2) ⊎ (getD f at 0 ≡ 3) → Here f at k → Number f at k
+  unfolding overProps
+  here-number c x =
+      ⊎-elim
+      (λ e. known 2 e _ (λ d p g h s. number (of-prop p s) (ltb-true p k (s .over))) x)
+      (λ e. known 3 e _ (λ d p g h s. number (of-negated p s) (ltb-true p k (s .over))) x) c
+
+  pub here-variable : getD f at 0 ≡ 4 → Here f at k → at + 1 < length f
+  here-variable e x = known 4 e _ (λ d p g h s. of-var p s .inside) x
+
+  pub here-first : (getD f at 0 ≡ 5) ⊎ (getD f at 0 ≡ 6) → Here f at k → Here f (at + 1) k
+  here-first c x =
+      ⊎-elim
+      (λ e. known 5 e _ (λ d p g h s. here (of-or g h s .first)) x)
+      (λ e. known 6 e _ (λ d p g h s. here (of-and g h s .first)) x) c
+
+  pub here-inner : (getD f at 0 ≡ 7) ⊎ (getD f at 0 ≡ 8) → Here f at k → Here f (at + 1) k
+  here-inner c x =
+      ⊎-elim
+      (λ e. known 7 e _ (λ d p g h s. here (of-AX g s)) x)
+      (λ e. known 8 e _ (λ d p g h s. here (of-EX g s)) x) c
+
+  pub here-body : (getD f at 0 ≡ 9) ⊎ (getD f at 0 ≡ 10) → Here f at k → Here f (at + 1) k
+  here-body c x =
+      ⊎-elim
+      (λ e. known 9 e _ (λ d p g h s. here (of-mu g s)) x)
+      (λ e. known 10 e _ (λ d p g h s. here (of-nu g s)) x) c
+
+-- the maps that the three lists hold
+pub held : (n : ℕ) (near mid far : List ℕ) (d : ℕ) → Holds n near mid far d (λ v q. getD (slotOf near mid far v) q 0)
+held n near mid far d = record { at = λ v l. record { at = λ q b. refl } }
+
+-- the second part: it begins where the answer of the first says
+pub record Second (f : List ℕ) (at k next : ℕ) : Type 0 where
+  pub further : at < next
+  pub stands : Here f next k
+
+module _ {t : List ℕ} {l : Lattice} {m f : List ℕ} {at K : ℕ} {near mid far : List ℕ} where
+  second : {x : Valued} {d : ℕ} {g h : Formula} → Parts f at d (getD m 1 0) g h → Node t l m f (at + 1) K near mid far x → Second f at (getD m 1 0) (x .next)
+  second {x} {d} {g} {h} p n =
+      let a = n .is d g _ (p .first) (held _ near mid far d) in
+      record { further = omega (arith, a .next); stands = subst (λ (i : ℕ). Here f i (getD m 1 0)) (sym (a .next)) (here (p .second)) }
+
+  pub here-second : {x : Valued} → (getD f at 0 ≡ 5) ⊎ (getD f at 0 ≡ 6) → Here f at (getD m 1 0) → Node t l m f (at + 1) K near mid far x → Second f at (getD m 1 0) (x .next)
+  here-second c y n =
+      ⊎-elim
+      (λ e. known 5 e _ (λ d p g h s. second (of-or g h s) n) y)
+      (λ e. known 6 e _ (λ d p g h s. second (of-and g h s) n) y) c
+
+-- ---- the arms
+
+module _ {t : List ℕ} {l : Lattice} {m f : List ℕ} {at K : ℕ} {near mid far : List ℕ} where
+  -- the answer for each formula with the code that stands here
+  by-one : (r : Valued) (c : ℕ) → getD f at 0 ≡ c
+      → ((d : ℕ) (e : ℕ → ℕ → ℕ) (p : ℕ) (g h : Formula) → Spelled f at d (getD m 1 0) (build c p g h) → Holds (getD m 0 0) near mid far d e → Answer t l m f at K (build c p g h) e r)
+      → Node t l m f at K near mid far r
+  by-one r c q w = record { is = λ d φ e s h. by-code s c q (λ ψ. Spelled f at d (getD m 1 0) ψ → Holds (getD m 0 0) near mid far d e → Answer t l m f at K ψ e r) (w d e) s h }
+
+  pub bottom-arm : getD f at 0 ≡ 0 → getD m 0 0 ≤ 64 → Node t l m f at K near mid far (record { values = replicate 64 (l .bottom .0); next = at + 1 })
+  unfolding bytesOf eval
+  bottom-arm q b = by-one _ 0 q (λ d e p g h s w. record { next = refl; values = everywhere _ _ _ b (λ i. refl) })
+
+  pub top-arm : getD f at 0 ≡ 1 → getD m 0 0 ≤ 64 → Node t l m f at K near mid far (record { values = replicate 64 (l .top .0); next = at + 1 })
+  unfolding bytesOf eval
+  top-arm q b = by-one _ 1 q (λ d e p g h s w. record { next = refl; values = everywhere _ _ _ b (λ i. refl) })
+
+  pub literal-arm : {v : List ℕ} → (getD f at 0 ≡ 2) ⊎ (getD f at 0 ≡ 3)
+      → Filled (λ q. literal t (getD f at 0) (modelOf m .label q (getD f (at + 1) 0))) (getD m 0 0) v → Node t l m f at K near mid far (record { values = v; next = at + 1 + 1 })
+  unfolding bytesOf eval literal
+  literal-arm c u =
+      ⊎-elim
+      (λ q. by-one _ 2 q (λ d e p g h s w. record { next = omega arith; values = filled-as u (le-refl _) (λ i b. rw (q, of-prop p s .number)) }))
+      (λ q. by-one _ 3 q (λ d e p g h s w. record { next = omega arith; values = filled-as u (le-refl _) (λ i b. rw (q, of-negated p s .number)) })) c
+
+  pub variable-arm : {v : List ℕ} → getD f at 0 ≡ 4 → v ≡ slotOf near mid far (getD f (at + 1) 0) → Node t l m f at K near mid far (record { values = v; next = at + 1 + 1 })
+  unfolding bytesOf eval boundBy
+  variable-arm {v} q u = by-one _ 4 q (λ d e p g h s w. record {
+    next = omega arith;
+    values = rw (u, of-var p s .number) (w .at p (ltb-true p d (s .bound)));
+  })
+
+  pub pair-arm : {x y : Valued} {n : ℕ} {v : List ℕ} → (getD f at 0 ≡ 5) ⊎ (getD f at 0 ≡ 6) → Node t l m f (at + 1) K near mid far x → Node t l m f (x .next) K near mid far y
+      → getD m 0 0 ≤ n → Filled (λ q. combine t (getD f at 0) (getD (x .values) q 0) (getD (y .values) q 0)) n v → Node t l m f at K near mid far (record { values = v; next = y .next })
+  unfolding bytesOf eval combine
+  pair-arm {x} {y} c nx ny b u =
+      ⊎-elim
+      (λ q. by-one _ 5 q (λ d e p g h s w.
+      let a = left d e g h (of-or g h s) w in
+      let z = right d e g h (of-or g h s) w in
+      record {
+        next = omega (arith, a .next, z .next, length-append (bytesOf g) (bytesOf h));
+        values = filled-as u b (λ i k. rw q (ap₂ (joinIn t) (a .values .at i k) (z .values .at i k)));
+      }))
+      (λ q. by-one _ 6 q (λ d e p g h s w.
+      let a = left d e g h (of-and g h s) w in
+      let z = right d e g h (of-and g h s) w in
+      record {
+        next = omega (arith, a .next, z .next, length-append (bytesOf g) (bytesOf h));
+        values = filled-as u b (λ i k. rw q (ap₂ (meetIn t) (a .values .at i k) (z .values .at i k)));
+      })) c
+    where
+      left : (d : ℕ) (e : ℕ → ℕ → ℕ) (g h : Formula) → Parts f at d (getD m 1 0) g h → Holds (getD m 0 0) near mid far d e → Answer t l m f (at + 1) K g e x
+      left d e g h p w = nx .is d g e (p .first) w
+
+      right : (d : ℕ) (e : ℕ → ℕ → ℕ) (g h : Formula) → Parts f at d (getD m 1 0) g h → Holds (getD m 0 0) near mid far d e → Answer t l m f (x .next) K h e y
+      right d e g h p w = ny .is d h e (subst (λ (i : ℕ). Spelled f i d (getD m 1 0) h) (sym (left d e g h p w .next)) (p .second)) w
+
+  pub next-arm : {x : Valued} {v : List ℕ} → (getD f at 0 ≡ 7) ⊎ (getD f at 0 ≡ 8) → Node t l m f (at + 1) K near mid far x
+      → Filled (nextOf (opsIn t l) (modelOf m) (getD f at 0) (λ q. getD (x .values) q 0)) (getD m 0 0) v → Node t l m f at K near mid far (record { values = v; next = x .next })
+  unfolding bytesOf eval nextOf
+  next-arm {x} c nx u =
+      ⊎-elim
+      (λ q. by-one _ 7 q (λ d e p g h s w.
+      let a = nx .is d g e (of-AX g s) w in
+      record {
+        next = omega (arith, a .next);
+        values = filled-as u (le-refl _) (λ i k. rw q (allNext-cong (opsIn t l) (modelOf m) _ _ (a .values .at) i));
+      }))
+      (λ q. by-one _ 8 q (λ d e p g h s w.
+      let a = nx .is d g e (of-EX g s) w in
+      record {
+        next = omega (arith, a .next);
+        values = filled-as u (le-refl _) (λ i k. rw q (someNext-cong (opsIn t l) (modelOf m) _ _ (a .values .at) i));
+      })) c
+
+  pub fixpoint-arm : {r : Valued} → (getD f at 0 ≡ 9) ⊎ (getD f at 0 ≡ 10) → {s₀ : ℕ} → s₀ ≡ startOf l (getD f at 0) → Iterated t l m f (at + 1) K near mid s₀ r → Node t l m f at K near mid far r
+  unfolding bytesOf eval startOf
+  fixpoint-arm {r} c {s₀} z n =
+      ⊎-elim
+      (λ q. by-one _ 9 q (λ d e p g h s w.
+      let a = n .is d g e far (of-mu g s) w in
+      record { next = omega (arith, a .next); values = rw (z, q) at (a .values) }))
+      (λ q. by-one _ 10 q (λ d e p g h s w.
+      let a = n .is d g e far (of-nu g s) w in
+      record { next = omega (arith, a .next); values = rw (z, q) at (a .values) })) c
+
+  -- no formula begins with another code
+  pub no-arm : (r : Valued) → 11 ≤ getD f at 0 → Node t l m f at K near mid far r
+  no-arm r b = record { is = λ d φ e s w. absurd (omega (arith, code-small s)) }
+
+-- ---- a whole part
+
+pub here-read : (m f : List ℕ) → Reads m f → Here f 0 (getD m 1 0)
+here-read m f w = here (read-spelled (getD m 1 0) f (w .0) (w .1))
+
+pub part-values : {t : List ℕ} {l : Lattice} {m f : List ℕ} {K : ℕ} {near mid far : List ℕ} {r : Valued} → Node t l m f 0 K near mid far r
+    → K ≡ getD m 0 0 * (l .size - 1) → Values t l m f (r .values)
+unfolding valueAt
+part-values {l = l} {m} {f} n z =
+    record { are = λ φ e. rw z at (n .is 0 φ (λ v q. l .bottom .0) (read-spelled (getD m 1 0) f φ e) (record { at = λ v b. absurd (omega arith) }) .values) }
+
+pub part-whole : {t : List ℕ} {l : Lattice} {m f : List ℕ} {x : List ℕ} {r : ℕ} → Values t l m f x → r ≡ fromInitial (opsIn t l) (modelOf m) (λ q. getD x q 0) → WholeValue t l m f r
+unfolding wholeValue
+part-whole {t} {l} {m} v e =
+    record { is = λ φ w. e ∙ bigMeet-cong (opsIn t l) (getD m 0 0) _ _ (λ q b. ap (imp (opsIn t l) (modelOf m .initial q)) (v .are φ w .at q b)) }

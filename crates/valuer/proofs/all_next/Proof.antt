@@ -1,0 +1,64 @@
+-- `valuer::all_next` meets its contract: the entries so far are AX at their states.
+use mathlib.Core.Path.{_≡_, refl}
+use Prim.Native.Nat.{_≤_, _-_}
+use native.Mathlib.Omega.{arith}
+use lib.ListN.{length, getD, length-set}
+use borrow.Author.Needs.{needs}
+use Rattle.theory.specs.Part.{modelOf}
+use Rattle.theory.specs.Value.{allNext}
+use Rattle.theory.specs.Loop.{Filled, filled-none, filled-more}
+use Rattle.operations.specs.Table.{opsIn}
+use Rattle.valuer.proofs.Loops.{filled-to}
+use Rattle.valuer.proofs.all_next.Statement.{statement}
+use Rattle.valuer.proofs.all_next.Tie as tie
+
+abbrev Inv-loop : tie.InvT-loop
+Inv-loop t l m x n out₀ q₀ out q = (q ≤ n) × (length out ≡ 64) × Filled (allNext (opsIn t l) (modelOf m) (λ s. getD x s 0)) q out
+
+abbrev μ-loop : tie.MeasureT-loop
+μ-loop t l m x n out₀ q₀ out q = n - q
+
+states-requires : tie.Need-states-requires Inv-loop μ-loop
+states-requires c κs = search needs
+
+loop-holds : tie.Need-loop-holds Inv-loop μ-loop
+loop-holds c = (omega arith, refl, filled-none)
+
+state-requires : tie.Need-state-requires Inv-loop μ-loop
+state-requires c κs = omega arith
+
+all-next-at-requires : tie.Need-all-next-at-requires Inv-loop μ-loop
+all-next-at-requires c κs = (c .before .before .before .before .before .pre, omega arith)
+
+array-write-out : tie.Need-array-write-out Inv-loop μ-loop
+array-write-out c = omega arith
+
+add-q : tie.Need-add-q Inv-loop μ-loop
+add-q c = omega arith
+
+loop-less : tie.Need-loop-less Inv-loop μ-loop
+loop-less c = omega arith
+
+loop-again : tie.Need-loop-again Inv-loop μ-loop
+loop-again c =
+    let i = c .before .before .before .loop .inv in
+    (omega arith, simp length-set (i .1), filled-more (i .2) (omega arith) (rw (c .before .state .ensures) at (c .all-next-at .ensures)))
+
+returns : tie.Need-returns Inv-loop μ-loop
+returns c = filled-to (c .before .loop .inv .2) (omega arith)
+
+pub all-next-spec : {M : Type 1} → statement M
+all-next-spec =
+    tie.close
+    (tie.spec
+    Inv-loop
+    μ-loop
+    states-requires
+    loop-holds
+    state-requires
+    all-next-at-requires
+    array-write-out
+    add-q
+    loop-less
+    loop-again
+    returns)

@@ -1,0 +1,32 @@
+-- `valuer::round_limit` meets its contract.
+use mathlib.Core.Path.{_≡_, sym, _∙_, ap, ap₂}
+use Prim.Native.Nat.{ℕ, _*_, _-_}
+use native.Mathlib.Nat.{mul-zero}
+use native.Mathlib.Omega.{arith}
+use lib.ListN.{getD}
+use borrow.Author.Needs.{needs}
+use Rattle.model.specs.Places.{prod-le}
+use Rattle.valuer.proofs.round_limit.Statement.{statement}
+use Rattle.valuer.proofs.round_limit.Tie as tie
+
+states-requires : tie.Need-states-requires
+states-requires c κs = search needs
+
+wide-requires : tie.Need-wide-requires
+wide-requires c κs = search needs
+
+returns : tie.Need-returns
+returns c = let z : c .before .before .before .before .args .l .size - 1 ≡ 0 = omega arith in let n = getD (c .before .before .before .before .args .m .now) 0 0 in sym (ap (λ (i : ℕ). n * i) z ∙ mul-zero n)
+
+sub-result : tie.Need-sub-result
+sub-result c = search needs
+
+mul-result : tie.Need-mul-result
+mul-result c = omega (arith, prod-le (c .before .before .states .result) (c .before .wide .result - 1) 64 255 (omega (arith, c .before .before .before .before .pre .states-most)) (omega arith))
+
+returns-2 : tie.Need-returns-2
+returns-2 c = ap₂ _*_ (c .before .before .states .ensures) (ap (λ (i : ℕ). i - 1) (c .before .wide .ensures .0))
+
+pub round-limit-spec : {M : Type 1} → statement M
+round-limit-spec =
+    tie.close (tie.spec states-requires wide-requires returns sub-result mul-result returns-2)

@@ -1,0 +1,58 @@
+-- `valuer::same` meets its contract: the entries so far are the same.
+use mathlib.Core.Path.{_≡_, sym}
+use mathlib.Core.Bool.{true}
+use Prim.Native.Nat.{_≤_, _-_}
+use native.Mathlib.Omega.{arith}
+use lib.Dec.{eqb}
+use lib.ListN.{getD}
+use borrow.Author.Tests.{eq-eqb, ne-eqb}
+use Rattle.theory.specs.Test.{allBelow, all-none, all-more, all-fails, all-done}
+use Rattle.valuer.proofs.same.Statement.{statement}
+use Rattle.valuer.proofs.same.Tie as tie
+
+abbrev Inv-loop : tie.InvT-loop
+Inv-loop n x y q₀ q = (q ≤ n) × (allBelow q (λ s. eqb (getD x s 0) (getD y s 0)) ≡ true)
+
+abbrev μ-loop : tie.MeasureT-loop
+μ-loop n x y q₀ q = n - q
+
+loop-holds : tie.Need-loop-holds Inv-loop μ-loop
+loop-holds c = (omega arith, all-none _)
+
+element-copy-out-if1 : tie.Need-element-copy-out-if1 Inv-loop μ-loop
+element-copy-out-if1 c = omega arith
+
+element-copy-out-if1-2 : tie.Need-element-copy-out-if1-2 Inv-loop μ-loop
+element-copy-out-if1-2 c = omega arith
+
+returns : tie.Need-returns Inv-loop μ-loop
+returns c = sym (all-fails _ (c .before .before .before .before .loop .q) _ (c .before .before .before .loop-test .taken) (ne-eqb _ _ (c .if1 .taken)))
+
+add-q : tie.Need-add-q Inv-loop μ-loop
+add-q c = omega arith
+
+loop-less : tie.Need-loop-less Inv-loop μ-loop
+loop-less c = omega arith
+
+loop-again : tie.Need-loop-again Inv-loop μ-loop
+loop-again c =
+    let i = c .before .before .before .before .loop .inv in
+    (omega arith, all-more _ _ (i .1) (eq-eqb _ _ (c .if1 .left)))
+
+returns-2 : tie.Need-returns-2 Inv-loop μ-loop
+returns-2 c = let i = c .before .loop .inv in sym (all-done _ _ _ (i .0) (c .loop-test .left) (i .1))
+
+pub same-spec : {M : Type 1} → statement M
+same-spec =
+    tie.close
+    (tie.spec
+    Inv-loop
+    μ-loop
+    loop-holds
+    element-copy-out-if1
+    element-copy-out-if1-2
+    returns
+    add-q
+    loop-less
+    loop-again
+    returns-2)

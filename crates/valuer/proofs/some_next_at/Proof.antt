@@ -1,0 +1,71 @@
+-- `valuer::some_next_at` meets its contract: the join so far, over any lattice whose bottom is the first value.
+use Prim.Native.Nat.{_≤_, _-_}
+use native.Mathlib.Omega.{arith}
+use borrow.Author.Needs.{needs}
+use Rattle.valuer.proofs.Loops.{Joined, joined-none, joined-more, joined-done}
+use Rattle.valuer.proofs.some_next_at.Statement.{statement}
+use Rattle.valuer.proofs.some_next_at.Tie as tie
+
+abbrev Inv-loop : tie.InvT-loop
+Inv-loop t m x n row so-far₀ s₀ so-far s = (s ≤ n) × Joined t m x row so-far₀ s so-far
+
+abbrev μ-loop : tie.MeasureT-loop
+μ-loop t m x n row so-far₀ s₀ so-far s = n - s
+
+states-requires : tie.Need-states-requires Inv-loop μ-loop
+states-requires c κs = search needs
+
+transition-row-requires : tie.Need-transition-row-requires Inv-loop μ-loop
+transition-row-requires c κs = search needs
+
+loop-holds : tie.Need-loop-holds Inv-loop μ-loop
+loop-holds c = (omega arith, joined-none)
+
+add-t12 : tie.Need-add-t12 Inv-loop μ-loop
+add-t12 c = omega (arith, c .before .before .before .before .before .good .1 .1 .0)
+
+shared-slice-read-t14 : tie.Need-shared-slice-read-t14 Inv-loop μ-loop
+shared-slice-read-t14 c = omega arith
+
+element-copy-out-t18 : tie.Need-element-copy-out-t18 Inv-loop μ-loop
+element-copy-out-t18 c = omega arith
+
+some-step-requires : tie.Need-some-step-requires Inv-loop μ-loop
+some-step-requires c κs = search needs
+
+join-requires : tie.Need-join-requires Inv-loop μ-loop
+join-requires c κs = search needs
+
+add-s : tie.Need-add-s Inv-loop μ-loop
+add-s c = omega arith
+
+loop-less : tie.Need-loop-less Inv-loop μ-loop
+loop-less c = omega arith
+
+loop-again : tie.Need-loop-again Inv-loop μ-loop
+loop-again c = (omega arith, joined-more (c .before .before .before .before .before .loop .inv .1) (c .before .some-step .ensures) (c .join .ensures))
+
+returns : tie.Need-returns Inv-loop μ-loop
+returns c =
+    joined-done (c .before .before .before .before .before .args .l) (c .before .before .before .before .before .args .q .0)
+    (c .before .loop .inv .1) (c .before .loop .inv .0) (c .loop-test .left)
+    (c .before .before .before .states .ensures) (c .before .before .transition-row .ensures .0)
+
+pub some-next-at-spec : {M : Type 1} → statement M
+some-next-at-spec =
+    tie.close
+    (tie.spec
+    Inv-loop
+    μ-loop
+    states-requires
+    transition-row-requires
+    loop-holds
+    add-t12
+    shared-slice-read-t14
+    element-copy-out-t18
+    some-step-requires
+    join-requires
+    add-s
+    loop-less
+    loop-again
+    returns)

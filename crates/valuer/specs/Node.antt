@@ -1,0 +1,63 @@
+-- What stands at a place of a formula part, and what the valuer of that place answers. Rests on theory's Value, operations' Table,
+-- formula's Bytes.
+use Prim.Native.Nat.{ℕ, suc, _+_, _≤_, _<_}
+use mathlib.Core.Path.{_≡_}
+use mathlib.Core.Bool.{true, cond}
+use mathlib.Core.List.{List, _++_}
+use lib.Dec.{eqb}
+use lib.ListN.{length, getD, drop}
+use Rattle.theory.specs.Lattice.{Ops}
+use Rattle.theory.specs.Model.{Model}
+use Rattle.theory.specs.Formula.{Formula, boundBy, overProps, nestedBinders}
+use Rattle.theory.specs.Value.{iterate, bind, eval}
+use Rattle.theory.specs.Loop.{Filled}
+use Rattle.theory.specs.Part.{modelOf}
+use Rattle.operations.specs.Table.{opsIn}
+use Rattle.operations.specs.declared.Lattice.{Lattice}
+use Rattle.formula.specs.Bytes.{bytesOf}
+use Rattle.valuer.specs.declared.Valued.{Valued}
+
+-- At place `at` of f stands φ, under d binders and over the propositions below k: 'At most 3 binders are nested. Every variable is bound.'
+pub record Spelled (f : List ℕ) (at d k : ℕ) (φ : Formula) : Type 0 where
+  pub rest : List ℕ
+  pub bytes : drop at f ≡ bytesOf φ ++ rest
+  pub bound : boundBy d φ ≡ true
+  pub over : overProps k φ ≡ true
+  pub nested : nestedBinders φ + d ≤ 3
+
+-- some formula stands there
+pub record Here (f : List ℕ) (at k : ℕ) : Type 0 where
+  pub depth : ℕ
+  pub formula : Formula
+  pub spelled : Spelled f at depth k formula
+
+-- The environment is three lists, the nearest binder's map first: variable v has the map of the binder v binders further out.
+unfoldable pub slotOf : List ℕ → List ℕ → List ℕ → ℕ → List ℕ
+slotOf near mid far v = cond (eqb v 0) near (cond (eqb v 1) mid far)
+
+-- they hold the environment e at the variables below d and at the first n states
+pub record Holds (n : ℕ) (near mid far : List ℕ) (d : ℕ) (e : ℕ → ℕ → ℕ) : Type 0 where
+  pub at : (v : ℕ) → v < d → Filled (e v) n (slotOf near mid far v)
+
+-- the body φ applied n times, under one more binder, from `start` at all states
+abbrev pub rounds : Ops ℕ → Model ℕ → ℕ → ℕ → Formula → (ℕ → ℕ → ℕ) → ℕ → ℕ → ℕ
+rounds O M n K φ e start = iterate n (λ x. eval O M K φ (bind x e)) (λ q. start)
+
+module _ (t : List ℕ) (l : Lattice) (m f : List ℕ) where
+  -- the answer r at place `at`: φ's values at all states, each fixpoint being its body applied K times, and the place after φ
+  pub record Answer (at K : ℕ) (φ : Formula) (e : ℕ → ℕ → ℕ) (r : Valued) : Type 0 where
+    pub next : r .next ≡ at + length (bytesOf φ)
+    pub values : Filled (eval (opsIn t l) (modelOf m) K φ e) (getD m 0 0) (r .values)
+
+  -- whatever stands there, r is its answer
+  pub record Node (at K : ℕ) (near mid far : List ℕ) (r : Valued) : Type 0 where
+    pub is : (d : ℕ) (φ : Formula) (e : ℕ → ℕ → ℕ) → Spelled f at d (getD m 1 0) φ → Holds (getD m 0 0) near mid far d e → Answer at K φ e r
+
+  -- the answer r of a fixpoint whose body φ stands at place `at`
+  pub record Fixed (at K : ℕ) (φ : Formula) (e : ℕ → ℕ → ℕ) (start : ℕ) (r : Valued) : Type 0 where
+    pub next : r .next ≡ at + length (bytesOf φ)
+    pub values : Filled (rounds (opsIn t l) (modelOf m) K K φ e start) (getD m 0 0) (r .values)
+
+  -- whatever body stands there, r is the fixpoint's answer
+  pub record Iterated (at K : ℕ) (near mid : List ℕ) (start : ℕ) (r : Valued) : Type 0 where
+    pub is : (d : ℕ) (φ : Formula) (e : ℕ → ℕ → ℕ) (far : List ℕ) → Spelled f at (suc d) (getD m 1 0) φ → Holds (getD m 0 0) near mid far d e → Fixed at K φ e start r
