@@ -1,21 +1,22 @@
 -- Theorem 8: the worked examples of document 01 that are marked as proved, in one list, and that the definitions give their values.
--- Rests on Part, Simulation, Value, Test, Loop.
+-- Rests on Part, Simulation, Value, Test, Loop, Fixpoint.
 use Prim.Native.Nat.{ℕ, zero, suc, _+_, _*_, _-_, _<_}
 use mathlib.Core.Path.{_≡_, refl}
 use mathlib.Core.Bool.{Bool, true, false, not, _&&_}
 use mathlib.Core.List.{List, [], _∷_, _++_}
 use native.Mathlib.Omega.{arith}
 use borrow.Author.Tests.{ltb-true, lt-ltb, eqb-true, eq-eqb, not-true}
-use lib.Dec.{ltb, eqb}
+use lib.Dec.{ltb, eqb, lit≤}
 use lib.ListN.{length, getD}
 use Rattle.theory.specs.Lattice.{Ops, All, imp, iff, bigMeet, bigJoin}
 use Rattle.theory.specs.Model.{Model}
-use Rattle.theory.specs.Formula.{Formula, prop, negated, AX, EX}
-use Rattle.theory.specs.Value.{allNext, someNext, eval, iterate, bind, valueAt, wholeValue}
+use Rattle.theory.specs.Formula.{Formula, prop, negated, var, and, AX, EX, nu, boundBy}
+use Rattle.theory.specs.Value.{allNext, someNext, eval, iterate, bind, valueAt, wholeValue, SameMap}
 use Rattle.theory.specs.Simulation.{propositionPart, successorPart, F, round, SameTable, FirstUnchanged, roundOf, score, count, share}
 use Rattle.theory.specs.Part.{isMeet, isJoin, meetOf, joinOf, topOf, botOf, element, opsOf, explicitPart, modelOf}
 use Rattle.theory.specs.Test.{allBelow, firstBelow, all-at, all-in, and-l, and-r, and-in, false-true}
 use Rattle.theory.specs.Loop.{tab}
+use Rattle.theory.specs.Fixpoint.{body-cong, iterate-stays}
 
 -- ---- what an example says; lattices and models are given by the bytes of their parts
 
@@ -93,6 +94,14 @@ stepNoP = 2 ∷ 1 ∷ 1 ∷ 0 ∷ 0 ∷ 0 ∷ 0 ∷ 1 ∷ 0 ∷ 0 ∷ []
 abbrev pub branches : List ℕ
 branches = 3 ∷ 1 ∷ 7 ∷ 0 ∷ 0 ∷ 3 ∷ 2 ∷ 6 ∷ 0 ∷ 6 ∷ 6 ∷ 0 ∷ 0 ∷ 0 ∷ 0 ∷ 0 ∷ 0 ∷ []
 
+-- example 1 of 000 with transitions of {a, b, c} from q1 and from q2 to q1, which give Table 1 of 000; the text leaves them to a figure
+abbrev pub reaches : List ℕ
+reaches = 3 ∷ 1 ∷ 7 ∷ 0 ∷ 0 ∷ 3 ∷ 2 ∷ 6 ∷ 0 ∷ 6 ∷ 6 ∷ 0 ∷ 7 ∷ 0 ∷ 0 ∷ 7 ∷ 0 ∷ []
+
+-- νz.p∧AXz
+abbrev pub always : Formula
+always = nu (and (prop 0) (AX (var 0)))
+
 -- one state over one element
 abbrev pub only : List ℕ
 only = 1 ∷ 0 ∷ 0 ∷ 0 ∷ []
@@ -129,6 +138,10 @@ examples =
     -- 6: 'Share of 1 in 8 is 13, of 3 in 8 is 38.'
     ∷ shareIs L2 (0 ∷ 0 ∷ 1 ∷ 0 ∷ 0 ∷ 0 ∷ 0 ∷ 0 ∷ []) 1 13
     ∷ shareIs L2 (1 ∷ 0 ∷ 1 ∷ 0 ∷ 0 ∷ 0 ∷ 0 ∷ 1 ∷ []) 1 38
+    -- Table 1 of 000: νz.p∧AXz is {a, b}, {b} and {b}
+    ∷ valueIs subsets reaches always 0 3
+    ∷ valueIs subsets reaches always 1 2
+    ∷ valueIs subsets reaches always 2 2
     -- what report prints for example 1 with formula p: score 1, and whole value 1 on both models
     ∷ scoreIs L3 middleP middleP 2 1
     ∷ wholeIs L3 middleP (prop 0) 1
@@ -153,6 +166,24 @@ module _ (O : Ops ℕ) (M₁ M₂ : Model ℕ) where
         least = λ t p l s. false-true (not-true _ (all-at T _ w t l)) (passed t p s);
       }
 
+-- ---- Table 1 of 000, row by row
+
+-- row t of the table: the body applied t times, from top; 21 is states * (n - 1)
+abbrev z : ℕ → ℕ → ℕ
+z t = iterate t (λ x. eval (opsOf (explicitPart subsets)) (modelOf reaches) 21 (and (prop 0) (AX (var 0))) (bind x (λ v q. 0))) (λ q. 7)
+
+-- 'A fixed-point is reached when z2 = z3'
+z-fixed : SameMap (opsOf (explicitPart subsets)) (modelOf reaches) (z 3) (z 2)
+unfolding iterate bind eval allNext bigMeet imp meetOf joinOf topOf isMeet isJoin element allBelow firstBelow
+z-fixed zero l = refl
+z-fixed (suc zero) l = refl
+z-fixed (suc (suc zero)) l = refl
+z-fixed (suc (suc (suc q))) l = absurd (omega arith)
+
+table1 : (q : ℕ) → q < 3 → valueAt (opsOf (explicitPart subsets)) (modelOf reaches) always q ≡ z 2 q
+unfolding valueAt eval topOf botOf allBelow firstBelow boundBy
+table1 = iterate-stays (opsOf (explicitPart subsets)) (modelOf reaches) _ (body-cong (opsOf (explicitPart subsets)) (modelOf reaches) 21 0 (and (prop 0) (AX (var 0))) refl (λ v q. 0)) (λ q. 7) 2 z-fixed 21 (lit≤ tt)
+
 -- ---- Theorem 8
 
 -- a pair, so that the proofs stand in the order of the list
@@ -171,5 +202,6 @@ examples-hold =
     & refl & refl
     & settles-by-test _ _ _ 1 refl refl
     & refl & refl
+    & table1 0 (lit≤ tt) & table1 1 (lit≤ tt) & table1 2 (lit≤ tt)
     & refl & refl
     & tt

@@ -1,7 +1,8 @@
--- Theorem 2: values are monotone in the environment; a fixpoint's value is the least (greatest) map that its body sends to
--- itself; the number of applications of a body does not matter from states * (n - 1) on. Rests on Value, Folds, Descent.
+-- Theorem 2: values are monotone in the environment; a fixpoint's value is the least (greatest) map that its body sends to itself;
+-- the number of applications of a body does not matter from states * (n - 1) on; so values are those of the latticed mu-calculus.
+-- Rests on Value, Calculus, Folds, Descent.
 use Prim.Native.Nat.{ℕ, zero, suc, _+_, _*_, _-_, _≤_, _<_}
-use mathlib.Core.Path.{_≡_, refl, ap₂}
+use mathlib.Core.Path.{_≡_, refl, sym, ap₂, _∙_}
 use mathlib.Core.Bool.{Bool, true, false, _&&_}
 use mathlib.Core.List.{List}
 use native.Mathlib.Nat.{mul-one, le-refl, le-trans, not-suc-le-zero}
@@ -11,8 +12,9 @@ use borrow.Author.Tests.{ltb-true}
 use lib.ListN.{length}
 use Rattle.theory.specs.Lattice.{Ops, Laws, Below, Element, Chain, imp, bigMeet, bigJoin}
 use Rattle.theory.specs.Model.{Model, Valued}
-use Rattle.theory.specs.Formula.{Formula, bottom, top, prop, negated, var, or, and, AX, EX, mu, nu, boundBy, overProps}
-use Rattle.theory.specs.Value.{iterate, bind, allNext, someNext, eval, enough, valueAt, LeastFixpoint, GreatestFixpoint}
+use Rattle.theory.specs.Formula.{Formula, bottom, top, prop, negated, var, or, and, AX, EX, mu, nu, boundBy, overProps, closed}
+use Rattle.theory.specs.Value.{iterate, bind, allNext, someNext, eval, enough, valueAt, ToElements, SameMap, BelowMap, LeastFixpoint, GreatestFixpoint}
+use Rattle.theory.specs.Calculus.{Present, Calculus}
 use Rattle.theory.specs.Folds.{meet-mono, join-mono, imp-mono, bigMeet-mono, bigJoin-mono, bigMeet-cong, bigJoin-cong, bigMeet-element, bigJoin-element}
 use Rattle.theory.specs.Test.{and-l, and-r}
 use Rattle.theory.specs.Descent.{Preorder, Unlowered, First, first-unlowered, downwards, upwards, apart-length, apart-length-up}
@@ -20,33 +22,29 @@ use Rattle.theory.specs.Descent.{Preorder, Unlowered, First, first-unlow
 -- ---- a value reads maps and environments only at the states, and an environment only at the variables in scope
 
 module _ {A : Type 0} (O : Ops A) (M : Model A) where
-  -- two maps agree at the states
-  abbrev pub SameMap : (ℕ → A) → (ℕ → A) → Type 0
-  SameMap f g = (q : ℕ) → q < M .states → f q ≡ g q
-
-  pub allNext-cong : (f g : ℕ → A) → SameMap f g → (q : ℕ) → allNext O M f q ≡ allNext O M g q
+  pub allNext-cong : (f g : ℕ → A) → SameMap O M f g → (q : ℕ) → allNext O M f q ≡ allNext O M g q
   unfolding allNext
   allNext-cong f g h q = bigMeet-cong O (M .states) _ _ (λ r l. rw (h r l))
 
-  pub someNext-cong : (f g : ℕ → A) → SameMap f g → (q : ℕ) → someNext O M f q ≡ someNext O M g q
+  pub someNext-cong : (f g : ℕ → A) → SameMap O M f g → (q : ℕ) → someNext O M f q ≡ someNext O M g q
   unfolding someNext
   someNext-cong f g h q = bigJoin-cong O (M .states) _ _ (λ r l. rw (h r l))
 
   -- two environments agree at the variables below d
   abbrev pub SameEnv : ℕ → (ℕ → ℕ → A) → (ℕ → ℕ → A) → Type 0
-  SameEnv d e e' = (v : ℕ) → v < d → SameMap (e v) (e' v)
+  SameEnv d e e' = (v : ℕ) → v < d → SameMap O M (e v) (e' v)
 
-  bind-cong : (d : ℕ) (e e' : ℕ → ℕ → A) (x y : ℕ → A) → SameMap x y → SameEnv d e e' → SameEnv (suc d) (bind x e) (bind y e')
+  bind-cong : (d : ℕ) (e e' : ℕ → ℕ → A) (x y : ℕ → A) → SameMap O M x y → SameEnv d e e' → SameEnv (suc d) (bind x e) (bind y e')
   unfolding bind
   bind-cong d e e' x y b h zero l = b
   bind-cong d e e' x y b h (suc v) l = h v (omega arith)
 
-  iterate-cong : (g g' : (ℕ → A) → ℕ → A) → ((x y : ℕ → A) → SameMap x y → SameMap (g x) (g' y)) → (x : ℕ → A) (t : ℕ) → SameMap (iterate t g x) (iterate t g' x)
+  iterate-cong : (g g' : (ℕ → A) → ℕ → A) → ((x y : ℕ → A) → SameMap O M x y → SameMap O M (g x) (g' y)) → (x : ℕ → A) (t : ℕ) → SameMap O M (iterate t g x) (iterate t g' x)
   unfolding iterate
   iterate-cong g g' h x zero q l = refl
   iterate-cong g g' h x (suc t) q l = h _ _ (iterate-cong g g' h x t) q l
 
-  pub eval-cong : (K d : ℕ) (φ : Formula) → boundBy d φ ≡ true → (e e' : ℕ → ℕ → A) → SameEnv d e e' → SameMap (eval O M K φ e) (eval O M K φ e')
+  pub eval-cong : (K d : ℕ) (φ : Formula) → boundBy d φ ≡ true → (e e' : ℕ → ℕ → A) → SameEnv d e e' → SameMap O M (eval O M K φ e) (eval O M K φ e')
   unfolding eval boundBy
   eval-cong K d bottom b e e' h q l = refl
   eval-cong K d top b e e' h q l = refl
@@ -59,6 +57,15 @@ module _ {A : Type 0} (O : Ops A) (M : Model A) where
   eval-cong K d (EX f) b e e' h q l = someNext-cong _ _ (eval-cong K d f b e e' h) q
   eval-cong K d (mu f) b e e' h q l = iterate-cong _ _ (λ x y s. eval-cong K (suc d) f b _ _ (bind-cong d e e' x y s h)) _ K q l
   eval-cong K d (nu f) b e e' h q l = iterate-cong _ _ (λ x y s. eval-cong K (suc d) f b _ _ (bind-cong d e e' x y s h)) _ K q l
+
+  -- a body reads its own map only at the states
+  pub body-cong : (K d : ℕ) (f : Formula) → boundBy (suc d) f ≡ true → (e : ℕ → ℕ → A) (x y : ℕ → A) → SameMap O M x y → SameMap O M (eval O M K f (bind x e)) (eval O M K f (bind y e))
+  body-cong K d f b e x y h = eval-cong K (suc d) f b _ _ (bind-cong d e e x y h (λ v l q m. refl))
+
+  -- once an application of g changes nothing at the states, no later one does
+  pub iterate-stays : (g : (ℕ → A) → ℕ → A) → ((x y : ℕ → A) → SameMap O M x y → SameMap O M (g x) (g y)) → (x : ℕ → A) (r : ℕ) → SameMap O M (iterate (suc r) g x) (iterate r g x) → (t : ℕ) → r ≤ t → SameMap O M (iterate t g x) (iterate r g x)
+  unfolding iterate
+  iterate-stays g same x r still = le-ind (λ t. SameMap O M (iterate t g x) (iterate r g x)) (λ q l. refl) (λ t b h q l. same _ _ h q l ∙ still q l)
 
 module _ {A : Type 0} {O : Ops A} (L : Laws O) where
   -- no chain has more than n elements
@@ -108,26 +115,22 @@ module _ {A : Type 0} (W : Preorder A) (N : ℕ) where
     steps-down t q l r k = descends t q l
 
 module _ {A : Type 0} {O : Ops A} (L : Laws O) (M : Model A) where
-  -- x lies at or below y at the states
-  abbrev pub BelowMap : (ℕ → A) → (ℕ → A) → Type 0
-  BelowMap x y = (q : ℕ) → q < M .states → Below O (x q) (y q)
-
   abbrev pub BelowEnv : (ℕ → ℕ → A) → (ℕ → ℕ → A) → Type 0
-  BelowEnv e d = (v : ℕ) → BelowMap (e v) (d v)
+  BelowEnv e d = (v : ℕ) → BelowMap O M (e v) (d v)
 
-  bind-mono : (e d : ℕ → ℕ → A) (x y : ℕ → A) → BelowMap x y → BelowEnv e d → BelowEnv (bind x e) (bind y d)
+  bind-mono : (e d : ℕ → ℕ → A) (x y : ℕ → A) → BelowMap O M x y → BelowEnv e d → BelowEnv (bind x e) (bind y d)
   unfolding bind
   bind-mono e d x y b h zero = b
   bind-mono e d x y b h (suc v) = h v
 
-  iterate-mono : (f g : (ℕ → A) → ℕ → A) → ((x y : ℕ → A) → BelowMap x y → BelowMap (f x) (g y)) → (x : ℕ → A) (t : ℕ) → BelowMap (iterate t f x) (iterate t g x)
+  iterate-mono : (f g : (ℕ → A) → ℕ → A) → ((x y : ℕ → A) → BelowMap O M x y → BelowMap O M (f x) (g y)) → (x : ℕ → A) (t : ℕ) → BelowMap O M (iterate t f x) (iterate t g x)
   unfolding iterate
   iterate-mono f g h x zero q l = L .rfl _
   iterate-mono f g h x (suc t) q l = h _ _ (iterate-mono f g h x t) q l
 
   -- ---- values are monotone in the environment
 
-  pub eval-mono : (K : ℕ) (φ : Formula) (e d : ℕ → ℕ → A) → BelowEnv e d → BelowMap (eval O M K φ e) (eval O M K φ d)
+  pub eval-mono : (K : ℕ) (φ : Formula) (e d : ℕ → ℕ → A) → BelowEnv e d → BelowMap O M (eval O M K φ e) (eval O M K φ d)
   unfolding eval
   eval-mono K bottom e d h q l = L .rfl _
   eval-mono K top e d h q l = L .rfl _
@@ -145,46 +148,46 @@ module _ {A : Type 0} {O : Ops A} (L : Laws O) (M : Model A) where
   abbrev pub body : ℕ → Formula → (ℕ → ℕ → A) → (ℕ → A) → ℕ → A
   body K f e m = eval O M K f (bind m e)
 
-  pub body-mono : (K : ℕ) (f : Formula) (e : ℕ → ℕ → A) (x y : ℕ → A) → BelowMap x y → BelowMap (body K f e x) (body K f e y)
+  pub body-mono : (K : ℕ) (f : Formula) (e : ℕ → ℕ → A) (x y : ℕ → A) → BelowMap O M x y → BelowMap O M (body K f e x) (body K f e y)
   body-mono K f e x y b = eval-mono K f _ _ (bind-mono e e x y b (λ v q l. L .rfl _))
 
   -- ---- the value of a least fixpoint: the body sends it to itself, and whatever the body does not raise lies above it
 
-  pub mu-falls : (K : ℕ) → enough O M ≤ K → (f : Formula) (e : ℕ → ℕ → A) → BelowMap (body K f e (eval O M K (mu f) e)) (eval O M K (mu f) e)
+  pub mu-falls : (K : ℕ) → enough O M ≤ K → (f : Formula) (e : ℕ → ℕ → A) → BelowMap O M (body K f e (eval O M K (mu f) e)) (eval O M K (mu f) e)
   unfolding eval
   mu-falls K w f e =
       iterate-fixed (upwards L) (M .states) (O .bot) (L .bot-min) (body K f e) (λ x y. body-mono K f e y x) (O .size)
       (first-unlowered (upwards L) (O .size) (apart-length-up L (O .size) (chain-size L)) (M .states) 1 _ (steps-down (upwards L) (M .states) (O .bot) (L .bot-min) (body K f e) (λ x y. body-mono K f e y x)))
       K w
 
-  pub mu-rises : (K : ℕ) (f : Formula) (e : ℕ → ℕ → A) → BelowMap (eval O M K (mu f) e) (body K f e (eval O M K (mu f) e))
+  pub mu-rises : (K : ℕ) (f : Formula) (e : ℕ → ℕ → A) → BelowMap O M (eval O M K (mu f) e) (body K f e (eval O M K (mu f) e))
   unfolding eval
   mu-rises K f e = iterate-falls (upwards L) (M .states) (O .bot) (L .bot-min) (body K f e) (λ x y. body-mono K f e y x) K
 
-  pub mu-least : (K : ℕ) (f : Formula) (e : ℕ → ℕ → A) (y : ℕ → A) → BelowMap (body K f e y) y → BelowMap (eval O M K (mu f) e) y
+  pub mu-least : (K : ℕ) (f : Formula) (e : ℕ → ℕ → A) (y : ℕ → A) → BelowMap O M (body K f e y) y → BelowMap O M (eval O M K (mu f) e) y
   unfolding eval
   mu-least K f e y w = iterate-greatest (upwards L) (M .states) (O .bot) (L .bot-min) (body K f e) (λ x y. body-mono K f e y x) y w K
 
   -- ---- the value of a greatest fixpoint: likewise
 
-  pub nu-rises : (K : ℕ) → enough O M ≤ K → (f : Formula) (e : ℕ → ℕ → A) → BelowMap (eval O M K (nu f) e) (body K f e (eval O M K (nu f) e))
+  pub nu-rises : (K : ℕ) → enough O M ≤ K → (f : Formula) (e : ℕ → ℕ → A) → BelowMap O M (eval O M K (nu f) e) (body K f e (eval O M K (nu f) e))
   unfolding eval
   nu-rises K w f e =
       iterate-fixed (downwards L) (M .states) (O .top) (L .top-max) (body K f e) (body-mono K f e) (O .size)
       (first-unlowered (downwards L) (O .size) (apart-length L (O .size) (chain-size L)) (M .states) 1 _ (steps-down (downwards L) (M .states) (O .top) (L .top-max) (body K f e) (body-mono K f e)))
       K w
 
-  pub nu-falls : (K : ℕ) (f : Formula) (e : ℕ → ℕ → A) → BelowMap (body K f e (eval O M K (nu f) e)) (eval O M K (nu f) e)
+  pub nu-falls : (K : ℕ) (f : Formula) (e : ℕ → ℕ → A) → BelowMap O M (body K f e (eval O M K (nu f) e)) (eval O M K (nu f) e)
   unfolding eval
   nu-falls K f e = iterate-falls (downwards L) (M .states) (O .top) (L .top-max) (body K f e) (body-mono K f e) K
 
-  pub nu-greatest : (K : ℕ) (f : Formula) (e : ℕ → ℕ → A) (y : ℕ → A) → BelowMap y (body K f e y) → BelowMap y (eval O M K (nu f) e)
+  pub nu-greatest : (K : ℕ) (f : Formula) (e : ℕ → ℕ → A) (y : ℕ → A) → BelowMap O M y (body K f e y) → BelowMap O M y (eval O M K (nu f) e)
   unfolding eval
   nu-greatest K f e y w = iterate-greatest (downwards L) (M .states) (O .top) (L .top-max) (body K f e) (body-mono K f e) y w K
 
   -- ---- the count of applications does not matter, where it is enough; J and K may come from models of different sizes
 
-  pub applications-le : (K J : ℕ) → enough O M ≤ K → enough O M ≤ J → (φ : Formula) (e d : ℕ → ℕ → A) → BelowEnv e d → BelowMap (eval O M K φ e) (eval O M J φ d)
+  pub applications-le : (K J : ℕ) → enough O M ≤ K → enough O M ≤ J → (φ : Formula) (e d : ℕ → ℕ → A) → BelowEnv e d → BelowMap O M (eval O M K φ e) (eval O M J φ d)
   unfolding eval
   applications-le K J u w bottom e d b q l = L .rfl _
   applications-le K J u w top e d b q l = L .rfl _
@@ -201,11 +204,7 @@ module _ {A : Type 0} {O : Ops A} (L : Laws O) (M : Model A) where
   -- ---- values are elements, so that all of this is equality
 
   module _ (ok : Valued O M) where
-    -- the maps of the variables below d are made of elements
-    abbrev pub ElementEnv : ℕ → (ℕ → ℕ → A) → Type 0
-    ElementEnv d e = (v : ℕ) → v < d → (q : ℕ) → q < M .states → Element O (e v q)
-
-    bind-element : (d : ℕ) (e : ℕ → ℕ → A) (x : ℕ → A) → ((q : ℕ) → q < M .states → Element O (x q)) → ElementEnv d e → ElementEnv (suc d) (bind x e)
+    bind-element : (d : ℕ) (e : ℕ → ℕ → A) (x : ℕ → A) → ToElements O M x → Present O M d e → Present O M (suc d) (bind x e)
     unfolding bind
     bind-element d e x b h zero l = b
     bind-element d e x b h (suc v) l = h v (omega arith)
@@ -215,7 +214,7 @@ module _ {A : Type 0} {O : Ops A} (L : Laws O) (M : Model A) where
     iterate-element g x h b zero q l = b q l
     iterate-element g x h b (suc t) q l = h _ (iterate-element g x h b t) q l
 
-    pub eval-element : (K d : ℕ) (φ : Formula) → boundBy d φ ≡ true → overProps (M .propositions) φ ≡ true → (e : ℕ → ℕ → A) → ElementEnv d e → (q : ℕ) → q < M .states → Element O (eval O M K φ e q)
+    pub eval-element : (K d : ℕ) (φ : Formula) → boundBy d φ ≡ true → overProps (M .propositions) φ ≡ true → (e : ℕ → ℕ → A) → Present O M d e → (q : ℕ) → q < M .states → Element O (eval O M K φ e q)
     unfolding eval boundBy overProps allNext someNext
     eval-element K d bottom b o e h q l = L .bot-element
     eval-element K d top b o e h q l = L .top-element
@@ -229,25 +228,53 @@ module _ {A : Type 0} {O : Ops A} (L : Laws O) (M : Model A) where
     eval-element K d (mu f) b o e h q l = iterate-element _ _ (λ y w. eval-element K (suc d) f b o _ (bind-element d e y w h)) (λ r m. L .bot-element) K q l
     eval-element K d (nu f) b o e h q l = iterate-element _ _ (λ y w. eval-element K (suc d) f b o _ (bind-element d e y w h)) (λ r m. L .top-element) K q l
 
-    module _ (d : ℕ) (f : Formula) (b : boundBy (suc d) f ≡ true) (o : overProps (M .propositions) f ≡ true) (e : ℕ → ℕ → A) (h : ElementEnv d e) (K : ℕ) (w : enough O M ≤ K) where
-      values : (φ : Formula) → boundBy d φ ≡ true → overProps (M .propositions) φ ≡ true → (q : ℕ) → q < M .states → Element O (eval O M K φ e q)
+    module _ (d : ℕ) (f : Formula) (b : boundBy (suc d) f ≡ true) (o : overProps (M .propositions) f ≡ true) (e : ℕ → ℕ → A) (h : Present O M d e) (K : ℕ) (w : enough O M ≤ K) where
+      values : (φ : Formula) → boundBy d φ ≡ true → overProps (M .propositions) φ ≡ true → ToElements O M (eval O M K φ e)
       values φ c p = eval-element K d φ c p e h
 
-      inside : (m : ℕ → A) → ((q : ℕ) → q < M .states → Element O (m q)) → (q : ℕ) → q < M .states → Element O (body K f e m q)
-      inside m v = eval-element K (suc d) f b o _ (bind-element d e m v h)
+      inside : (x : ℕ → A) → ToElements O M x → ToElements O M (body K f e x)
+      inside x v = eval-element K (suc d) f b o _ (bind-element d e x v h)
 
-      -- the value of a least fixpoint
+      -- the value of a least fixpoint; that it lies at or below every prefixed map, too, is mu-least
       pub least-fixpoint : LeastFixpoint O M (body K f e) (eval O M K (mu f) e)
       unfolding boundBy overProps
-      least-fixpoint = record { fixed = λ q l. L .antisym (inside _ (values (mu f) b o) q l) (values (mu f) b o q l) (mu-falls K w f e q l) (mu-rises K f e q l); least = mu-least K f e }
+      least-fixpoint =
+          record {
+            elements = values (mu f) b o;
+            fixed = λ q l. L .antisym (inside _ (values (mu f) b o) q l) (values (mu f) b o q l) (mu-falls K w f e q l) (mu-rises K f e q l);
+            least = λ y i s. mu-least K f e y (λ q l. rw (s q l) (L .rfl _));
+          }
 
-      -- and of a greatest
+      -- and of a greatest; for postfixed maps: nu-greatest
       pub greatest-fixpoint : GreatestFixpoint O M (body K f e) (eval O M K (nu f) e)
       unfolding boundBy overProps
-      greatest-fixpoint = record { fixed = λ q l. L .antisym (inside _ (values (nu f) b o) q l) (values (nu f) b o q l) (nu-falls K f e q l) (nu-rises K w f e q l); greatest = nu-greatest K f e }
+      greatest-fixpoint =
+          record {
+            elements = values (nu f) b o;
+            fixed = λ q l. L .antisym (inside _ (values (nu f) b o) q l) (values (nu f) b o q l) (nu-falls K f e q l) (nu-rises K w f e q l);
+            greatest = λ y i s. nu-greatest K f e y (λ q l. rw (s q l) (L .rfl _));
+          }
+
+    -- values by enough applications are those of the calculus
+    pub calculus : (K : ℕ) → enough O M ≤ K → Calculus O M (eval O M K)
+    unfolding eval
+    calculus K w =
+        record {
+          of-bottom = λ e q. refl;
+          of-top = λ e q. refl;
+          of-prop = λ p e q. refl;
+          of-negated = λ p e q. refl;
+          of-var = λ v e q. refl;
+          of-or = λ f g e q. refl;
+          of-and = λ f g e q. refl;
+          of-AX = λ f e q. refl;
+          of-EX = λ f e q. refl;
+          of-mu = λ d f b o e h. least-fixpoint d f b o e h K w;
+          of-nu = λ d f b o e h. greatest-fixpoint d f b o e h K w;
+        }
 
     -- the same value for every count that is enough
-    pub applications-same : (K J d : ℕ) → enough O M ≤ K → enough O M ≤ J → (φ : Formula) → boundBy d φ ≡ true → overProps (M .propositions) φ ≡ true → (e : ℕ → ℕ → A) → ElementEnv d e → (q : ℕ) → q < M .states → eval O M K φ e q ≡ eval O M J φ e q
+    pub applications-same : (K J d : ℕ) → enough O M ≤ K → enough O M ≤ J → (φ : Formula) → boundBy d φ ≡ true → overProps (M .propositions) φ ≡ true → (e : ℕ → ℕ → A) → Present O M d e → (q : ℕ) → q < M .states → eval O M K φ e q ≡ eval O M J φ e q
     applications-same K J d u w φ b o e h q l =
         L .antisym (eval-element K d φ b o e h q l) (eval-element J d φ b o e h q l)
         (applications-le K J u w φ e e (λ v r m. L .rfl _) q l) (applications-le J K w u φ e e (λ v r m. L .rfl _) q l)
@@ -256,11 +283,43 @@ module _ {A : Type 0} {O : Ops A} (L : Laws O) (M : Model A) where
     unfolding valueAt
     value-element φ b o = eval-element (enough O M) 0 φ b o _ (λ v l. absurd (not-suc-le-zero l))
 
-    -- a closed fixpoint's value, as document 01 says it
-    pub value-least : (f : Formula) → boundBy 1 f ≡ true → overProps (M .propositions) f ≡ true → LeastFixpoint O M (body (enough O M) f (λ v r. O .bot)) (valueAt O M (mu f))
-    unfolding valueAt
-    value-least f b o = least-fixpoint 0 f b o _ (λ v l. absurd (not-suc-le-zero l)) (enough O M) (le-refl _)
+    -- ---- the calculus leaves no choice: two functions that are its values agree
 
-    pub value-greatest : (f : Formula) → boundBy 1 f ≡ true → overProps (M .propositions) f ≡ true → GreatestFixpoint O M (body (enough O M) f (λ v r. O .bot)) (valueAt O M (nu f))
+    module _ (u v : Formula → (ℕ → ℕ → A) → ℕ → A) (one : Calculus O M u) (two : Calculus O M v) where
+      -- two maps that are least, of bodies that agree at maps to elements
+      same-least : (f g : (ℕ → A) → ℕ → A) → ((y : ℕ → A) → ToElements O M y → SameMap O M (f y) (g y)) → (x y : ℕ → A) → LeastFixpoint O M f x → LeastFixpoint O M g y → SameMap O M x y
+      same-least f g s x y a b q l =
+          L .antisym (a .elements q l) (b .elements q l)
+          (a .least y (b .elements) (λ i j. s y (b .elements) i j ∙ b .fixed i j) q l)
+          (b .least x (a .elements) (λ i j. sym (s x (a .elements) i j) ∙ a .fixed i j) q l)
+
+      same-greatest : (f g : (ℕ → A) → ℕ → A) → ((y : ℕ → A) → ToElements O M y → SameMap O M (f y) (g y)) → (x y : ℕ → A) → GreatestFixpoint O M f x → GreatestFixpoint O M g y → SameMap O M x y
+      same-greatest f g s x y a b q l =
+          L .antisym (a .elements q l) (b .elements q l)
+          (b .greatest x (a .elements) (λ i j. sym (s x (a .elements) i j) ∙ a .fixed i j) q l)
+          (a .greatest y (b .elements) (λ i j. s y (b .elements) i j ∙ b .fixed i j) q l)
+
+      pub calculus-unique : (d : ℕ) (φ : Formula) → boundBy d φ ≡ true → overProps (M .propositions) φ ≡ true → (e : ℕ → ℕ → A) → Present O M d e → SameMap O M (u φ e) (v φ e)
+      unfolding boundBy overProps
+      calculus-unique d bottom b o e h q l = one .of-bottom e q ∙ sym (two .of-bottom e q)
+      calculus-unique d top b o e h q l = one .of-top e q ∙ sym (two .of-top e q)
+      calculus-unique d (prop p) b o e h q l = one .of-prop p e q ∙ sym (two .of-prop p e q)
+      calculus-unique d (negated p) b o e h q l = one .of-negated p e q ∙ sym (two .of-negated p e q)
+      calculus-unique d (var i) b o e h q l = one .of-var i e q ∙ sym (two .of-var i e q)
+      calculus-unique d (or f g) b o e h q l =
+          one .of-or f g e q
+          ∙ ap₂ (O .join) (calculus-unique d f (and-l _ (boundBy d g) b) (and-l _ (overProps (M .propositions) g) o) e h q l) (calculus-unique d g (and-r (boundBy d f) _ b) (and-r (overProps (M .propositions) f) _ o) e h q l)
+          ∙ sym (two .of-or f g e q)
+      calculus-unique d (and f g) b o e h q l =
+          one .of-and f g e q
+          ∙ ap₂ (O .meet) (calculus-unique d f (and-l _ (boundBy d g) b) (and-l _ (overProps (M .propositions) g) o) e h q l) (calculus-unique d g (and-r (boundBy d f) _ b) (and-r (overProps (M .propositions) f) _ o) e h q l)
+          ∙ sym (two .of-and f g e q)
+      calculus-unique d (AX f) b o e h q l = one .of-AX f e q ∙ allNext-cong O M _ _ (calculus-unique d f b o e h) q ∙ sym (two .of-AX f e q)
+      calculus-unique d (EX f) b o e h q l = one .of-EX f e q ∙ someNext-cong O M _ _ (calculus-unique d f b o e h) q ∙ sym (two .of-EX f e q)
+      calculus-unique d (mu f) b o e h q l = same-least _ _ (λ y w. calculus-unique (suc d) f b o (bind y e) (bind-element d e y w h)) _ _ (one .of-mu d f b o e h) (two .of-mu d f b o e h) q l
+      calculus-unique d (nu f) b o e h q l = same-greatest _ _ (λ y w. calculus-unique (suc d) f b o (bind y e) (bind-element d e y w h)) _ _ (one .of-nu d f b o e h) (two .of-nu d f b o e h) q l
+
+    -- demand 2: 'Formula values are those of the latticed mu-calculus'. A closed formula has no outer variables, so any will do.
+    pub value-is : (φ : Formula) → closed φ ≡ true → overProps (M .propositions) φ ≡ true → (u : Formula → (ℕ → ℕ → A) → ℕ → A) → Calculus O M u → SameMap O M (valueAt O M φ) (u φ (λ v q. O .bot))
     unfolding valueAt
-    value-greatest f b o = greatest-fixpoint 0 f b o _ (λ v l. absurd (not-suc-le-zero l)) (enough O M) (le-refl _)
+    value-is φ b o u c = calculus-unique _ u (calculus (enough O M) (le-refl _)) c 0 φ b o _ (λ v l. absurd (not-suc-le-zero l))

@@ -4,6 +4,7 @@ pub mod Lattice
 pub mod Model
 pub mod Formula
 pub mod Value
+pub mod Calculus
 pub mod Simulation
 pub mod Test
 pub mod Part

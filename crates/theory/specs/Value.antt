@@ -1,7 +1,7 @@
 -- The value of a formula at a state and on a whole model. Rests on Lattice, Model, Formula.
 use Prim.Native.Nat.{ℕ, zero, suc, _*_, _-_, _<_}
 use mathlib.Core.Path.{_≡_}
-use Rattle.theory.specs.Lattice.{Ops, Below, imp, bigMeet, bigJoin}
+use Rattle.theory.specs.Lattice.{Ops, Below, Element, imp, bigMeet, bigJoin}
 use Rattle.theory.specs.Model.{Model}
 use Rattle.theory.specs.Formula.{Formula, bottom, top, prop, negated, var, or, and, AX, EX, mu, nu}
 
@@ -15,19 +15,31 @@ unfoldable pub bind : {A : Type 0} → (ℕ → A) → (ℕ → ℕ → A) → �
 bind m env zero = m
 bind m env (suc v) = env v
 
--- ---- least and greatest fixpoints, of maps from the states of M to values; g sends maps to maps
+-- ---- least and greatest fixpoints
 
-module _ {A : Type 0} (O : Ops A) (M : Model A) (g : (ℕ → A) → ℕ → A) where
-  -- 'The least fixpoint is the least map from states to elements that its body sends to itself'; m lies at or below every map that
-  -- g sends to a map at or below it, so at or below every other fixpoint
-  pub record LeastFixpoint (m : ℕ → A) : Type 0 where
-    pub fixed : (q : ℕ) → q < M .states → g m q ≡ m q
-    pub least : (y : ℕ → A) → ((q : ℕ) → q < M .states → Below O (g y q) (y q)) → (q : ℕ) → q < M .states → Below O (m q) (y q)
+module _ {A : Type 0} (O : Ops A) (M : Model A) where
+  -- a map from states to elements
+  abbrev pub ToElements : (ℕ → A) → Type 0
+  ToElements x = (q : ℕ) → q < M .states → Element O (x q)
+
+  -- two maps agree at the states; the first is at or below the second there
+  abbrev pub SameMap : (ℕ → A) → (ℕ → A) → Type 0
+  SameMap x y = (q : ℕ) → q < M .states → x q ≡ y q
+
+  abbrev pub BelowMap : (ℕ → A) → (ℕ → A) → Type 0
+  BelowMap x y = (q : ℕ) → q < M .states → Below O (x q) (y q)
+
+  -- 'the least map from states to elements that its body sends to itself', g being the body
+  pub record LeastFixpoint (g : (ℕ → A) → ℕ → A) (x : ℕ → A) : Type 0 where
+    pub elements : ToElements x
+    pub fixed : SameMap (g x) x
+    pub least : (y : ℕ → A) → ToElements y → SameMap (g y) y → BelowMap x y
 
   -- 'the greatest likewise'
-  pub record GreatestFixpoint (m : ℕ → A) : Type 0 where
-    pub fixed : (q : ℕ) → q < M .states → g m q ≡ m q
-    pub greatest : (y : ℕ → A) → ((q : ℕ) → q < M .states → Below O (y q) (g y q)) → (q : ℕ) → q < M .states → Below O (y q) (m q)
+  pub record GreatestFixpoint (g : (ℕ → A) → ℕ → A) (x : ℕ → A) : Type 0 where
+    pub elements : ToElements x
+    pub fixed : SameMap (g x) x
+    pub greatest : (y : ℕ → A) → ToElements y → SameMap (g y) y → BelowMap y x
 
 module _ {A : Type 0} (O : Ops A) where
   -- 'AX f at q is the meet over all q' of (not R(q, q')) joined with f(q')'
@@ -39,7 +51,7 @@ module _ {A : Type 0} (O : Ops A) where
   someNext M f q = bigJoin O (M .states) (λ q'. O .meet (M .transition q q') (f q'))
 
   -- The value at a state: 'or is join, and is meet'. A fixpoint is its body applied K times, from all bottom (least) or all
-  -- top (greatest); Fixpoint.antt shows that from K = states * (n - 1) on this is the least (greatest) map that the body sends to itself.
+  -- top (greatest). Calculus.antt says what a value is without K, and from K = states * (n - 1) on this is it.
   unfoldable pub eval : Model A → ℕ → Formula → (ℕ → ℕ → A) → ℕ → A
   unfolding allNext someNext iterate bind
   eval M K bottom env q = O .bot

@@ -15,7 +15,7 @@ use Rattle.theory.specs.Value.{iterate, bind, eval}
 use Rattle.operations.specs.Table.{opsIn}
 use Rattle.operations.specs.declared.Lattice.{Lattice}
 use Rattle.valuer.specs.declared.Valued.{Valued}
-use Rattle.valuer.specs.Meaning.{body-same, stays}
+use Rattle.theory.specs.Fixpoint.{body-cong, iterate-stays}
 use Rattle.valuer.specs.Node.{Spelled, Holds, slotOf, rounds, Answer, Node, Iterated}
 
 -- ---- a map under one more binder
@@ -70,7 +70,7 @@ module _ {t : List ℕ} {l : Lattice} {m f : List ℕ} {at K : ℕ} {near mid : 
             values = record {
               at = λ q k.
                   same q k ∙ u .at q k
-                  ∙ sym (stays (getD m 0 0) (λ y. eval (opsIn t l) (modelOf m) K φ (bind y e)) (body-same (opsIn t l) (modelOf m) K d φ (s .bound) e) (λ i. start) r
+                  ∙ sym (iterate-stays (opsIn t l) (modelOf m) (λ y. eval (opsIn t l) (modelOf m) K φ (bind y e)) (body-cong (opsIn t l) (modelOf m) K d φ (s .bound) e) (λ i. start) r
                   (λ i j. sym (a .values .at i j) ∙ same i j ∙ u .at i j) K b q k);
             };
           };

@@ -6,4 +6,3 @@ pub mod Code
 pub mod Node
 -- ---- theorems
 pub mod Meaning
-pub mod Examples
