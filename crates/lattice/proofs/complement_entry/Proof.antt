@@ -1,0 +1,39 @@
+-- `lattice::complement_entry` meets its contract: by the two forms of a part. Assumes nothing.
+use mathlib.Core.Path.{sym, _∙_}
+use borrow.Author.Needs.{needs}
+use Rattle.lattice.specs.Form.{panel-complement, explicit-complement}
+use Rattle.lattice.proofs.complement_entry.Statement.{statement}
+use Rattle.lattice.proofs.complement_entry.Tie as tie
+
+is-panel-requires : tie.Need-is-panel-requires
+is-panel-requires c κs = search needs
+
+sub-result : tie.Need-sub-result
+sub-result c = panel-complement _ _ (sym (c .before .before .is-panel .ensures) ∙ c .before .if1 .taken) (c .before .before .before .before .pre .1) .0
+
+returns : tie.Need-returns
+returns c = panel-complement _ _ (sym (c .before .before .is-panel .ensures) ∙ c .before .if1 .taken) (c .before .before .before .before .pre .1) .1
+
+wide-requires : tie.Need-wide-requires
+wide-requires c κs = search needs
+
+add-result : tie.Need-add-result
+add-result c = search needs
+
+shared-slice-read-result : tie.Need-shared-slice-read-result
+shared-slice-read-result c = rw (c .before .wide .ensures .0) (explicit-complement _ _ (c .before .before .before .before .before .pre .0) (sym (c .before .before .before .is-panel .ensures) ∙ c .before .before .if1 .left) (c .before .before .before .before .before .pre .1) .0)
+
+returns-2 : tie.Need-returns-2
+returns-2 c = rw (c .before .wide .ensures .0) (explicit-complement _ _ (c .before .before .before .before .before .pre .0) (sym (c .before .before .before .is-panel .ensures) ∙ c .before .before .if1 .left) (c .before .before .before .before .before .pre .1) .1)
+
+pub complement-entry-spec : {M : Type 1} → statement M
+complement-entry-spec =
+    tie.close
+    (tie.spec
+    is-panel-requires
+    sub-result
+    returns
+    wide-requires
+    add-result
+    shared-slice-read-result
+    returns-2)

@@ -1,0 +1,75 @@
+-- `lattice::fill_order` meets its contract: the places below the counter are filled. Assumes nothing.
+use mathlib.Core.Path.{_≡_}
+use native.Mathlib.Omega.{arith}
+use borrow.Author.Needs.{needs}
+use Prim.Native.Nat.{_≤_, _-_}
+use lib.ListN.{length, length-set}
+use Rattle.theory.specs.Loop.{Filled, filled-none, filled-more}
+use Rattle.theory.specs.Part.{opsOf}
+use Rattle.lattice.specs.Reading.{latticePart}
+use Rattle.lattice.specs.Tables.{tableOf, filled-reached, order-fill}
+use Rattle.lattice.specs.Accepted.{formed}
+use Rattle.lattice.specs.Bounds.{element-lt}
+use Rattle.lattice.proofs.fill_order.Statement.{statement}
+use Rattle.lattice.proofs.fill_order.Tie as tie
+
+abbrev Inv-loop : tie.InvT-loop
+Inv-loop part t₀ n k₀ t k = (k ≤ 4096) × (length t ≡ 12352) × Filled (tableOf (opsOf (latticePart part))) k t
+
+abbrev μ-loop : tie.MeasureT-loop
+μ-loop part t₀ n k₀ t k = 4096 - k
+
+entries-requires : tie.Need-entries-requires Inv-loop μ-loop
+entries-requires c κs = search needs
+
+size-requires : tie.Need-size-requires Inv-loop μ-loop
+size-requires c κs = c .before .before .before .before .pre
+
+loop-holds : tie.Need-loop-holds Inv-loop μ-loop
+loop-holds c = (omega arith, c .before .before .entries-arg2 .given .0, filled-none)
+
+element-of-requires : tie.Need-element-of-requires Inv-loop μ-loop
+element-of-requires c κs = search needs
+
+element-of-requires-2 : tie.Need-element-of-requires-2 Inv-loop μ-loop
+element-of-requires-2 c κs = search needs
+
+order-entry-requires : tie.Need-order-entry-requires Inv-loop μ-loop
+order-entry-requires c κs =
+    let f = formed _ (c .before .before .before .before .before .before .before .before .before .pre) in
+    (c .before .before .before .before .before .before .before .before .before .pre, rw (c .before .element-of .ensures, c .before .before .before .before .size .ensures) (element-lt _ _ (f .some)), rw (c .element-of2 .ensures, c .before .before .before .before .size .ensures) (element-lt _ _ (f .some)))
+
+element-write-t : tie.Need-element-write-t Inv-loop μ-loop
+element-write-t c = omega arith
+
+add-k : tie.Need-add-k Inv-loop μ-loop
+add-k c = omega arith
+
+loop-less : tie.Need-loop-less Inv-loop μ-loop
+loop-less c = omega arith
+
+loop-again : tie.Need-loop-again Inv-loop μ-loop
+loop-again c =
+    let i = c .before .before .before .before .loop .inv in
+    (omega arith, simp length-set (i .1), filled-more (i .2) (omega (arith, i .1)) (order-fill (latticePart (c .before .before .before .before .before .before .before .before .before .before .args .part .now)) _ _ (c .before .before .before .loop-test .taken) (c .before .before .before .before .before .size .ensures) (c .before .before .element-of .ensures) (c .before .element-of2 .ensures) (c .order-entry .ensures)))
+
+returns : tie.Need-returns Inv-loop μ-loop
+returns c = filled-reached (c .before .loop .inv .2) (c .loop-test .left)
+
+pub fill-order-spec : {M : Type 1} → statement M
+fill-order-spec =
+    tie.close
+    (tie.spec
+    Inv-loop
+    μ-loop
+    entries-requires
+    size-requires
+    loop-holds
+    element-of-requires
+    element-of-requires-2
+    order-entry-requires
+    element-write-t
+    add-k
+    loop-less
+    loop-again
+    returns)

@@ -1,0 +1,55 @@
+-- `lattice::is_above` meets its contract: the test has passed at each number below the counter. Assumes nothing.
+use mathlib.Core.Path.{_≡_, sym, _∙_}
+use mathlib.Core.Bool.{true}
+use Prim.Native.Nat.{_≤_, _-_}
+use native.Mathlib.Omega.{arith}
+use borrow.Author.Needs.{needs}
+use borrow.Author.Tests.{not-true, not-false}
+use Rattle.theory.specs.Test.{allBelow, all-none, all-more, all-fails, all-done}
+use Rattle.operations.specs.Table.{atMostIn}
+use Rattle.lattice.specs.Pairs.{stepsTo, above}
+use Rattle.lattice.proofs.is_above.Statement.{statement}
+use Rattle.lattice.proofs.is_above.Tie as tie
+
+abbrev Inv-loop : tie.InvT-loop
+Inv-loop t n a b c₀ c = (c ≤ n) × (allBelow c (stepsTo (atMostIn t) (a .0) (b .0)) ≡ true)
+
+abbrev μ-loop : tie.MeasureT-loop
+μ-loop t n a b c₀ c = n - c
+
+loop-holds : tie.Need-loop-holds Inv-loop μ-loop
+loop-holds c = (omega arith, all-none _)
+
+steps-to-requires : tie.Need-steps-to-requires Inv-loop μ-loop
+steps-to-requires c κs = search needs
+
+returns : tie.Need-returns Inv-loop μ-loop
+unfolding above
+returns c = sym (all-fails _ _ _ (c .before .before .loop-test .taken) (sym (c .before .steps-to .ensures) ∙ not-true _ (c .if1 .taken)))
+
+add-c : tie.Need-add-c Inv-loop μ-loop
+add-c c = omega arith
+
+loop-less : tie.Need-loop-less Inv-loop μ-loop
+loop-less c = omega arith
+
+loop-again : tie.Need-loop-again Inv-loop μ-loop
+loop-again c = (omega arith, all-more _ _ (c .before .before .before .loop .inv .1) (sym (c .before .steps-to .ensures) ∙ not-false _ (c .if1 .left)))
+
+returns-2 : tie.Need-returns-2 Inv-loop μ-loop
+unfolding above
+returns-2 c = sym (all-done _ _ _ (c .before .loop .inv .0) (c .loop-test .left) (c .before .loop .inv .1))
+
+pub is-above-spec : {M : Type 1} → statement M
+is-above-spec =
+    tie.close
+    (tie.spec
+    Inv-loop
+    μ-loop
+    loop-holds
+    steps-to-requires
+    returns
+    add-c
+    loop-less
+    loop-again
+    returns-2)

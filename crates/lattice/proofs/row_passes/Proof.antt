@@ -1,0 +1,55 @@
+-- `lattice::row_passes` meets its contract: the test has passed at each number below the counter. Assumes nothing.
+use mathlib.Core.Path.{_≡_, sym, _∙_}
+use mathlib.Core.Bool.{true}
+use Prim.Native.Nat.{_≤_, _-_}
+use native.Mathlib.Omega.{arith}
+use borrow.Author.Needs.{needs}
+use borrow.Author.Tests.{not-true, not-false}
+use Rattle.theory.specs.Test.{allBelow, all-none, all-more, all-fails, all-done}
+use Rattle.lattice.specs.Tables.{tableOps}
+use Rattle.lattice.specs.Pairs.{pairTest, rowTest}
+use Rattle.lattice.proofs.row_passes.Statement.{statement}
+use Rattle.lattice.proofs.row_passes.Tie as tie
+
+abbrev Inv-loop : tie.InvT-loop
+Inv-loop t n rule a b₀ b = (b ≤ n) × (allBelow b (pairTest rule (tableOps n t) (a .0)) ≡ true)
+
+abbrev μ-loop : tie.MeasureT-loop
+μ-loop t n rule a b₀ b = n - b
+
+loop-holds : tie.Need-loop-holds Inv-loop μ-loop
+loop-holds c = (omega arith, all-none _)
+
+pair-passes-requires : tie.Need-pair-passes-requires Inv-loop μ-loop
+pair-passes-requires c κs = search needs
+
+returns : tie.Need-returns Inv-loop μ-loop
+unfolding rowTest
+returns c = sym (all-fails _ _ _ (c .before .before .loop-test .taken) (sym (c .before .pair-passes .ensures) ∙ not-true _ (c .if1 .taken)))
+
+add-b : tie.Need-add-b Inv-loop μ-loop
+add-b c = omega arith
+
+loop-less : tie.Need-loop-less Inv-loop μ-loop
+loop-less c = omega arith
+
+loop-again : tie.Need-loop-again Inv-loop μ-loop
+loop-again c = (omega arith, all-more _ _ (c .before .before .before .loop .inv .1) (sym (c .before .pair-passes .ensures) ∙ not-false _ (c .if1 .left)))
+
+returns-2 : tie.Need-returns-2 Inv-loop μ-loop
+unfolding rowTest
+returns-2 c = sym (all-done _ _ _ (c .before .loop .inv .0) (c .loop-test .left) (c .before .loop .inv .1))
+
+pub row-passes-spec : {M : Type 1} → statement M
+row-passes-spec =
+    tie.close
+    (tie.spec
+    Inv-loop
+    μ-loop
+    loop-holds
+    pair-passes-requires
+    returns
+    add-b
+    loop-less
+    loop-again
+    returns-2)

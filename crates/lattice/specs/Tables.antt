@@ -1,0 +1,257 @@
+-- The tables of a lattice by their places: what belongs at each, and what a filled table says. Rests on theory's Part and Loop,
+-- operations' Table, Bounds, Agree, Scan.
+use Prim.Native.Nat.{ℕ, _+_, _*_, _/_, _%_, min, max, _≤_, _<_}
+use mathlib.Core.Path.{_≡_, refl, sym, ap, ap₂, _∙_}
+use mathlib.Core.Bool.{Bool, true, false, cond}
+use mathlib.Core.List.{List}
+use native.Mathlib.Numerals.{add-one}
+use native.Mathlib.Omega.{arith}
+use borrow.Author.Tests.{ltb-true, ltb-false, lt-ltb, le-ltb, leb-true, leb-false}
+use lib.Dec.{ltb, leb, eqb}
+use lib.ListN.{getD, length, set}
+use Rattle.theory.specs.Lattice.{Ops}
+use Rattle.theory.specs.Simulation.{one}
+use Rattle.theory.specs.Loop.{Filled, filled-more}
+use Rattle.theory.specs.Test.{below-suc, not-passed}
+use Rattle.theory.specs.Part.{Part, meetOf, joinOf, topOf, botOf, element, opsOf}
+use Rattle.operations.specs.Table.{cell, atMostIn, meetIn, joinIn, complementIn, opsIn}
+use Rattle.operations.specs.declared.Lattice.{Lattice}
+use Rattle.lattice.specs.Bounds.{one-test, element-lt, element-id, element-same, reversed, join-reversed, Antisymmetric}
+use Rattle.lattice.specs.Reading.{bounded}
+use Rattle.lattice.specs.Accepted.{Formed, Ordered, Bounded, bounded-out, bounded-in}
+use Rattle.lattice.specs.Agree.{SameOrder, meet-same-order, join-same-order, meet-comm, join-comm, by-number}
+use Rattle.lattice.specs.Scan.{facing, boundFrom, bound-is-meet}
+
+-- What belongs at place k of the tables of a lattice: the order, the meets and the joins, each 64 rows of 64, then the complements.
+-- The operations read any number as an element, so that k / 64 and k stand for the row and the column.
+unfoldable pub tableOf : Ops ℕ → ℕ → ℕ
+tableOf O k =
+    cond (ltb k 4096) (one (O .atMost (k / 64) k))
+    (cond (ltb k 8192) (O .meet (k / 64) k)
+    (cond (ltb k 12288) (O .join (k / 64) k)
+    (O .neg k)))
+
+-- the operations that the tables t hold, on n elements, with no care for the bounds
+abbrev pub tableOps : ℕ → List ℕ → Ops ℕ
+tableOps n t = opsIn t (record { size = n; top = record { 0 = 0 }; bottom = record { 0 = 0 } })
+
+-- the place in the same table of the elements that place k stands for, the lesser number first
+abbrev pub placeOf : ℕ → ℕ → ℕ
+placeOf n k = k / 4096 * 4096 + (min (element n (k / 64)) (element n k) * 64 + max (element n (k / 64)) (element n k))
+
+-- the meet or join at place k: copied from an earlier place, or found from the order
+unfoldable pub boundAt : ℕ → List ℕ → ℕ → ℕ
+boundAt n t k =
+    cond (ltb (placeOf n k) k) (getD t (placeOf n k) 0)
+    (boundFrom n (facing (leb 8192 k) (atMostIn t)) (element n (k / 64)) (element n k))
+
+-- ---- a place by its region
+
+module _ (O : Ops ℕ) (k : ℕ) where
+  pub at-order : k < 4096 → tableOf O k ≡ one (O .atMost (k / 64) k)
+  unfolding tableOf
+  at-order l = rw (lt-ltb k 4096 l)
+
+  pub at-meet : 4096 ≤ k → k < 8192 → tableOf O k ≡ O .meet (k / 64) k
+  unfolding tableOf
+  at-meet l m = rw (le-ltb k 4096 l, lt-ltb k 8192 m)
+
+  pub at-join : 8192 ≤ k → k < 12288 → tableOf O k ≡ O .join (k / 64) k
+  unfolding tableOf
+  at-join l m = rw (le-ltb k 4096 (omega arith), le-ltb k 8192 l, lt-ltb k 12288 m)
+
+  pub at-neg : 12288 ≤ k → tableOf O k ≡ O .neg k
+  unfolding tableOf
+  at-neg l = rw (le-ltb k 4096 (omega arith), le-ltb k 8192 (omega arith), le-ltb k 12288 l)
+
+-- the row and the column of a place
+row-of : (c i j : ℕ) → i < 64 → j < 64 → (c * 4096 + (i * 64 + j)) / 64 % 64 ≡ i % 64
+row-of c i j l m = omega arith
+
+column-of : (c i j : ℕ) → i < 64 → j < 64 → (c * 4096 + (i * 64 + j)) % 64 ≡ j % 64
+column-of c i j l m = omega arith
+
+-- ---- what filled tables say
+
+module _ (P : Part) (t : List ℕ) (q : ℕ) (f : Filled (tableOf (opsOf P)) q t) where
+  pub filled-order : 4096 ≤ q → atMostIn t ≡ opsOf P .atMost
+  filled-order l =
+      let h : (a b : ℕ) → atMostIn t a b ≡ opsOf P .atMost a b = λ a b.
+      ap (λ x. eqb x 1) (f .at (cell a b) (omega arith) ∙ at-order (opsOf P) (cell a b) (omega arith))
+      ∙ one-test _
+      ∙ ap₂ (P .order) (element-same (P .size) _ a (omega arith)) (element-same (P .size) _ b (omega arith)) in
+      λ i a b. h a b i
+
+  pub filled-meet : 8192 ≤ q → meetIn t ≡ opsOf P .meet
+  filled-meet l =
+      let h : (a b : ℕ) → meetIn t a b ≡ opsOf P .meet a b = λ a b.
+      f .at (4096 + cell a b) (omega arith) ∙ at-meet (opsOf P) (4096 + cell a b) (omega arith) (omega arith)
+      ∙ ap₂ (meetOf P) (element-same (P .size) _ a (omega arith)) (element-same (P .size) _ b (omega arith)) in
+      λ i a b. h a b i
+
+  pub filled-join : 12288 ≤ q → joinIn t ≡ opsOf P .join
+  filled-join l =
+      let h : (a b : ℕ) → joinIn t a b ≡ opsOf P .join a b = λ a b.
+      f .at (8192 + cell a b) (omega arith) ∙ at-join (opsOf P) (8192 + cell a b) (omega arith) (omega arith)
+      ∙ ap₂ (joinOf P) (element-same (P .size) _ a (omega arith)) (element-same (P .size) _ b (omega arith)) in
+      λ i a b. h a b i
+
+  pub filled-neg : 12352 ≤ q → complementIn t ≡ opsOf P .neg
+  filled-neg l =
+      let h : (a : ℕ) → complementIn t a ≡ opsOf P .neg a = λ a.
+      f .at (12288 + a % 64) (omega arith) ∙ at-neg (opsOf P) (12288 + a % 64) (omega arith)
+      ∙ ap (P .complement) (element-same (P .size) _ a (omega arith)) in
+      λ i a. h a i
+
+  -- with the right bounds, the tables' operations are the part's
+  pub filled-ops : 12352 ≤ q → (l : Lattice) → l .size ≡ P .size → l .top .0 ≡ topOf P → l .bottom .0 ≡ botOf P → opsIn t l ≡ opsOf P
+  filled-ops c l n u d =
+      let le = filled-order (omega arith) in
+      let mt = filled-meet (omega arith) in
+      let jn = filled-join (omega arith) in
+      let ng = filled-neg c in
+      λ i. record { size = n i; isElement = λ a. ltb a (n i); atMost = le i; meet = mt i; join = jn i; neg = ng i; top = u i; bot = d i }
+
+-- ---- the step that fills the meets and the joins
+
+module _ (P : Part) (w : Formed P) (o : Ordered P) where
+  -- the part's order, read by any number
+  abbrev padded : Part
+  padded = record { size = P .size; complement = P .complement; order = opsOf P .atMost }
+
+  id : (a : ℕ) → a < P .size → element (P .size) a ≡ a
+  id a l = element-id (P .size) a (w .most) l
+
+  same-padded : SameOrder padded P
+  same-padded = record { sizes = refl; orders = λ a b l m. ap₂ (P .order) (id a l) (id b m) }
+
+  anti-padded : Antisymmetric padded
+  anti-padded = record { same = λ a b l m p q. o .anti .same a b l m (sym (same-padded .orders a b l m) ∙ p) (sym (same-padded .orders b a m l) ∙ q) }
+
+  anti-reversed : Antisymmetric (reversed padded)
+  anti-reversed = record { same = λ a b l m p q. anti-padded .same a b l m q p }
+
+  self : (a : ℕ) → a < P .size → padded .order a a ≡ true
+  self a l = same-padded .orders a a l l ∙ o .rfl a l
+
+  meet-scanned : (a b : ℕ) → a < P .size → b < P .size → boundFrom (P .size) (facing false (opsOf P .atMost)) a b ≡ meetOf P a b
+  meet-scanned a b l m = bound-is-meet padded anti-padded a b l m (self a l) (self b m) ∙ meet-same-order padded P same-padded a b l m
+
+  join-scanned : (a b : ℕ) → a < P .size → b < P .size → boundFrom (P .size) (facing true (opsOf P .atMost)) a b ≡ joinOf P a b
+  join-scanned a b l m =
+      bound-is-meet (reversed padded) anti-reversed a b l m (self a l) (self b m) ∙ sym (join-reversed padded a b) ∙ join-same-order padded P same-padded a b l m
+
+  -- a place and the place of its elements hold the same
+  same-place : (k : ℕ) → 4096 ≤ k → k < 12288 → tableOf (opsOf P) (placeOf (P .size) k) ≡ tableOf (opsOf P) k
+  same-place k l m = go (ltb k 8192) refl
+    where
+      x : element (P .size) (k / 64) < P .size
+      x = element-lt (P .size) (k / 64) (w .some)
+
+      y : element (P .size) k < P .size
+      y = element-lt (P .size) k (w .some)
+
+      z : P .size ≤ 64
+      z = w .most
+
+      row : element (P .size) (placeOf (P .size) k / 64) ≡ min (element (P .size) (k / 64)) (element (P .size) k)
+      row = element-same (P .size) _ (min (element (P .size) (k / 64)) (element (P .size) k)) (row-of (k / 4096) _ _ (omega (arith, x, y, z)) (omega (arith, x, y, z))) ∙ id _ (omega (arith, x, y))
+
+      column : element (P .size) (placeOf (P .size) k) ≡ max (element (P .size) (k / 64)) (element (P .size) k)
+      column = element-same (P .size) _ (max (element (P .size) (k / 64)) (element (P .size) k)) (column-of (k / 4096) _ _ (omega (arith, x, y, z)) (omega (arith, x, y, z))) ∙ id _ (omega (arith, x, y))
+
+      go : (t : Bool) → ltb k 8192 ≡ t → tableOf (opsOf P) (placeOf (P .size) k) ≡ tableOf (opsOf P) k
+      go true e =
+          let h = ltb-true k 8192 e in
+          at-meet _ _ (omega (arith, x, y, z)) (omega (arith, x, y, z)) ∙ ap₂ (meetOf P) row column ∙ by-number (meetOf P) (meet-comm P) _ _ ∙ sym (at-meet _ k l h)
+      go false e =
+          let h = ltb-false k 8192 e in
+          at-join _ _ (omega (arith, x, y, z)) (omega (arith, x, y, z)) ∙ ap₂ (joinOf P) row column ∙ by-number (joinOf P) (join-comm P) _ _ ∙ sym (at-join _ k h m)
+
+  -- what is found at a place, or copied, is what belongs there
+  pub bound-at : (t : List ℕ) (k : ℕ) → 4096 ≤ k → k < 12288 → Filled (tableOf (opsOf P)) k t → boundAt (P .size) t k ≡ tableOf (opsOf P) k
+  unfolding boundAt
+  bound-at t k l m f = go (ltb (placeOf (P .size) k) k) refl (leb 8192 k) refl
+    where
+      le : atMostIn t ≡ opsOf P .atMost
+      le = filled-order P t k f l
+
+      go : (p : Bool) → ltb (placeOf (P .size) k) k ≡ p → (u : Bool) → leb 8192 k ≡ u → cond p (getD t (placeOf (P .size) k) 0) (boundFrom (P .size) (facing u (atMostIn t)) (element (P .size) (k / 64)) (element (P .size) k)) ≡ tableOf (opsOf P) k
+      go true e u v = f .at _ (ltb-true _ _ e) ∙ same-place k l m
+      go false e true v =
+          ap (λ h. boundFrom (P .size) (facing true h) (element (P .size) (k / 64)) (element (P .size) k)) le
+          ∙ join-scanned _ _ (element-lt _ _ (w .some)) (element-lt _ _ (w .some))
+          ∙ sym (at-join _ k (leb-true 8192 k v) m)
+      go false e false v =
+          ap (λ h. boundFrom (P .size) (facing false h) (element (P .size) (k / 64)) (element (P .size) k)) le
+          ∙ meet-scanned _ _ (element-lt _ _ (w .some)) (element-lt _ _ (w .some))
+          ∙ sym (at-meet _ k l (leb-false 8192 k v))
+
+-- ---- the loop that fills the meets and the joins
+
+-- what it leaves: whether every two elements have both, and where they do, the tables so far
+pub record BoundsFilled (P : Part) (r : Bool) (t : List ℕ) : Type 0 where
+  pub says : r ≡ bounded P
+  pub filled : r ≡ true → Filled (tableOf (opsOf P)) 12288 t
+
+-- where it stands at place k
+pub record BoundsUpTo (P : Part) (k : ℕ) (t : List ℕ) : Type 0 where
+  pub filled : Filled (tableOf (opsOf P)) k t
+  pub inside : (j : ℕ) → 4096 ≤ j → j < k → tableOf (opsOf P) j < P .size
+
+pub bounds-none : (P : Part) (t : List ℕ) → Filled (tableOf (opsOf P)) 4096 t → BoundsUpTo P 4096 t
+bounds-none P t f = record { filled = f; inside = λ j l m. absurd (omega arith) }
+
+-- n is the part's size, and v is what the code found at place k
+module _ (P : Part) (w : Formed P) (o : Ordered P) (t : List ℕ) (n k v : ℕ) (l : 4096 ≤ k) (m : k < 12288) (u : BoundsUpTo P k t) (s : n ≡ P .size) (e : v ≡ boundAt n t k) where
+  right : v ≡ tableOf (opsOf P) k
+  right = e ∙ ap (λ n. boundAt n t k) s ∙ bound-at P w o t k l m (u .filled)
+
+  pub bounds-more : v < n → k < length t → BoundsUpTo P (k + 1) (set t k v)
+  bounds-more h b =
+      record {
+        filled = filled-more (u .filled) b right;
+        inside = λ j x y. below-suc {P = λ j. 4096 ≤ j → tableOf (opsOf P) j < P .size} (λ j z x. u .inside j x z) (λ x. rw (right, s) at h) j (rw add-one at y) x;
+      }
+
+  pub bounds-fail : n ≤ v → false ≡ bounded P
+  bounds-fail h = sym (not-passed _ (λ x. go (bounded-out P x) (ltb k 8192) refl))
+    where
+      q : v ≡ tableOf (opsOf P) k
+      q = right
+
+      go : Bounded P → (b : Bool) → ltb k 8192 ≡ b → ⊥
+      go d true c = let z = d .meet-lt _ _ (element-lt (P .size) (k / 64) (w .some)) (element-lt (P .size) k (w .some)) in omega (arith, q ∙ at-meet _ k l (ltb-true _ _ c))
+      go d false c = let z = d .join-lt _ _ (element-lt (P .size) (k / 64) (w .some)) (element-lt (P .size) k (w .some)) in omega (arith, q ∙ at-join _ k (ltb-false _ _ c) m)
+
+pub bounds-done : (P : Part) (w : Formed P) (t : List ℕ) (k : ℕ) → 12288 ≤ k → BoundsUpTo P k t → true ≡ bounded P
+bounds-done P w t k l u =
+    sym (bounded-in P (record {
+      meet-lt = λ a b x y.
+          let z = w .most in
+          let e : element (P .size) ((4096 + (a * 64 + b)) / 64) ≡ a = element-same (P .size) _ a (omega arith) ∙ element-id (P .size) a z x in
+          let d : element (P .size) (4096 + (a * 64 + b)) ≡ b = element-same (P .size) _ b (omega arith) ∙ element-id (P .size) b z y in
+          let q : tableOf (opsOf P) (4096 + (a * 64 + b)) ≡ meetOf P a b = at-meet _ _ (omega arith) (omega arith) ∙ ap₂ (meetOf P) e d in
+          rw q at (u .inside (4096 + (a * 64 + b)) (omega arith) (omega arith));
+      join-lt = λ a b x y.
+          let z = w .most in
+          let e : element (P .size) ((8192 + (a * 64 + b)) / 64) ≡ a = element-same (P .size) _ a (omega arith) ∙ element-id (P .size) a z x in
+          let d : element (P .size) (8192 + (a * 64 + b)) ≡ b = element-same (P .size) _ b (omega arith) ∙ element-id (P .size) b z y in
+          let q : tableOf (opsOf P) (8192 + (a * 64 + b)) ≡ joinOf P a b = at-join _ _ (omega arith) (omega arith) ∙ ap₂ (joinOf P) e d in
+          rw q at (u .inside (8192 + (a * 64 + b)) (omega arith) (omega arith));
+    }))
+
+-- ---- the loops' other steps
+
+pub filled-reached : {f : ℕ → ℕ} {q k : ℕ} {t : List ℕ} → Filled f k t → q ≤ k → Filled f q t
+filled-reached w l = record { at = λ i j. w .at i (omega arith) }
+
+module _ (P : Part) (n k : ℕ) where
+  pub order-fill : {a b v : ℕ} → k < 4096 → n ≡ P .size → a ≡ element n (k / 64) → b ≡ element n k → v ≡ one (P .order a b) → v ≡ tableOf (opsOf P) k
+  order-fill {a} {b} {v} l e x y h =
+      h
+      ∙ ap one (ap₂ (P .order) (x ∙ ap (λ m. element m (k / 64)) e) (y ∙ ap (λ m. element m k) e))
+      ∙ sym (at-order (opsOf P) k l)
+
+  pub complement-fill : {a v : ℕ} → 12288 ≤ k → n ≡ P .size → a ≡ element n k → v ≡ P .complement a → v ≡ tableOf (opsOf P) k
+  complement-fill {a} {v} l e x h = h ∙ ap (P .complement) (x ∙ ap (λ m. element m k) e) ∙ sym (at-neg (opsOf P) k l)

@@ -1,0 +1,1230 @@
+// The lattice part: which refusal it gets, or none, and its operations left in tables.
+use operations::Element;
+use operations::Lattice;
+use refusal::Refusal;
+ghost use mathlib.Core.Path.{_≡_};
+ghost use mathlib.Core.Bool.{true, _&&_};
+ghost use Prim.Native.Nat.{_+_, _*_, _<_, _≤_, min, max};
+ghost use lib.Dec.{ltb};
+ghost use lib.ListN.{length, getD};
+ghost use Rattle.theory.specs.Test.{allBelow};
+ghost use Rattle.theory.specs.Simulation.{one};
+ghost use Rattle.theory.specs.Loop.{Filled};
+ghost use Rattle.theory.specs.Part.{element, opsOf};
+ghost use Rattle.operations.specs.Table.{atMostIn, meetIn, joinIn, complementIn};
+ghost use Rattle.lattice.specs.Reading.{isPanel, latticePart, latticeForm, latticeReading, partialOrder, bounded};
+ghost use Rattle.lattice.specs.Check.{rulesReading};
+ghost use Rattle.lattice.specs.Answer.{Answered};
+ghost use Rattle.lattice.specs.Bounds.{boundUpTo};
+ghost use Rattle.lattice.specs.Scan.{facing, towards, lower, better, candidate, under, greatest, scanFrom, boundFrom};
+ghost use Rattle.lattice.specs.Distributive.{distributesAt, distributes, distributePair};
+ghost use Rattle.lattice.specs.Tables.{tableOf, tableOps, boundAt, BoundsFilled};
+ghost use Rattle.lattice.specs.Pairs.{stepsTo, above, orderPair, complementPair, pairTest, rowTest, allPairs};
+
+// The panel lattice's order: entry 27 i + j is 1 where i is at or below j.
+const PANEL_ORDER: [u8; 729] = [
+    1,
+    1,
+    1,
+    1,
+    1,
+    1,
+    1,
+    1,
+    1,
+    1,
+    1,
+    1,
+    1,
+    1,
+    1,
+    1,
+    1,
+    1,
+    1,
+    1,
+    1,
+    1,
+    1,
+    1,
+    1,
+    1,
+    1,
+    0,
+    1,
+    1,
+    0,
+    1,
+    1,
+    0,
+    1,
+    1,
+    0,
+    1,
+    1,
+    0,
+    1,
+    1,
+    0,
+    1,
+    1,
+    0,
+    1,
+    1,
+    0,
+    1,
+    1,
+    0,
+    1,
+    1,
+    0,
+    0,
+    1,
+    0,
+    0,
+    1,
+    0,
+    0,
+    1,
+    0,
+    0,
+    1,
+    0,
+    0,
+    1,
+    0,
+    0,
+    1,
+    0,
+    0,
+    1,
+    0,
+    0,
+    1,
+    0,
+    0,
+    1,
+    0,
+    0,
+    0,
+    1,
+    1,
+    1,
+    1,
+    1,
+    1,
+    0,
+    0,
+    0,
+    1,
+    1,
+    1,
+    1,
+    1,
+    1,
+    0,
+    0,
+    0,
+    1,
+    1,
+    1,
+    1,
+    1,
+    1,
+    0,
+    0,
+    0,
+    0,
+    1,
+    1,
+    0,
+    1,
+    1,
+    0,
+    0,
+    0,
+    0,
+    1,
+    1,
+    0,
+    1,
+    1,
+    0,
+    0,
+    0,
+    0,
+    1,
+    1,
+    0,
+    1,
+    1,
+    0,
+    0,
+    0,
+    0,
+    0,
+    1,
+    0,
+    0,
+    1,
+    0,
+    0,
+    0,
+    0,
+    0,
+    1,
+    0,
+    0,
+    1,
+    0,
+    0,
+    0,
+    0,
+    0,
+    1,
+    0,
+    0,
+    1,
+    0,
+    0,
+    0,
+    0,
+    0,
+    0,
+    1,
+    1,
+    1,
+    0,
+    0,
+    0,
+    0,
+    0,
+    0,
+    1,
+    1,
+    1,
+    0,
+    0,
+    0,
+    0,
+    0,
+    0,
+    1,
+    1,
+    1,
+    0,
+    0,
+    0,
+    0,
+    0,
+    0,
+    0,
+    1,
+    1,
+    0,
+    0,
+    0,
+    0,
+    0,
+    0,
+    0,
+    1,
+    1,
+    0,
+    0,
+    0,
+    0,
+    0,
+    0,
+    0,
+    1,
+    1,
+    0,
+    0,
+    0,
+    0,
+    0,
+    0,
+    0,
+    0,
+    1,
+    0,
+    0,
+    0,
+    0,
+    0,
+    0,
+    0,
+    0,
+    1,
+    0,
+    0,
+    0,
+    0,
+    0,
+    0,
+    0,
+    0,
+    1,
+    0,
+    0,
+    0,
+    0,
+    0,
+    0,
+    0,
+    0,
+    0,
+    1,
+    1,
+    1,
+    1,
+    1,
+    1,
+    1,
+    1,
+    1,
+    1,
+    1,
+    1,
+    1,
+    1,
+    1,
+    1,
+    1,
+    1,
+    0,
+    0,
+    0,
+    0,
+    0,
+    0,
+    0,
+    0,
+    0,
+    0,
+    1,
+    1,
+    0,
+    1,
+    1,
+    0,
+    1,
+    1,
+    0,
+    1,
+    1,
+    0,
+    1,
+    1,
+    0,
+    1,
+    1,
+    0,
+    0,
+    0,
+    0,
+    0,
+    0,
+    0,
+    0,
+    0,
+    0,
+    0,
+    1,
+    0,
+    0,
+    1,
+    0,
+    0,
+    1,
+    0,
+    0,
+    1,
+    0,
+    0,
+    1,
+    0,
+    0,
+    1,
+    0,
+    0,
+    0,
+    0,
+    0,
+    0,
+    0,
+    0,
+    0,
+    0,
+    0,
+    0,
+    1,
+    1,
+    1,
+    1,
+    1,
+    1,
+    0,
+    0,
+    0,
+    1,
+    1,
+    1,
+    1,
+    1,
+    1,
+    0,
+    0,
+    0,
+    0,
+    0,
+    0,
+    0,
+    0,
+    0,
+    0,
+    0,
+    0,
+    0,
+    1,
+    1,
+    0,
+    1,
+    1,
+    0,
+    0,
+    0,
+    0,
+    1,
+    1,
+    0,
+    1,
+    1,
+    0,
+    0,
+    0,
+    0,
+    0,
+    0,
+    0,
+    0,
+    0,
+    0,
+    0,
+    0,
+    0,
+    0,
+    1,
+    0,
+    0,
+    1,
+    0,
+    0,
+    0,
+    0,
+    0,
+    1,
+    0,
+    0,
+    1,
+    0,
+    0,
+    0,
+    0,
+    0,
+    0,
+    0,
+    0,
+    0,
+    0,
+    0,
+    0,
+    0,
+    0,
+    0,
+    1,
+    1,
+    1,
+    0,
+    0,
+    0,
+    0,
+    0,
+    0,
+    1,
+    1,
+    1,
+    0,
+    0,
+    0,
+    0,
+    0,
+    0,
+    0,
+    0,
+    0,
+    0,
+    0,
+    0,
+    0,
+    0,
+    0,
+    0,
+    1,
+    1,
+    0,
+    0,
+    0,
+    0,
+    0,
+    0,
+    0,
+    1,
+    1,
+    0,
+    0,
+    0,
+    0,
+    0,
+    0,
+    0,
+    0,
+    0,
+    0,
+    0,
+    0,
+    0,
+    0,
+    0,
+    0,
+    0,
+    1,
+    0,
+    0,
+    0,
+    0,
+    0,
+    0,
+    0,
+    0,
+    1,
+    0,
+    0,
+    0,
+    0,
+    0,
+    0,
+    0,
+    0,
+    0,
+    0,
+    0,
+    0,
+    0,
+    0,
+    0,
+    0,
+    0,
+    0,
+    1,
+    1,
+    1,
+    1,
+    1,
+    1,
+    1,
+    1,
+    1,
+    0,
+    0,
+    0,
+    0,
+    0,
+    0,
+    0,
+    0,
+    0,
+    0,
+    0,
+    0,
+    0,
+    0,
+    0,
+    0,
+    0,
+    0,
+    0,
+    1,
+    1,
+    0,
+    1,
+    1,
+    0,
+    1,
+    1,
+    0,
+    0,
+    0,
+    0,
+    0,
+    0,
+    0,
+    0,
+    0,
+    0,
+    0,
+    0,
+    0,
+    0,
+    0,
+    0,
+    0,
+    0,
+    0,
+    0,
+    1,
+    0,
+    0,
+    1,
+    0,
+    0,
+    1,
+    0,
+    0,
+    0,
+    0,
+    0,
+    0,
+    0,
+    0,
+    0,
+    0,
+    0,
+    0,
+    0,
+    0,
+    0,
+    0,
+    0,
+    0,
+    0,
+    0,
+    0,
+    1,
+    1,
+    1,
+    1,
+    1,
+    1,
+    0,
+    0,
+    0,
+    0,
+    0,
+    0,
+    0,
+    0,
+    0,
+    0,
+    0,
+    0,
+    0,
+    0,
+    0,
+    0,
+    0,
+    0,
+    0,
+    0,
+    0,
+    0,
+    1,
+    1,
+    0,
+    1,
+    1,
+    0,
+    0,
+    0,
+    0,
+    0,
+    0,
+    0,
+    0,
+    0,
+    0,
+    0,
+    0,
+    0,
+    0,
+    0,
+    0,
+    0,
+    0,
+    0,
+    0,
+    0,
+    0,
+    0,
+    1,
+    0,
+    0,
+    1,
+    0,
+    0,
+    0,
+    0,
+    0,
+    0,
+    0,
+    0,
+    0,
+    0,
+    0,
+    0,
+    0,
+    0,
+    0,
+    0,
+    0,
+    0,
+    0,
+    0,
+    0,
+    0,
+    0,
+    0,
+    1,
+    1,
+    1,
+    0,
+    0,
+    0,
+    0,
+    0,
+    0,
+    0,
+    0,
+    0,
+    0,
+    0,
+    0,
+    0,
+    0,
+    0,
+    0,
+    0,
+    0,
+    0,
+    0,
+    0,
+    0,
+    0,
+    0,
+    0,
+    1,
+    1,
+    0,
+    0,
+    0,
+    0,
+    0,
+    0,
+    0,
+    0,
+    0,
+    0,
+    0,
+    0,
+    0,
+    0,
+    0,
+    0,
+    0,
+    0,
+    0,
+    0,
+    0,
+    0,
+    0,
+    0,
+    0,
+    0,
+    1,
+];
+
+// What a lattice part gets: a refusal, or its size and bounds.
+pub enum Checked {
+    Refused(Refusal),
+    Accepted(Lattice),
+}
+
+// The rules that are tested for every two elements.
+enum Rule {
+    Order,
+    Distributive,
+    Complement,
+}
+
+fn wide(x: u8) -> usize
+    ensures { λ r. ⌜ (r ≡ x) × (r < 256) ⌝ }
+{
+    x as usize
+}
+
+// ---- reading the part
+
+fn is_panel(part: &[u8]) -> bool
+    ensures { λ r. ⌜ r ≡ isPanel (now (part .entry)) ⌝ }
+{
+    if part.len() == 1 {
+        return part[0] == 0;
+    }
+    false
+}
+
+// n, the number of elements.
+fn size(part: &[u8]) -> u8
+    requires { ⌜ latticeForm (now part) ≡ true ⌝ }
+    ensures { λ r. ⌜ r ≡ latticePart (now (part .entry)) .size ⌝ }
+{
+    if is_panel(part) {
+        return 27;
+    }
+    part[0]
+}
+
+// Every one of some bytes is below a limit.
+fn bytes_below(part: &[u8], from: usize, count: usize, limit: u8) -> bool
+    requires { ⌜ from + count ≤ length (now part) ⌝ }
+    ensures { λ r. ⌜ r ≡ allBelow count (λ i. ltb (getD (now (part .entry)) (from + i) 0) limit) ⌝ }
+{
+    for i in 0..count {
+        if limit <= part[from + i] {
+            return false;
+        }
+    }
+    true
+}
+
+// The form: refusal 4 does not apply.
+fn has_form(part: &[u8]) -> bool
+    ensures { λ r. ⌜ r ≡ latticeForm (now (part .entry)) ⌝ }
+{
+    if part.len() == 0 {
+        return false;
+    }
+    if is_panel(part) {
+        return true;
+    }
+    let limit = part[0];
+    let n = wide(limit);
+    if n < 1 {
+        return false;
+    }
+    if 64 < n {
+        return false;
+    }
+    if part.len() != 1 + n + n * n {
+        return false;
+    }
+    if !bytes_below(part, 1, n, limit) {
+        return false;
+    }
+    bytes_below(part, 1 + n, n * n, 2)
+}
+
+// Any number as an element.
+fn element_of(n: u8, k: usize) -> Element
+    ensures { λ r. ⌜ r .0 ≡ element n k ⌝ }
+{
+    let r = (k % 64) as u8;
+    if r < n {
+        return Element(r);
+    }
+    Element(0)
+}
+
+// 1 where a is at or below b in the part, else 0.
+fn order_entry(part: &[u8], a: Element, b: Element) -> u8
+    requires { ⌜ (latticeForm (now part) ≡ true) × (a .0 < latticePart (now part) .size) × (b .0 < latticePart (now part) .size) ⌝ }
+    ensures { λ r. ⌜ r ≡ one (latticePart (now (part .entry)) .order (a .0) (b .0)) ⌝ }
+{
+    let i = wide(a.0);
+    let j = wide(b.0);
+    if is_panel(part) {
+        return PANEL_ORDER[i * 27 + j];
+    }
+    let n = wide(part[0]);
+    part[1 + n + (i * n + j)]
+}
+
+fn complement_entry(part: &[u8], a: Element) -> u8
+    requires { ⌜ (latticeForm (now part) ≡ true) × (a .0 < latticePart (now part) .size) ⌝ }
+    ensures { λ r. ⌜ r ≡ latticePart (now (part .entry)) .complement (a .0) ⌝ }
+{
+    if is_panel(part) {
+        return 26 - a.0;
+    }
+    let i = wide(a.0);
+    part[1 + i]
+}
+
+// ---- meets and joins, found from the order. A join is a meet in the order the other way round: `up` says which is meant
+
+fn below(t: &[u8; 12352], up: bool, a: Element, b: Element) -> bool
+    ensures { λ r. ⌜ r ≡ facing up (atMostIn (now (t .entry))) (a .0) (b .0) ⌝ }
+{
+    if up {
+        return operations::at_most(t, b, a);
+    }
+    operations::at_most(t, a, b)
+}
+
+// c is at or below both a and b.
+fn is_lower(t: &[u8; 12352], up: bool, a: Element, b: Element, c: Element) -> bool
+    ensures { λ r. ⌜ r ≡ lower (facing up (atMostIn (now (t .entry)))) (a .0) (b .0) (c .0) ⌝ }
+{
+    if below(t, up, c, a) {
+        return below(t, up, c, b);
+    }
+    false
+}
+
+// The candidate for the meet after c: c where it is at or below both and the candidate so far (n for none) is none or at or below it.
+fn better_of(t: &[u8; 12352], n: u8, up: bool, a: Element, b: Element, m: u8, c: u8) -> u8
+    ensures { λ r. ⌜ r ≡ better n (facing up (atMostIn (now (t .entry)))) (a .0) (b .0) c m ⌝ }
+{
+    if is_lower(t, up, a, b, Element(c)) {
+        if m == n {
+            return c;
+        }
+        if below(t, up, Element(m), Element(c)) {
+            return c;
+        }
+    }
+    m
+}
+
+// The one element that can be the meet; n for none.
+fn candidate_of(t: &[u8; 12352], n: u8, up: bool, a: Element, b: Element) -> u8
+    ensures { λ r. ⌜ r ≡ candidate n (facing up (atMostIn (now (t .entry)))) (a .0) (b .0) n ⌝ }
+{
+    let mut m = n;
+    for c in 0..n {
+        m = better_of(t, n, up, a, b, m, c);
+    }
+    m
+}
+
+// Where c is at or below a and b, it is at or below m.
+fn is_under(t: &[u8; 12352], up: bool, a: Element, b: Element, m: Element, c: Element) -> bool
+    ensures { λ r. ⌜ r ≡ under (facing up (atMostIn (now (t .entry)))) (a .0) (b .0) (m .0) (c .0) ⌝ }
+{
+    if is_lower(t, up, a, b, c) {
+        return below(t, up, c, m);
+    }
+    true
+}
+
+// All that are at or below a and b are at or below m.
+fn is_greatest(t: &[u8; 12352], n: u8, up: bool, a: Element, b: Element, m: Element) -> bool
+    ensures { λ r. ⌜ r ≡ greatest n (facing up (atMostIn (now (t .entry)))) (a .0) (b .0) (m .0) ⌝ }
+{
+    for c in 0..n {
+        if !is_under(t, up, a, b, m, Element(c)) {
+            return false;
+        }
+    }
+    true
+}
+
+// The candidate where it passes; n where there is no meet.
+fn scan(t: &[u8; 12352], n: u8, up: bool, a: Element, b: Element) -> u8
+    ensures { λ r. ⌜ r ≡ scanFrom n (facing up (atMostIn (now (t .entry)))) (a .0) (b .0) ⌝ }
+{
+    let m = candidate_of(t, n, up, a, b);
+    if m < n {
+        if is_greatest(t, n, up, a, b, Element(m)) {
+            return m;
+        }
+    }
+    n
+}
+
+// The meet of a and b; n where there is none. Of two elements in order it is the lower one.
+fn bound(t: &[u8; 12352], n: u8, up: bool, a: Element, b: Element) -> u8
+    ensures { λ r. ⌜ r ≡ boundFrom n (facing up (atMostIn (now (t .entry)))) (a .0) (b .0) ⌝ }
+{
+    if below(t, up, a, b) {
+        return a.0;
+    }
+    if below(t, up, b, a) {
+        return b.0;
+    }
+    scan(t, n, up, a, b)
+}
+
+fn lesser(i: usize, j: usize) -> usize
+    ensures { λ r. ⌜ r ≡ min i j ⌝ }
+{
+    if i <= j { i } else { j }
+}
+
+fn greater(i: usize, j: usize) -> usize
+    ensures { λ r. ⌜ r ≡ max i j ⌝ }
+{
+    if i <= j { j } else { i }
+}
+
+// What belongs at a place of the meets or the joins. It repeats an earlier place where that stands for the same two elements.
+fn bound_at(t: &[u8; 12352], n: u8, k: usize) -> u8
+    requires { ⌜ (4096 ≤ k) × (k < 12288) ⌝ }
+    ensures { λ r. ⌜ r ≡ boundAt n (now (t .entry)) k ⌝ }
+{
+    let a = element_of(n, k / 64);
+    let b = element_of(n, k);
+    let i = wide(a.0);
+    let j = wide(b.0);
+    let place = k / 4096 * 4096 + (lesser(i, j) * 64 + greater(i, j));
+    if place < k {
+        return t[place];
+    }
+    bound(t, n, 8192 <= k, a, b)
+}
+
+// The join of a and b where `up`, else the meet, from the tables.
+fn bound_in(t: &[u8; 12352], up: bool, a: Element, b: Element) -> Element
+    ensures { λ r. ⌜ r .0 ≡ towards up (joinIn (now (t .entry))) (meetIn (now (t .entry))) (a .0) (b .0) ⌝ }
+{
+    if up {
+        return operations::join(t, a, b);
+    }
+    operations::meet(t, a, b)
+}
+
+// The join of all elements where `up`, else the meet of all.
+fn bound_of_all(t: &[u8; 12352], n: u8, up: bool) -> Element
+    ensures { λ r. ⌜ r .0 ≡ boundUpTo (towards up (joinIn (now (t .entry))) (meetIn (now (t .entry)))) n ⌝ }
+{
+    let mut m = Element(0);
+    for c in 0..n {
+        m = bound_in(t, up, m, Element(c));
+    }
+    m
+}
+
+// ---- filling the tables. `entries` is asked where a proof needs the length of a lent array
+
+fn entries(t: &[u8]) -> usize
+    ensures { λ r. ⌜ r ≡ length (now (t .entry)) ⌝ }
+{
+    t.len()
+}
+
+fn fill_order(part: &[u8], t: &mut [u8; 12352])
+    requires { ⌜ latticeForm (now part) ≡ true ⌝ }
+    ensures { λ _. ⌜ Filled (tableOf (opsOf (latticePart (now (part .entry))))) 4096 (now (t .exit)) ⌝ }
+{
+    let _ = entries(t);
+    let n = size(part);
+    for k in 0..4096 {
+        t[k] = order_entry(part, element_of(n, k / 64), element_of(n, k));
+    }
+}
+
+// Fills the meets and the joins, and says whether each two elements have both.
+fn fill_bounds(part: &[u8], t: &mut [u8; 12352]) -> bool
+    requires { ⌜ (latticeForm (now part) ≡ true) × (partialOrder (latticePart (now part) .size) (latticePart (now part) .order) ≡ true) × Filled (tableOf (opsOf (latticePart (now part)))) 4096 (now t) ⌝ }
+    ensures { λ r. ⌜ BoundsFilled (latticePart (now (part .entry))) r (now (t .exit)) ⌝ }
+{
+    let _ = entries(t);
+    let n = size(part);
+    for k in 4096..12288 {
+        let v = bound_at(t, n, k);
+        if n <= v {
+            return false;
+        }
+        t[k] = v;
+    }
+    true
+}
+
+fn fill_complements(part: &[u8], t: &mut [u8; 12352])
+    requires { ⌜ (latticeForm (now part) ≡ true) × Filled (tableOf (opsOf (latticePart (now part)))) 12288 (now t) ⌝ }
+    ensures { λ _. ⌜ Filled (tableOf (opsOf (latticePart (now (part .entry))))) 12352 (now (t .exit)) ⌝ }
+{
+    let _ = entries(t);
+    let n = size(part);
+    for k in 12288..12352 {
+        t[k] = complement_entry(part, element_of(n, k));
+    }
+}
+
+// ---- the rules that are tested for every two elements
+
+// What b is at or below, a is at or below.
+fn steps_to(t: &[u8; 12352], a: Element, b: Element, c: Element) -> bool
+    ensures { λ r. ⌜ r ≡ stepsTo (atMostIn (now (t .entry))) (a .0) (b .0) (c .0) ⌝ }
+{
+    if operations::at_most(t, b, c) {
+        return operations::at_most(t, a, c);
+    }
+    true
+}
+
+fn is_above(t: &[u8; 12352], n: u8, a: Element, b: Element) -> bool
+    ensures { λ r. ⌜ r ≡ above n (atMostIn (now (t .entry))) (a .0) (b .0) ⌝ }
+{
+    for c in 0..n {
+        if !steps_to(t, a, b, Element(c)) {
+            return false;
+        }
+    }
+    true
+}
+
+// a is at or below itself; at or below one another are only a and a; what b is at or below, a is too.
+fn is_order(t: &[u8; 12352], n: u8, a: Element, b: Element) -> bool
+    ensures { λ r. ⌜ r ≡ orderPair n (atMostIn (now (t .entry))) (a .0) (b .0) ⌝ }
+{
+    if !operations::at_most(t, a, a) {
+        return false;
+    }
+    if !operations::at_most(t, a, b) {
+        return true;
+    }
+    if operations::at_most(t, b, a) {
+        return a.0 == b.0;
+    }
+    is_above(t, n, a, b)
+}
+
+// bc is b joined with c.
+fn distributes_at(t: &[u8; 12352], b: Element, c: Element, bc: Element, a: Element) -> bool
+    ensures { λ r. ⌜ r ≡ distributesAt (meetIn (now (t .entry))) (joinIn (now (t .entry))) (b .0) (c .0) (bc .0) (a .0) ⌝ }
+{
+    let left = operations::meet(t, a, bc);
+    let right = operations::join(t, operations::meet(t, a, b), operations::meet(t, a, c));
+    left.0 == right.0
+}
+
+// Every a met with b joined with c is a met with b, joined with a met with c.
+fn does_distribute(t: &[u8; 12352], n: u8, b: Element, c: Element) -> bool
+    ensures { λ r. ⌜ r ≡ distributes n (meetIn (now (t .entry))) (joinIn (now (t .entry))) (b .0) (c .0) ⌝ }
+{
+    let bc = operations::join(t, b, c);
+    for a in 0..n {
+        if !distributes_at(t, b, c, bc, Element(a)) {
+            return false;
+        }
+    }
+    true
+}
+
+// The same, tested once for two elements, and not where they are in order: there it holds in every lattice.
+fn is_distributive(t: &[u8; 12352], n: u8, b: Element, c: Element) -> bool
+    ensures { λ r. ⌜ r ≡ distributePair n (atMostIn (now (t .entry))) (meetIn (now (t .entry))) (joinIn (now (t .entry))) (b .0) (c .0) ⌝ }
+{
+    if b.0 <= c.0 {
+        return true;
+    }
+    if operations::at_most(t, b, c) {
+        return true;
+    }
+    if operations::at_most(t, c, b) {
+        return true;
+    }
+    does_distribute(t, n, b, c)
+}
+
+// The complement of the complement of a is a; where a is at or below b, not-b is at or below not-a.
+fn is_complement(t: &[u8; 12352], a: Element, b: Element) -> bool
+    ensures { λ r. ⌜ r ≡ complementPair (atMostIn (now (t .entry))) (complementIn (now (t .entry))) (a .0) (b .0) ⌝ }
+{
+    let x = operations::complement(t, a);
+    let y = operations::complement(t, x);
+    if y.0 != a.0 {
+        return false;
+    }
+    if operations::at_most(t, a, b) {
+        return operations::at_most(t, operations::complement(t, b), x);
+    }
+    true
+}
+
+fn pair_passes(t: &[u8; 12352], n: u8, rule: Rule, a: Element, b: Element) -> bool
+    ensures { λ r. ⌜ r ≡ pairTest rule (tableOps n (now (t .entry))) (a .0) (b .0) ⌝ }
+{
+    match rule {
+        Rule::Order => is_order(t, n, a, b),
+        Rule::Distributive => is_distributive(t, n, a, b),
+        Rule::Complement => is_complement(t, a, b),
+    }
+}
+
+fn row_passes(t: &[u8; 12352], n: u8, rule: Rule, a: Element) -> bool
+    ensures { λ r. ⌜ r ≡ rowTest rule (tableOps n (now (t .entry))) (a .0) ⌝ }
+{
+    for b in 0..n {
+        if !pair_passes(t, n, rule, a, Element(b)) {
+            return false;
+        }
+    }
+    true
+}
+
+// A rule holds for every two elements.
+fn passes(t: &[u8; 12352], n: u8, rule: Rule) -> bool
+    ensures { λ r. ⌜ r ≡ allPairs rule (tableOps n (now (t .entry))) ⌝ }
+{
+    for a in 0..n {
+        if !row_passes(t, n, rule, Element(a)) {
+            return false;
+        }
+    }
+    true
+}
+
+// ---- the check
+
+// What is left to test of a part whose meets and joins are in the tables: refusals 7 and 8, or n, top and bottom.
+fn check_rules(part: &[u8], t: &mut [u8; 12352]) -> Checked
+    requires { ⌜ (latticeForm (now part) ≡ true) × (partialOrder (latticePart (now part) .size) (latticePart (now part) .order) ≡ true) × (bounded (latticePart (now part)) ≡ true) × Filled (tableOf (opsOf (latticePart (now part)))) 12288 (now t) ⌝ }
+    ensures { λ r. ⌜ Answered (rulesReading (latticePart (now (part .entry)))) r (now (t .exit)) ⌝ }
+{
+    fill_complements(part, t);
+    let n = size(part);
+    if !passes(t, n, Rule::Distributive) {
+        return Checked::Refused(Refusal::NotDistributive);
+    }
+    if !passes(t, n, Rule::Complement) {
+        return Checked::Refused(Refusal::BadComplement);
+    }
+    let top = bound_of_all(t, n, true);
+    let bottom = bound_of_all(t, n, false);
+    Checked::Accepted(Lattice {
+        size: n,
+        top,
+        bottom,
+    })
+}
+
+// The refusal that the part gets, or n, top and bottom. An accepted part's operations are left in the tables; after a refusal the
+// tables hold anything. An empty part is the caller's to refuse, and is refused here for its form.
+pub fn check(part: &[u8], t: &mut [u8; 12352]) -> Checked
+    ensures { λ r. ⌜ Answered (latticeReading (now (part .entry))) r (now (t .exit)) ⌝ }
+{
+    if !has_form(part) {
+        return Checked::Refused(Refusal::LatticeForm);
+    }
+    fill_order(part, t);
+    if !passes(t, size(part), Rule::Order) {
+        return Checked::Refused(Refusal::NoPartialOrder);
+    }
+    if !fill_bounds(part, t) {
+        return Checked::Refused(Refusal::NoMeetOrJoin);
+    }
+    check_rules(part, t)
+}

@@ -1,0 +1,117 @@
+// The boundary examples of lattice parts: each part's name with its refusal, or that it is accepted and its n.
+use lattice::Checked;
+use libc::STDOUT_FILENO;
+ghost use Prim.Native.Nat.{_+_, _*_, _≤_};
+ghost use lib.ListN.{length};
+
+fn show(name: &[u8], r: Checked) {
+    io::write_all(STDOUT_FILENO, name);
+    match r {
+        Checked::Refused(f) => {
+            io::write_all(STDOUT_FILENO, b": refused ");
+            io::print_decimal(STDOUT_FILENO, refusal::number(f) as u64);
+        }
+        Checked::Accepted(l) => {
+            io::write_all(STDOUT_FILENO, b": accepted ");
+            io::print_decimal(STDOUT_FILENO, l.size as u64);
+        }
+    }
+    io::write_all(STDOUT_FILENO, b"\n");
+}
+
+fn run(name: &[u8], part: &[u8]) {
+    let mut t = [0u8; 12352];
+    show(name, lattice::check(part, &mut t));
+}
+
+fn at_most(i: usize, j: usize) -> u8 {
+    if i <= j { 1 } else { 0 }
+}
+
+// The order of a chain of n elements.
+fn chain_order(part: &mut [u8], n: usize)
+    requires { ⌜ (1 ≤ n) × (n ≤ 65) × (1 + n + n * n ≤ length (now part)) ⌝ }
+{
+    for k in 0..n * n {
+        part[1 + n + k] = at_most(k / n, k % n);
+    }
+}
+
+// Its complements: that of i is n - 1 - i.
+fn chain_complements(part: &mut [u8], n: usize)
+    requires { ⌜ (n ≤ 65) × (1 + n ≤ length (now part)) ⌝ }
+{
+    for i in 0..n {
+        part[1 + i] = (n - 1 - i) as u8;
+    }
+}
+
+// A chain of n elements: 0 below 1 below 2 and so on.
+fn chain(part: &mut [u8], n: usize)
+    requires { ⌜ (1 ≤ n) × (n ≤ 65) × (1 + n + n * n ≤ length (now part)) ⌝ }
+{
+    chain_order(part, n);
+    chain_complements(part, n);
+    part[0] = n as u8;
+}
+
+fn longest_chains() {
+    let mut chain64 = [0u8; 4161];
+    chain(&mut chain64, 64);
+    run(b"a chain of 64", &chain64);
+    let mut chain65 = [0u8; 4291];
+    chain(&mut chain65, 65);
+    run(b"a chain of 65", &chain65);
+}
+
+fn main() {
+    run(b"the panel lattice", &[0]);
+    run(b"one element", &[1, 0, 1]);
+    run(b"L3", &[3, 2, 1, 0, 1, 1, 1, 0, 1, 1, 0, 0, 1]);
+    longest_chains();
+    run(b"a byte 0 and more", &[0, 0]);
+    run(b"a complement not below n", &[1, 1, 1]);
+    run(b"an order byte of 2", &[1, 0, 2]);
+    run(b"two elements below one another", &[2, 1, 0, 1, 1, 1, 1]);
+    run(b"two unordered elements", &[2, 1, 0, 1, 0, 0, 1]);
+    run(
+        b"bottom, three unordered elements and top",
+        &[
+            5,
+            4,
+            1,
+            2,
+            3,
+            0,
+            1,
+            1,
+            1,
+            1,
+            1,
+            0,
+            1,
+            0,
+            0,
+            1,
+            0,
+            0,
+            1,
+            0,
+            1,
+            0,
+            0,
+            0,
+            1,
+            1,
+            0,
+            0,
+            0,
+            0,
+            1,
+        ],
+    );
+    run(
+        b"L3 with each its own complement",
+        &[3, 0, 1, 2, 1, 1, 1, 0, 1, 1, 0, 0, 1],
+    );
+}
