@@ -1,2 +1,3 @@
 -- Definitions of `model`.
 pub mod Places
+pub mod Reading

@@ -5,12 +5,20 @@ ghost use Prim.Native.Nat.{_+_, _≤_, _<_};
 ghost use lib.ListN.{length, getD};
 ghost use Rattle.theory.specs.Part.{modelOf, ModelShape};
 ghost use Rattle.model.specs.Places.{labelRow, transitionRow};
+ghost use Rattle.model.specs.Reading.{elementsOnly, modelAnswer};
 
 // A state of a model, by its number.
 pub struct State(pub u8);
 
 // A proposition, by its number.
 pub struct Proposition(pub u8);
+
+// What the check of a model part answers.
+pub enum ModelCheck {
+    Refused,
+    // A model of so many states and propositions.
+    Accepted(u8, u8),
+}
 
 fn wide(x: u8) -> usize
     ensures { λ r. ⌜ (r ≡ x) × (r < 256) ⌝ }
@@ -62,4 +70,47 @@ pub fn transition_row(m: &[u8], q: State) -> usize
     let k = wide(m[1]);
     let s = wide(q.0);
     2 + n + n * k + s * n
+}
+
+// Every value of a model part is below n.
+fn elements_only(part: &[u8], n: u8) -> bool
+    requires { ⌜ 2 ≤ length (now part) ⌝ }
+    ensures { λ r. ⌜ r ≡ elementsOnly n (now (part .entry)) ⌝ }
+{
+    let count = part.len() - 2;
+    for i in 0..count {
+        if n <= part[2 + i] {
+            return false;
+        }
+    }
+    true
+}
+
+// Whether a part is a model over a lattice of n elements.
+pub fn check(part: &[u8], n: u8) -> ModelCheck
+    ensures { λ r. ⌜ r ≡ modelAnswer n (now (part .entry)) ⌝ }
+{
+    if part.len() < 2 {
+        return ModelCheck::Refused;
+    }
+    let states = part[0];
+    let propositions = part[1];
+    if states == 0 {
+        return ModelCheck::Refused;
+    }
+    if 64 < states {
+        return ModelCheck::Refused;
+    }
+    if 16 < propositions {
+        return ModelCheck::Refused;
+    }
+    let w = wide(states);
+    let k = wide(propositions);
+    if part.len() != 2 + w + w * k + w * w {
+        return ModelCheck::Refused;
+    }
+    if !elements_only(part, n) {
+        return ModelCheck::Refused;
+    }
+    ModelCheck::Accepted(states, propositions)
 }

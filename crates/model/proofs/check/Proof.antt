@@ -1,0 +1,92 @@
+-- `model::check` meets its contract: each test that fails breaks the shape or the values.
+use Prim.Native.Nat.{ℕ, _+_, _*_, _≤_}
+use mathlib.Core.Path.{_≡_, sym, _∙_}
+use native.Mathlib.Omega.{arith}
+use borrow.Author.Needs.{needs}
+use borrow.Author.Tests.{not-true, not-false}
+use Rattle.theory.specs.Part.{ModelShape}
+use Rattle.theory.specs.Test.{false-true}
+use Rattle.model.specs.Places.{prod-le}
+use Rattle.model.specs.Reading.{answers-accepted, answers-refused}
+use Rattle.model.proofs.check.Statement.{statement}
+use Rattle.model.proofs.check.Tie as tie
+
+-- the products fit: 64 states and 16 propositions at most
+products : (c : tie.After-wide2) → (c .before .wide .result * c .wide2 .result ≤ 64 * 16) × (c .before .wide .result * c .before .wide .result ≤ 64 * 64)
+products c = (
+  prod-le (c .before .wide .result) (c .wide2 .result) 64 16 (omega arith) (omega arith),
+  prod-le (c .before .wide .result) (c .before .wide .result) 64 64 (omega arith) (omega arith),
+)
+
+returns : tie.Need-returns
+returns c = answers-refused _ _ (λ s v. omega (arith, s .exact, s .some, s .states-most, s .propositions-most))
+
+shared-slice-read-states : tie.Need-shared-slice-read-states
+shared-slice-read-states c = search needs
+
+shared-slice-read-propositions : tie.Need-shared-slice-read-propositions
+shared-slice-read-propositions c = search needs
+
+returns-2 : tie.Need-returns-2
+returns-2 c = answers-refused _ _ (λ s v. omega (arith, s .exact, s .some, s .states-most, s .propositions-most))
+
+returns-3 : tie.Need-returns-3
+returns-3 c = answers-refused _ _ (λ s v. omega (arith, s .exact, s .some, s .states-most, s .propositions-most))
+
+returns-4 : tie.Need-returns-4
+returns-4 c = answers-refused _ _ (λ s v. omega (arith, s .exact, s .some, s .states-most, s .propositions-most))
+
+wide-requires : tie.Need-wide-requires
+wide-requires c κs = search needs
+
+wide-requires-2 : tie.Need-wide-requires-2
+wide-requires-2 c κs = search needs
+
+add-if5 : tie.Need-add-if5
+add-if5 c = search needs
+
+mul-if5 : tie.Need-mul-if5
+mul-if5 c = omega (arith, products c)
+
+add-if5-2 : tie.Need-add-if5-2
+add-if5-2 c = omega (arith, products c)
+
+mul-if5-2 : tie.Need-mul-if5-2
+mul-if5-2 c = omega (arith, products c)
+
+add-if5-3 : tie.Need-add-if5-3
+add-if5-3 c = omega (arith, products c)
+
+returns-5 : tie.Need-returns-5
+returns-5 c = answers-refused _ _ (λ s v. c .if5 .taken (cc (s .exact)))
+
+elements-only-requires : tie.Need-elements-only-requires
+elements-only-requires c κs = search needs
+
+returns-6 : tie.Need-returns-6
+returns-6 c = answers-refused _ _ (λ s v. false-true (sym (c .before .elements-only .ensures) ∙ not-true _ (c .if6 .taken)) v)
+
+returns-7 : tie.Need-returns-7
+returns-7 c = answers-accepted _ _ (record { some = omega arith; states-most = omega arith; propositions-most = omega arith; exact = cc }) (sym (c .before .elements-only .ensures) ∙ not-false _ (c .if6 .left))
+
+pub check-spec : {M : Type 1} → statement M
+check-spec =
+    tie.close
+    (tie.spec
+    returns
+    shared-slice-read-states
+    shared-slice-read-propositions
+    returns-2
+    returns-3
+    returns-4
+    wide-requires
+    wide-requires-2
+    add-if5
+    mul-if5
+    add-if5-2
+    mul-if5-2
+    add-if5-3
+    returns-5
+    elements-only-requires
+    returns-6
+    returns-7)

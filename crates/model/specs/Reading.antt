@@ -1,0 +1,103 @@
+-- When a model part is accepted, and what then holds of it. Rests on theory's Part, Model and Test.
+use Prim.Native.Nat.{ℕ, zero, suc, _+_, _*_, _-_, _≤_, _<_}
+use mathlib.Core.Path.{_≡_, refl, sym, _∙_}
+use mathlib.Core.Bool.{Bool, true, false, cond, _&&_}
+use mathlib.Core.List.{List}
+use native.Mathlib.Omega.{arith}
+use borrow.Author.Tests.{ltb-true, leb-true, eqb-true, lt-ltb, le-leb, eq-eqb}
+use lib.Dec.{ltb, leb, eqb}
+use lib.ListN.{length, getD}
+use Rattle.theory.specs.Lattice.{Element}
+use Rattle.theory.specs.Model.{Valued}
+use Rattle.theory.specs.Part.{Part, opsOf, modelOf, modelLength, ModelShape}
+use Rattle.theory.specs.Test.{allBelow, and-l, and-r, and-in, all-at, not-passed}
+use Rattle.model.specs.Places.{row-le}
+use Rattle.model.specs.declared.ModelCheck.{ModelCheck}
+use Rattle.model.specs.declared.ModelCheck.the-variants.{Refused, Accepted}
+
+-- 'Every value is an element': each byte after the two sizes is below n
+unfoldable pub elementsOnly : ℕ → List ℕ → Bool
+elementsOnly n b = allBelow (length b - 2) (λ i. ltb (getD b (2 + i) 0) n)
+
+-- 'A model part is N states (1 to 64), k propositions (0 to 16), N initial values, N·k proposition values (state by state), N·N
+-- transition values (row of the state left).'
+abbrev pub sizesTest : List ℕ → Bool
+sizesTest b =
+    ltb 0 (getD b 0 0) && leb (getD b 0 0) 64 && leb (getD b 1 0) 16 && eqb (length b) (modelLength (getD b 0 0) (getD b 1 0))
+
+-- b is a model part over a lattice of n elements; else it is refused with 9
+unfoldable pub modelTest : ℕ → List ℕ → Bool
+unfolding elementsOnly
+modelTest n b = sizesTest b && elementsOnly n b
+
+-- what the check answers
+unfoldable pub modelAnswer : ℕ → List ℕ → ModelCheck
+unfolding modelTest
+modelAnswer n b = cond (modelTest n b) (Accepted (getD b 0 0) (getD b 1 0)) Refused
+
+-- ---- an accepted part has its shape
+
+-- the four tests of the sizes
+pub record Sizes (a b c d : Bool) : Type 0 where
+  pub fst : a ≡ true
+  pub snd : b ≡ true
+  pub thd : c ≡ true
+  pub fth : d ≡ true
+
+pub all-four : (a b c d : Bool) → (a && b && c && d) ≡ true → Sizes a b c d
+all-four a b c d t =
+    let u = and-l (a && b && c) d t in
+    let v = and-l (a && b) c u in
+    record { fst = and-l a b v; snd = and-r a b v; thd = and-r (a && b) c u; fth = and-r (a && b && c) d t }
+
+pub shape-of : (b : List ℕ) → sizesTest b ≡ true → ModelShape b
+shape-of b t =
+    let f = all-four (ltb 0 (getD b 0 0)) (leb (getD b 0 0) 64) (leb (getD b 1 0) 16) (eqb (length b) (modelLength (getD b 0 0) (getD b 1 0))) t in
+    record {
+      some = ltb-true _ _ (f .fst);
+      states-most = leb-true _ _ (f .snd);
+      propositions-most = leb-true _ _ (f .thd);
+      exact = eqb-true _ _ (f .fth);
+    }
+
+-- each byte after the two sizes of an accepted part is an element
+value-element : (n : ℕ) (b : List ℕ) → elementsOnly n b ≡ true → (at : ℕ) → 2 ≤ at → at < length b → ltb (getD b at 0) n ≡ true
+unfolding elementsOnly
+value-element n b t at l m =
+    let e : 2 + (at - 2) ≡ at = omega arith in
+    rw e at (all-at (length b - 2) (λ j. ltb (getD b (2 + j) 0) n) t (at - 2) (omega arith))
+
+-- the two parts of the test
+pub sizes-pass : (n : ℕ) (b : List ℕ) → modelTest n b ≡ true → sizesTest b ≡ true
+unfolding modelTest
+sizes-pass n b t = and-l (sizesTest b) (elementsOnly n b) t
+
+values-pass : (n : ℕ) (b : List ℕ) → modelTest n b ≡ true → elementsOnly n b ≡ true
+unfolding modelTest
+values-pass n b t = and-r (sizesTest b) (elementsOnly n b) t
+
+pub accepted-shape : (n : ℕ) (b : List ℕ) → modelTest n b ≡ true → ModelShape b
+accepted-shape n b t = shape-of b (sizes-pass n b t)
+
+-- an accepted part is a model whose values are elements
+pub accepted-valued : (P : Part) (b : List ℕ) → modelTest (P .size) b ≡ true → Valued (opsOf P) (modelOf b)
+accepted-valued P b t =
+    let s = accepted-shape (P .size) b t in
+    let v = value-element (P .size) b (values-pass (P .size) b t) in
+    record {
+      initial-element = λ q l. v (2 + q) (omega arith) (omega (arith, s .exact));
+      label-element = λ q l p m. v _ (omega arith) (omega (arith, s .exact, row-le q (getD b 0 0) (getD b 1 0) l));
+      transition-element = λ q l r m. v _ (omega arith) (omega (arith, s .exact, row-le q (getD b 0 0) (getD b 0 0) l));
+    }
+
+-- ---- what the code answers
+
+pub answers-accepted : (n : ℕ) (b : List ℕ) → ModelShape b → elementsOnly n b ≡ true → Accepted (getD b 0 0) (getD b 1 0) ≡ modelAnswer n b
+unfolding modelAnswer
+answers-accepted n b s v =
+    let p : sizesTest b ≡ true = simp (lt-ltb _ _ (s .some), le-leb _ _ (s .states-most), le-leb _ _ (s .propositions-most), eq-eqb _ _ (s .exact)) in
+    sym (rw (and-in (sizesTest b) (elementsOnly n b) p v))
+
+pub answers-refused : (n : ℕ) (b : List ℕ) → (ModelShape b → elementsOnly n b ≡ true → ⊥) → Refused ≡ modelAnswer n b
+unfolding modelAnswer
+answers-refused n b h = sym (rw (not-passed (modelTest n b) (λ t. h (accepted-shape n b t) (values-pass n b t))))
