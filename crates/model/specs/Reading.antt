@@ -37,14 +37,14 @@ modelAnswer n b = cond (modelTest n b) (Accepted (getD b 0 0) (getD b 1 0)) Refu
 
 -- ---- an accepted part has its shape
 
--- the four tests of the sizes
-pub record Sizes (a b c d : Bool) : Type 0 where
+-- four tests, all passed
+pub record AllFour (a b c d : Bool) : Type 0 where
   pub fst : a ≡ true
   pub snd : b ≡ true
   pub thd : c ≡ true
   pub fth : d ≡ true
 
-pub all-four : (a b c d : Bool) → (a && b && c && d) ≡ true → Sizes a b c d
+pub all-four : (a b c d : Bool) → (a && b && c && d) ≡ true → AllFour a b c d
 all-four a b c d t =
     let u = and-l (a && b && c) d t in
     let v = and-l (a && b) c u in

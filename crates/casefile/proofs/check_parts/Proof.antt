@@ -1,0 +1,62 @@
+-- `casefile::check_parts` meets its contract: by the check of the lattice.
+use Prim.Native.Nat.{ℕ}
+use mathlib.Core.Path.{_≡_, sym, ap, _∙_}
+use mathlib.Core.List.{List}
+use borrow.Author.Needs.{needs}
+use Rattle.lattice.specs.Reading.{latticeReading}
+use Rattle.lattice.specs.Answer.{answerOf}
+use Rattle.casefile.specs.Answer.{afterChecked}
+use Rattle.casefile.proofs.check_parts.Statement.{statement}
+use Rattle.casefile.proofs.check_parts.Tie as tie
+use Rattle.casefile.proofs.check_parts.Reads as reads
+use Rattle.casefile.proofs.check_parts.Lts as lts
+use Rattle.casefile.proofs.check_models.Reads as check-models-reads
+use Rattle.casefile.proofs.part.Reads as part-reads
+use Rattle.lattice.proofs.check.Reads as check-reads
+
+part-requires : tie.Need-part-requires
+part-requires c κs = search needs
+
+check-requires : tie.Need-check-requires
+check-requires c κs = search needs
+
+enum-known-f : tie.Need-enum-known-f
+enum-known-f c = search needs
+
+enum-known-l : tie.Need-enum-known-l
+enum-known-l c = search needs
+
+check-models-requires : tie.Need-check-models-requires
+check-models-requires c κs = search needs
+
+returns : tie.Need-returns
+returns c =
+    let a = c .before .before .before .before .before .before .before .args in
+    let k = c .before .before .before .check .ensures in
+    let p = c .before .before .before .before .before .part .ensures in
+    record {
+      answer = ap (afterChecked (a .bytes .now)) (sym (c .before .f .given .1) ∙ k .answer ∙ ap (λ (l : List ℕ). answerOf (latticeReading l)) p);
+      tables = λ P e. k .tables P (ap latticeReading p ∙ e);
+    }
+
+returns-2 : tie.Need-returns-2
+returns-2 c =
+    let a = c .before .before .before .before .before .before .before .before .args in
+    let k = c .before .before .before .before .check .ensures in
+    let p = c .before .before .before .before .before .before .part .ensures in
+    record {
+      answer = c .check-models .ensures ∙ ap (afterChecked (a .bytes .now)) (sym (c .before .before .l .given .1) ∙ k .answer ∙ ap (λ (l : List ℕ). answerOf (latticeReading l)) p);
+      tables = λ P e. k .tables P (ap latticeReading p ∙ e);
+    }
+
+pub check-parts-spec : {M : Type 1} → statement M
+check-parts-spec =
+    tie.close
+    (tie.spec
+    part-requires
+    check-requires
+    enum-known-f
+    enum-known-l
+    check-models-requires
+    returns
+    returns-2)

@@ -1,0 +1,46 @@
+-- `casefile::check_rest` meets its contract: by the check of the formulas.
+use mathlib.Core.Path.{_≡_, sym, ap, _∙_}
+use borrow.Author.Needs.{needs}
+use Rattle.casefile.specs.Answer.{restOf}
+use Rattle.casefile.proofs.check_rest.Statement.{statement}
+use Rattle.casefile.proofs.check_rest.Tie as tie
+use Rattle.casefile.proofs.check_rest.Reads as reads
+use Rattle.casefile.proofs.check_rest.Lts as lts
+use Rattle.casefile.proofs.check_formulas.Reads as check-formulas-reads
+
+check-formulas-requires : tie.Need-check-formulas-requires
+check-formulas-requires c κs = search needs
+
+enum-known-i : tie.Need-enum-known-i
+enum-known-i c = search needs
+
+enum-told : tie.Need-enum-told
+enum-told c = search needs
+
+shared-slice-read-t11 : tie.Need-shared-slice-read-t11
+shared-slice-read-t11 c = search needs
+
+sub-t12 : tie.Need-sub-t12
+sub-t12 c = search needs
+
+returns : tie.Need-returns
+returns c =
+    let a = c .before .before .before .before .before .args in
+    ap (restOf (a .bytes .now) (a .l) (a .states1) (a .states2) (a .k)) (sym (c .before .i .given .1) ∙ c .before .before .before .check-formulas .ensures)
+
+returns-2 : tie.Need-returns-2
+returns-2 c =
+    let a = c .before .before .before .before .before .args in
+    ap (restOf (a .bytes .now) (a .l) (a .states1) (a .states2) (a .k)) (sym (c .before .enum-told .given .1) ∙ c .before .before .before .check-formulas .ensures)
+
+pub check-rest-spec : {M : Type 1} → statement M
+check-rest-spec =
+    tie.close
+    (tie.spec
+    check-formulas-requires
+    enum-known-i
+    enum-told
+    shared-slice-read-t11
+    sub-t12
+    returns
+    returns-2)

@@ -1,0 +1,59 @@
+-- `casefile::check_second` meets its contract: by the check of model 2.
+use mathlib.Core.Path.{_≡_, sym, ap, _∙_}
+use borrow.Author.Needs.{needs}
+use Rattle.model.specs.Reading.{modelAnswer}
+use Rattle.casefile.specs.Answer.{afterSecond}
+use Rattle.casefile.specs.Answered.{second-equal, second-differs}
+use Rattle.casefile.proofs.check_second.Statement.{statement}
+use Rattle.casefile.proofs.check_second.Tie as tie
+use Rattle.casefile.proofs.check_second.Reads as reads
+use Rattle.casefile.proofs.check_second.Lts as lts
+use Rattle.casefile.proofs.check_rest.Reads as check-rest-reads
+use Rattle.casefile.proofs.part.Reads as part-reads
+use Rattle.model.proofs.check.Reads as check-reads
+
+part-requires : tie.Need-part-requires
+part-requires c κs = search needs
+
+check-requires : tie.Need-check-requires
+check-requires c κs = search needs
+
+enum-told : tie.Need-enum-told
+enum-told c = search needs
+
+enum-known-states2 : tie.Need-enum-known-states2
+enum-known-states2 c = search needs
+
+check-rest-requires : tie.Need-check-rest-requires
+check-rest-requires c κs = search needs
+
+returns : tie.Need-returns
+returns c =
+    let a = c .before .before .before .before .before .args in
+    ap (afterSecond (a .bytes .now) (a .l) (a .states1) (a .k)) (sym (c .enum-told .given .1) ∙ c .before .before .check .ensures ∙ ap (modelAnswer (a .l .size)) (c .before .before .before .part .ensures))
+
+returns-2 : tie.Need-returns-2
+returns-2 c =
+    let a = c .before .before .before .before .before .before .before .before .args in
+    c .check-rest .ensures
+    ∙ second-equal _ _ _ _ _ _ (c .before .if1 .taken)
+    ∙ ap (afterSecond (a .bytes .now) (a .l) (a .states1) (a .k)) (sym (c .before .before .before .states2 .given .1) ∙ c .before .before .before .before .before .check .ensures ∙ ap (modelAnswer (a .l .size)) (c .before .before .before .before .before .before .part .ensures))
+
+returns-3 : tie.Need-returns-3
+returns-3 c =
+    let a = c .before .before .before .before .before .before .before .args in
+    second-differs _ _ _ _ _ _ (c .if1 .left)
+    ∙ ap (afterSecond (a .bytes .now) (a .l) (a .states1) (a .k)) (sym (c .before .before .states2 .given .1) ∙ c .before .before .before .before .check .ensures ∙ ap (modelAnswer (a .l .size)) (c .before .before .before .before .before .part .ensures))
+
+pub check-second-spec : {M : Type 1} → statement M
+check-second-spec =
+    tie.close
+    (tie.spec
+    part-requires
+    check-requires
+    enum-told
+    enum-known-states2
+    check-rest-requires
+    returns
+    returns-2
+    returns-3)

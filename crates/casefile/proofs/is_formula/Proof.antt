@@ -1,0 +1,40 @@
+-- `casefile::is_formula` meets its contract: the check of the part says so.
+use Prim.Native.Nat.{ℕ}
+use mathlib.Core.Path.{_≡_, sym, ap, _∙_}
+use mathlib.Core.List.{List}
+use borrow.Author.Needs.{needs}
+use Rattle.formula.specs.Bytes.{formulaReading}
+use Rattle.formula.specs.Check.{checked}
+use Rattle.casefile.specs.Answer.{isAccepted}
+use Rattle.casefile.proofs.is_formula.Statement.{statement}
+use Rattle.casefile.proofs.is_formula.Tie as tie
+use Rattle.casefile.proofs.is_formula.Reads as reads
+use Rattle.casefile.proofs.is_formula.Lts as lts
+use Rattle.casefile.proofs.part.Reads as part-reads
+use Rattle.formula.proofs.check.Reads as check-reads
+
+part-requires : tie.Need-part-requires
+part-requires c κs = search needs
+
+check-requires : tie.Need-check-requires
+check-requires c κs = search needs
+
+enum-told : tie.Need-enum-told
+enum-told c = search needs
+
+enum-told-2 : tie.Need-enum-told-2
+enum-told-2 c = search needs
+
+returns : tie.Need-returns
+returns c =
+    let k = c .before .before .before .before .before .args .k in
+    ap isAccepted (sym (c .enum-told .given .1) ∙ c .before .before .check .ensures ∙ ap (λ (p : List ℕ). checked (formulaReading k p)) (c .before .before .before .part .ensures))
+
+returns-2 : tie.Need-returns-2
+returns-2 c =
+    let k = c .before .before .before .before .before .args .k in
+    ap isAccepted (sym (c .enum-told2 .given .1) ∙ c .before .before .check .ensures ∙ ap (λ (p : List ℕ). checked (formulaReading k p)) (c .before .before .before .part .ensures))
+
+pub is-formula-spec : {M : Type 1} → statement M
+is-formula-spec =
+    tie.close (tie.spec part-requires check-requires enum-told enum-told-2 returns returns-2)

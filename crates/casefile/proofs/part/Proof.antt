@@ -1,0 +1,46 @@
+-- `casefile::part` meets its contract: a placed part stands within the case.
+use Prim.Native.Nat.{_-_}
+use mathlib.Core.Path.{_≡_, refl}
+use native.Mathlib.Omega.{arith}
+use borrow.Author.Needs.{needs}
+use Rattle.casefile.specs.Directory.{sizeOf}
+use Rattle.casefile.proofs.part.Statement.{statement}
+use Rattle.casefile.proofs.part.Tie as tie
+use Rattle.casefile.proofs.part.Reads as reads
+use Rattle.casefile.proofs.part.Lts as lts
+use Rattle.casefile.proofs.part_end.Reads as part-end-reads
+use Rattle.casefile.proofs.part_start.Reads as part-start-reads
+
+part-start-requires : tie.Need-part-start-requires
+part-start-requires c κs = search needs
+
+part-end-requires : tie.Need-part-end-requires
+part-end-requires c κs = search needs
+
+sub-result : tie.Need-sub-result
+sub-result c = search needs
+
+part-result-start : tie.Need-part-result-start
+part-result-start c = search needs
+
+part-result-end : tie.Need-part-result-end
+part-result-end c =
+    let a = c .before .before .before in
+    omega (arith, a .pre .0 .each (a .args .i) (a .pre .1) .within)
+
+returns : tie.Need-returns
+returns c =
+    let a = c .before .before .before .before .args in
+    let e : c .before .part-end .result - c .before .before .part-start .result ≡ sizeOf (a .bytes .now) (a .i) = omega arith in
+    rw (e, c .before .before .part-start .ensures .0) refl
+
+pub part-spec : {M : Type 1} → statement M
+part-spec =
+    tie.close
+    (tie.spec
+    part-start-requires
+    part-end-requires
+    sub-result
+    part-result-start
+    part-result-end
+    returns)

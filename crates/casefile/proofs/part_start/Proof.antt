@@ -1,0 +1,29 @@
+-- `casefile::part_start` meets its contract: the pair stands in the directory.
+use mathlib.Core.Path.{_≡_}
+use borrow.Author.Needs.{needs}
+use Rattle.casefile.specs.Directory.{startOf}
+use Rattle.casefile.proofs.part_start.Statement.{statement}
+use Rattle.casefile.proofs.part_start.Tie as tie
+use Rattle.casefile.proofs.part_start.Reads as reads
+use Rattle.casefile.proofs.part_start.Lts as lts
+use Rattle.casefile.proofs.wide.Reads as wide-reads
+use Rattle.casefile.proofs.word.Reads as word-reads
+
+wide-requires : tie.Need-wide-requires
+wide-requires c κs = search needs
+
+mul-word : tie.Need-mul-word
+mul-word c = search needs
+
+add-word : tie.Need-add-word
+add-word c = search needs
+
+word-requires : tie.Need-word-requires
+word-requires c κs = search needs
+
+returns : tie.Need-returns
+unfolding startOf
+returns c = (rw (c .before .wide .ensures .0) at (c .word .ensures .0), c .word .ensures .1)
+
+pub part-start-spec : {M : Type 1} → statement M
+part-start-spec = tie.close (tie.spec wide-requires mul-word add-word word-requires returns)

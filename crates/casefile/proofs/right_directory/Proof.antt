@@ -1,0 +1,47 @@
+-- `casefile::right_directory` meets its contract: by its tests.
+use mathlib.Core.Path.{_≡_}
+use native.Mathlib.Omega.{arith}
+use borrow.Author.Needs.{needs}
+use borrow.Author.Tests.{le-leb, lt-leb}
+use Rattle.theory.specs.Test.{and-false}
+use Rattle.casefile.specs.Directory.{partCount}
+use Rattle.casefile.proofs.right_directory.Statement.{statement}
+use Rattle.casefile.proofs.right_directory.Tie as tie
+use Rattle.casefile.proofs.right_directory.Reads as reads
+use Rattle.casefile.proofs.right_directory.Lts as lts
+use Rattle.casefile.proofs.wide.Reads as wide-reads
+
+shared-slice-read-count : tie.Need-shared-slice-read-count
+shared-slice-read-count c = search needs
+
+returns : tie.Need-returns
+returns c = simp (lt-leb 3 (partCount (c .before .before .before .args .bytes .now)) (c .if1 .taken))
+
+returns-2 : tie.Need-returns-2
+returns-2 c = simp (lt-leb (partCount (c .before .before .before .before .args .bytes .now)) 11 (c .if2 .taken), and-false)
+
+wide-requires : tie.Need-wide-requires
+wide-requires c κs = search needs
+
+mul-result : tie.Need-mul-result
+mul-result c = search needs
+
+add-result : tie.Need-add-result
+add-result c = search needs
+
+returns-3 : tie.Need-returns-3
+returns-3 c =
+    let n = partCount (c .before .before .before .before .before .args .bytes .now) in
+    simp (le-leb 3 n (c .before .before .if1 .left), le-leb n 11 (c .before .if2 .left), c .wide .ensures .0)
+
+pub right-directory-spec : {M : Type 1} → statement M
+right-directory-spec =
+    tie.close
+    (tie.spec
+    shared-slice-read-count
+    returns
+    returns-2
+    wide-requires
+    mul-result
+    add-result
+    returns-3)

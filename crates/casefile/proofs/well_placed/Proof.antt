@@ -1,0 +1,44 @@
+-- `casefile::well_placed` meets its contract: by its tests.
+use mathlib.Core.Path.{_≡_, sym, ap, _∙_}
+use mathlib.Core.Bool.{_&&_}
+use native.Mathlib.Omega.{arith}
+use borrow.Author.Needs.{needs}
+use borrow.Author.Tests.{lt-ltb, le-ltb, le-leb, lt-leb}
+use Rattle.theory.specs.Test.{and-false}
+use Rattle.casefile.specs.Directory.{sizeOf, startOf}
+use Rattle.casefile.proofs.well_placed.Statement.{statement}
+use Rattle.casefile.proofs.well_placed.Tie as tie
+use Rattle.casefile.proofs.well_placed.Reads as reads
+use Rattle.casefile.proofs.well_placed.Lts as lts
+use Rattle.casefile.proofs.part_end.Reads as part-end-reads
+use Rattle.casefile.proofs.part_size.Reads as part-size-reads
+use Rattle.casefile.proofs.part_start.Reads as part-start-reads
+
+part-size-requires : tie.Need-part-size-requires
+part-size-requires c κs = search needs
+
+returns : tie.Need-returns
+returns c =
+    let a = c .before .before .before .args in
+    simp (le-ltb 0 (sizeOf (a .bytes .now) (a .i)) (omega arith))
+
+part-start-requires : tie.Need-part-start-requires
+part-start-requires c κs = search needs
+
+returns-2 : tie.Need-returns-2
+returns-2 c =
+    let a = c .before .before .before .before .before .args in
+    simp (lt-leb (a .from) (startOf (a .bytes .now) (a .i)) (omega arith), and-false)
+
+part-end-requires : tie.Need-part-end-requires
+part-end-requires c κs = search needs
+
+returns-3 : tie.Need-returns-3
+returns-3 c =
+    let a = c .before .before .before .before .before .before .args in
+    simp (lt-ltb 0 (sizeOf (a .bytes .now) (a .i)) (omega arith), le-leb (a .from) (startOf (a .bytes .now) (a .i)) (omega arith), c .part-end .ensures)
+
+pub well-placed-spec : {M : Type 1} → statement M
+well-placed-spec =
+    tie.close
+    (tie.spec part-size-requires returns part-start-requires returns-2 part-end-requires returns-3)

@@ -1,0 +1,203 @@
+-- What holds of an accepted case, and its gapless form: the same content, and its greatest length. Rests on Reading, Placed and Laid.
+use Prim.Native.Nat.{ℕ, zero, suc, _+_, _*_, _-_, _≤_, _<_}
+use mathlib.Core.Path.{_≡_, refl, sym, ap, _∙_}
+use mathlib.Core.Bool.{Bool, true, false, cond, _&&_}
+use mathlib.Core.List.{List, [], _∷_, _++_}
+use native.Mathlib.Omega.{arith}
+use borrow.Author.Tests.{eqb-true}
+use lib.Dec.{eqb}
+use lib.ListN.{length, getD, take, drop, length-append, length-take, length-drop}
+use lib.Seq.{take-append-add}
+use Rattle.theory.specs.Formula.{Formula}
+use Rattle.theory.specs.Lattice.{All}
+use Rattle.theory.specs.Part.{Part, ModelShape}
+use Rattle.theory.specs.Test.{and-l, and-r}
+use Rattle.refusal.specs.declared.Refusal.{Refusal}
+use Rattle.refusal.specs.declared.Refusal.the-variants.{BadModel}
+use Rattle.lattice.specs.Reading.{LatticeReading, latticeReading}
+use Rattle.model.specs.Places.{prod-le}
+use Rattle.model.specs.Reading.{modelTest, accepted-shape}
+use Rattle.formula.specs.Bytes.{FormulaReading, formulaReading}
+use Rattle.formula.specs.RoundTrip.{formula-part}
+use Rattle.casefile.specs.Directory.{partCount, sizeOf, partAt, partsFrom, partsOf}
+use Rattle.casefile.specs.Reading.{Content, contentParts, CaseReading, refused, content, FormulasReading, refusedAt, read, readOne, formulasReading, afterFormulas, modelsReading, afterLattice, caseReading, partsReading, storeReading}
+use Rattle.casefile.specs.Gapless.{joined, gapless}
+use Rattle.casefile.specs.Placed.{PartPlaced, Placed, placed-reading, accepted-placed}
+use Rattle.casefile.specs.Laid.{gapless-length, gapless-reading}
+
+-- each part of an accepted content passed its own test
+pub record PartsRead (c : Content) : Type 0 where
+  pub lattice-read : latticeReading (c .latticePart) ≡ LatticeReading.accepted (c .lattice)
+  pub model1-read : modelTest (c .lattice .size) (c .model1Part) ≡ true
+  pub model2-read : modelTest (c .lattice .size) (c .model2Part) ≡ true
+  pub same-propositions : getD (c .model1Part) 1 0 ≡ getD (c .model2Part) 1 0
+  pub formulas-read : formulasReading (getD (c .model1Part) 1 0) 3 (c .formulaParts) ≡ read (c .formulas)
+
+-- the content is that of the parts l, m1, m2 and fs
+pub record ContentOf (l m1 m2 : List ℕ) (fs : List (List ℕ)) (c : Content) : Type 0 where
+  pub is : contentParts c ≡ l ∷ m1 ∷ m2 ∷ fs
+  pub reads : PartsRead c
+
+pub refused-content : {r : Refusal} {c : Content} → refused r ≡ content c → ⊥
+refused-content e = let z : _≡_ {A = ℕ} 0 1 = cc in omega arith
+
+module _ (l m1 m2 : List ℕ) (fs : List (List ℕ)) (c : Content) where
+  from-formulas : (P : Part) (x : FormulasReading) → latticeReading l ≡ LatticeReading.accepted P → modelTest (P .size) m1 ≡ true → modelTest (P .size) m2 ≡ true → getD m1 1 0 ≡ getD m2 1 0 → formulasReading (getD m1 1 0) 3 fs ≡ x → afterFormulas l P m1 m2 fs x ≡ content c → ContentOf l m1 m2 fs c
+  from-formulas P (refusedAt i) a s t k f e = absurd (refused-content e)
+  from-formulas P (read φs) a s t k f e =
+      let q : _≡_ {A = Content} (record { latticePart = l; model1Part = m1; model2Part = m2; formulaParts = fs; lattice = P; formulas = φs }) c = cc in
+      rw (← q) (record { is = refl; reads = record { lattice-read = a; model1-read = s; model2-read = t; same-propositions = k; formulas-read = f } })
+
+  from-models : (P : Part) → latticeReading l ≡ LatticeReading.accepted P → modelsReading l P m1 m2 fs ≡ content c → ContentOf l m1 m2 fs c
+  unfolding modelsReading
+  from-models P a e = go (modelTest (P .size) m1) refl (modelTest (P .size) m2 && eqb (getD m1 1 0) (getD m2 1 0)) refl e
+    where
+      go : (s : Bool) → modelTest (P .size) m1 ≡ s → (t : Bool) → (modelTest (P .size) m2 && eqb (getD m1 1 0) (getD m2 1 0)) ≡ t → cond s (cond t (afterFormulas l P m1 m2 fs (formulasReading (getD m1 1 0) 3 fs)) (refused (BadModel 2))) (refused (BadModel 1)) ≡ content c → ContentOf l m1 m2 fs c
+      go false s t u x = absurd (refused-content x)
+      go true s false u x = absurd (refused-content x)
+      go true s true u x = from-formulas P (formulasReading (getD m1 1 0) 3 fs) a s (and-l (modelTest (P .size) m2) _ u) (eqb-true _ _ (and-r (modelTest (P .size) m2) (eqb (getD m1 1 0) (getD m2 1 0)) u)) refl x
+
+  from-lattice : (x : LatticeReading) → latticeReading l ≡ x → afterLattice l x m1 m2 fs ≡ content c → ContentOf l m1 m2 fs c
+  from-lattice (LatticeReading.refused r) a e = absurd (refused-content e)
+  from-lattice (LatticeReading.accepted P) a e = from-models P a e
+
+  pub content-of : partsReading l m1 m2 fs ≡ content c → ContentOf l m1 m2 fs c
+  content-of e = from-lattice (latticeReading l) refl e
+
+-- ---- the parts of a placed case
+
+pub part-length : (b : List ℕ) → Placed b → (i : ℕ) → i < partCount b → length (partAt b i) ≡ sizeOf b i
+part-length b p i l = simp (length-take, length-drop) (omega (arith, p .each i l .within))
+
+pub parts-length : (b : List ℕ) (i n : ℕ) → length (partsFrom b i n) ≡ n
+unfolding partsFrom
+parts-length b i zero = refl
+parts-length b i (suc n) = ap suc (parts-length b (suc i) n)
+
+parts-some : (b : List ℕ) → Placed b → (i n : ℕ) → i + n ≤ partCount b → All (λ p. 0 < length p) (partsFrom b i n)
+unfolding partsFrom
+parts-some b p i zero l = tt
+parts-some b p i (suc n) l = (omega (arith, part-length b p i (omega arith), p .each i (omega arith) .some), parts-some b p (suc i) n (omega arith))
+
+-- the first three parts, and the others
+pub parts-four : (b : List ℕ) → 3 ≤ partCount b → partsOf b ≡ partAt b 0 ∷ partAt b 1 ∷ partAt b 2 ∷ partsFrom b 3 (partCount b - 3)
+unfolding partsFrom
+parts-four b l =
+    let e : partCount b ≡ suc (suc (suc (partCount b - 3))) = omega arith in
+    ap (partsFrom b 0) e
+
+-- ---- an accepted case
+
+pub record Accepted (b : List ℕ) (c : Content) : Type 0 where
+  pub placed : Placed b
+  pub parts : partsOf b ≡ contentParts c
+  pub reads : PartsRead c
+  pub some : All (λ p. 0 < length p) (contentParts c)
+  pub few : length (c .formulaParts) ≤ 8
+  pub again : partsReading (c .latticePart) (c .model1Part) (c .model2Part) (c .formulaParts) ≡ content c
+
+pub accepted-case : (b : List ℕ) (c : Content) → caseReading b ≡ content c → Accepted b c
+accepted-case b c e = go (accepted-placed b c e)
+  where
+    go : Placed b → Accepted b c
+    go p =
+        let d = p .directory in
+        let q = sym (placed-reading b p) ∙ e in
+        let k = content-of (partAt b 0) (partAt b 1) (partAt b 2) (partsFrom b 3 (partCount b - 3)) c q in
+        let s : partsOf b ≡ contentParts c = parts-four b (d .count-least) ∙ sym (k .is) in
+        record {
+          placed = p;
+          parts = s;
+          reads = k .reads;
+          some = rw s at (parts-some b p 0 (partCount b) (omega arith));
+          few = omega (arith, ap length s, parts-length b 0 (partCount b));
+          again = cc (k .is, q);
+        }
+
+-- ---- lengths
+
+lattice-most : (l : List ℕ) (P : Part) → latticeReading l ≡ LatticeReading.accepted P → length l ≤ 4161
+unfolding latticeReading
+lattice-most l P e = absurd (let z : _≡_ {A = ℕ} 0 1 = cc in omega arith)
+
+model-most : (b : List ℕ) → ModelShape b → length b ≤ 5186
+model-most b s =
+    omega (arith, s .exact, s .states-most, prod-le (getD b 0 0) (getD b 1 0) 64 16 (s .states-most) (s .propositions-most), prod-le (getD b 0 0) (getD b 0 0) 64 64 (s .states-most) (s .states-most))
+
+-- the formulas of formula parts: each part is read, and has at most 255 bytes
+pub record FormulasRead (k : ℕ) (ps : List (List ℕ)) (φs : List Formula) : Type 0 where
+  pub as-many : length φs ≡ length ps
+  pub short : All (λ p. length p ≤ 255) ps
+
+pub formulas-read : (k i : ℕ) (ps : List (List ℕ)) (φs : List Formula) → formulasReading k i ps ≡ read φs → FormulasRead k ps φs
+unfolding formulasReading
+formulas-read k i [] φs e = let q : φs ≡ [] = cc in rw q (record { as-many = refl; short = tt })
+formulas-read k i (p ∷ ps) φs e = go (formulaReading k p) refl (formulasReading k (suc i) ps) (formulas-read k (suc i) ps) e
+  where
+    go : (x : FormulaReading) → formulaReading k p ≡ x → (y : FormulasReading) → ((ψs : List Formula) → y ≡ read ψs → FormulasRead k ps ψs) → readOne i x y ≡ read φs → FormulasRead k (p ∷ ps) φs
+    go FormulaReading.refused f y h u = absurd (let z : _≡_ {A = ℕ} 0 1 = cc in omega arith)
+    go (FormulaReading.read φ) f (refusedAt j) h u = absurd (let z : _≡_ {A = ℕ} 0 1 = cc in omega arith)
+    go (FormulaReading.read φ) f (read ψs) h u =
+        let q : φs ≡ φ ∷ ψs = cc in
+        let w = h ψs refl in
+        rw q (record { as-many = ap suc (w .as-many); short = (formula-part k p φ f .most, w .short) })
+
+joined-most : (ps : List (List ℕ)) → All (λ p. length p ≤ 255) ps → length (joined ps) ≤ 255 * length ps
+unfolding joined
+joined-most [] h = omega arith
+joined-most (p ∷ ps) h = omega (arith, length-append p (joined ps), joined-most ps (h .1), h .0)
+
+joined-length : (l m1 m2 : List ℕ) (fs : List (List ℕ)) → length (joined (l ∷ m1 ∷ m2 ∷ fs)) ≡ length l + length m1 + length m2 + length (joined fs)
+unfolding joined
+joined-length l m1 m2 fs = omega (arith, length-append l (m1 ++ (m2 ++ joined fs)), length-append m1 (m2 ++ joined fs), length-append m2 (joined fs))
+
+-- ---- the gapless form of an accepted case
+
+-- 1 + 4·11 bytes of directory, 4,161 of the lattice, 5,186 of each model, 255 of each of 8 formulas
+pub gapless-most : (b : List ℕ) (c : Content) → caseReading b ≡ content c → length (gapless (contentParts c)) ≤ 16618
+gapless-most b c e = go (accepted-case b c e)
+  where
+    go : Accepted b c → length (gapless (contentParts c)) ≤ 16618
+    go a =
+        let r = a .reads in
+        let s = formulas-read (getD (c .model1Part) 1 0) 3 (c .formulaParts) (c .formulas) (r .formulas-read) .short in
+        omega
+        (arith,
+        gapless-length (contentParts c),
+        joined-length (c .latticePart) (c .model1Part) (c .model2Part) (c .formulaParts),
+        lattice-most (c .latticePart) (c .lattice) (r .lattice-read),
+        model-most (c .model1Part) (accepted-shape (c .lattice .size) (c .model1Part) (r .model1-read)),
+        model-most (c .model2Part) (accepted-shape (c .lattice .size) (c .model2Part) (r .model2-read)),
+        joined-most (c .formulaParts) s,
+        a .few)
+
+-- the gapless form of an accepted case, with any bytes after it, reads as the same content
+pub gapless-reads : (b : List ℕ) (c : Content) → caseReading b ≡ content c → (r : List ℕ) → length (gapless (contentParts c) ++ r) ≤ 32768 → caseReading (gapless (contentParts c) ++ r) ≡ content c
+gapless-reads b c e r l = go (accepted-case b c e)
+  where
+    go : Accepted b c → caseReading (gapless (contentParts c) ++ r) ≡ content c
+    go a = gapless-reading (c .latticePart) (c .model1Part) (c .model2Part) (c .formulaParts) r (a .some) (a .few) l ∙ a .again
+
+-- a store that begins with it does too
+front-past : (n : ℕ) (g r : List ℕ) → length g ≤ n → take n (g ++ r) ≡ g ++ take (n - length g) r
+front-past n g r l = let e : n ≡ length g + (n - length g) = omega arith in ap (λ (k : ℕ). take k (g ++ r)) e ∙ take-append-add g r (n - length g)
+
+front-length : (n : ℕ) (g r : List ℕ) → length g ≤ n → length (g ++ take (n - length g) r) ≤ n
+front-length n g r l = simp (length-append, length-take) (omega arith)
+
+pub store-reads : (b : List ℕ) (c : Content) → caseReading b ≡ content c → (r : List ℕ) → storeReading (gapless (contentParts c) ++ r) ≡ content c
+store-reads b c e r =
+    let m : length (gapless (contentParts c)) ≤ 24576 = omega (arith, gapless-most b c e) in
+    rw (front-past 24576 (gapless (contentParts c)) r m)
+    (gapless-reads b c e (take (24576 - length (gapless (contentParts c))) r)
+    (omega (arith, front-length 24576 (gapless (contentParts c)) r m)))
+
+-- cases with the same parts have the same content, and the same gapless form
+pub same-content : (b d : List ℕ) (c f : Content) → caseReading b ≡ content c → caseReading d ≡ content f → contentParts c ≡ contentParts f → c ≡ f
+same-content b d c f p q e = go (accepted-case b c p) (accepted-case d f q)
+  where
+    go : Accepted b c → Accepted d f → c ≡ f
+    go a h = cc (e, a .again, h .again)
+
+pub same-gapless : (b d : List ℕ) (c f : Content) → caseReading b ≡ content c → caseReading d ≡ content f → partsOf b ≡ partsOf d → gapless (contentParts c) ≡ gapless (contentParts f)
+same-gapless b d c f p q e = ap gapless (sym (accepted-case b c p .parts) ∙ e ∙ accepted-case d f q .parts)

@@ -1,0 +1,12 @@
+-- Definitions of `casefile`, then the theorems on them.
+-- ---- what a reader must believe
+pub mod Directory
+pub mod Reading
+pub mod Gapless
+pub mod Answer
+-- ---- theorems
+pub mod Placed
+pub mod Laid
+pub mod Accepted
+pub mod Formulas
+pub mod Answered

@@ -1,0 +1,152 @@
+-- What holds of a case whose size, directory and places are right. Rests on Directory and Reading.
+use Prim.Native.Nat.{ℕ, zero, suc, max, _+_, _*_, _-_, _≤_, _<_}
+use mathlib.Core.Path.{_≡_, refl, sym, _∙_}
+use mathlib.Core.Bool.{Bool, true, false, cond, not, _&&_}
+use mathlib.Core.List.{List, [], _∷_, _++_}
+use native.Mathlib.Nat.{le-refl}
+use native.Mathlib.Numerals.{add-one}
+use native.Mathlib.Omega.{arith}
+use borrow.Author.Tests.{ltb-true, ltb-false, leb-true, lt-ltb, le-ltb, le-leb, not-false}
+use lib.Dec.{ltb, leb}
+use lib.ListN.{length, getD, take, drop}
+use Rattle.theory.specs.Folds.{below-suc}
+use Rattle.theory.specs.Test.{and-l, and-r, bool-same, first-is, first-unique, FirstAt}
+use Rattle.model.specs.Reading.{AllFour, all-four}
+use Rattle.refusal.specs.declared.Refusal.{Refusal}
+use Rattle.refusal.specs.declared.Refusal.the-variants.{CaseSize, Directory, PartPlace, BadModel, BadFormula}
+use Rattle.casefile.specs.Directory.{partCount, directoryEnd, startOf, sizeOf, endOf, endBefore, placed, sizeTest, directoryTest, misplaced, partAt, partsFrom, partsOf}
+use Rattle.casefile.specs.Reading.{Content, CaseReading, refused, content, caseReading, partsReading}
+
+-- part i stands where it may
+pub record PartPlaced (b : List ℕ) (i : ℕ) : Type 0 where
+  pub some : 0 < sizeOf b i
+  pub after-directory : directoryEnd b ≤ startOf b i
+  pub after-part : endBefore b i ≤ startOf b i
+  pub within : endOf b i ≤ length b
+
+pub part-placed : (b : List ℕ) (i : ℕ) → placed b i ≡ true → PartPlaced b i
+unfolding placed
+part-placed b i t =
+    let f =
+        all-four (ltb 0 (sizeOf b i)) (leb (directoryEnd b) (startOf b i)) (leb (endBefore b i) (startOf b i)) (leb (endOf b i) (length b)) t in
+    record {
+      some = ltb-true _ _ (f .fst);
+      after-directory = leb-true _ _ (f .snd);
+      after-part = leb-true _ _ (f .thd);
+      within = leb-true _ _ (f .fth);
+    }
+
+pub placed-part : (b : List ℕ) (i : ℕ) → PartPlaced b i → placed b i ≡ true
+unfolding placed
+placed-part b i p = simp (lt-ltb _ _ (p .some), le-leb _ _ (p .after-directory), le-leb _ _ (p .after-part), le-leb _ _ (p .within))
+
+-- size and directory are right
+pub record HasDirectory (b : List ℕ) : Type 0 where
+  pub size-most : length b ≤ 32768
+  pub count-least : 3 ≤ partCount b
+  pub count-most : partCount b ≤ 11
+  pub directory-in : directoryEnd b ≤ length b
+
+-- and all parts stand where they may
+pub record Placed (b : List ℕ) : Type 0 where
+  pub directory : HasDirectory b
+  pub each : (i : ℕ) → i < partCount b → PartPlaced b i
+
+pub has-directory : (b : List ℕ) → sizeTest b ≡ true → directoryTest b ≡ true → HasDirectory b
+has-directory b s d =
+    let c = and-l (leb 3 (partCount b) && leb (partCount b) 11) (leb (directoryEnd b) (length b)) d in
+    record {
+      size-most = leb-true _ _ (and-r (ltb 0 (length b)) (leb (length b) 32768) s);
+      count-least = leb-true _ _ (and-l (leb 3 (partCount b)) (leb (partCount b) 11) c);
+      count-most = leb-true _ _ (and-r (leb 3 (partCount b)) (leb (partCount b) 11) c);
+      directory-in = leb-true _ _ (and-r (leb 3 (partCount b) && leb (partCount b) 11) (leb (directoryEnd b) (length b)) d);
+    }
+
+-- no part is misplaced exactly where all are placed
+pub none-misplaced : (b : List ℕ) → ltb (misplaced b) (partCount b) ≡ false → (i : ℕ) → i < partCount b → PartPlaced b i
+unfolding misplaced
+none-misplaced b m i l =
+    part-placed b i
+    (not-false _ (first-is (partCount b) (λ j. not (placed b j)) .earlier i (omega (arith, ltb-false (misplaced b) (partCount b) m))))
+
+pub all-placed : (b : List ℕ) (i : ℕ) → HasDirectory b → i ≡ misplaced b → partCount b ≤ i → Placed b
+all-placed b i d e l = record { directory = d; each = none-misplaced b (le-ltb (misplaced b) (partCount b) (omega arith)) }
+
+pub misplaced-none : (b : List ℕ) → ((i : ℕ) → i < partCount b → PartPlaced b i) → misplaced b ≡ partCount b
+unfolding misplaced
+misplaced-none b h =
+    sym
+    (first-unique (partCount b) (λ j. not (placed b j)) (partCount b)
+    (record { most = le-refl _; passes = λ l. absurd (omega arith); earlier = λ i l. rw (placed-part b i (h i l)) }))
+
+-- a placed case is read part by part
+pub placed-reading : (b : List ℕ) → Placed b → caseReading b ≡ partsReading (partAt b 0) (partAt b 1) (partAt b 2) (partsFrom b 3 (partCount b - 3))
+unfolding caseReading
+placed-reading b p =
+    let s : sizeTest b ≡ true = simp (lt-ltb 0 (length b) (omega arith), le-leb _ _ (p .directory .size-most)) in
+    let d : directoryTest b ≡ true = simp (le-leb _ _ (p .directory .count-least), le-leb _ _ (p .directory .count-most), le-leb _ _ (p .directory .directory-in)) in
+    let m : ltb (misplaced b) (partCount b) ≡ false = le-ltb (misplaced b) (partCount b) (omega (arith, misplaced-none b (p .each))) in
+    simp (s, d, m)
+
+-- an accepted case is placed
+pub accepted-placed : (b : List ℕ) (c : Content) → caseReading b ≡ content c → Placed b
+unfolding caseReading
+accepted-placed b c e = go (sizeTest b) refl (directoryTest b) refl (ltb (misplaced b) (partCount b)) refl e
+  where
+    rest : CaseReading
+    rest = partsReading (partAt b 0) (partAt b 1) (partAt b 2) (partsFrom b 3 (partCount b - 3))
+    go : (s : Bool) → sizeTest b ≡ s → (d : Bool) → directoryTest b ≡ d → (m : Bool) → ltb (misplaced b) (partCount b) ≡ m → cond s (cond d (cond m (refused (PartPlace (misplaced b))) rest) (refused Directory)) (refused CaseSize) ≡ content c → Placed b
+    go false s d q m r x = absurd (let z : _≡_ {A = ℕ} 0 1 = cc in omega arith)
+    go true s false q m r x = absurd (let z : _≡_ {A = ℕ} 0 1 = cc in omega arith)
+    go true s true q true r x = absurd (let z : _≡_ {A = ℕ} 0 1 = cc in omega arith)
+    go true s true q false r x = record { directory = has-directory b s q; each = none-misplaced b r }
+
+-- ---- a loop over the directory that keeps in `from` where the next part may start
+
+abbrev pub wellPlaced : List ℕ → ℕ → ℕ → Bool
+wellPlaced b i from = ltb 0 (sizeOf b i) && leb from (startOf b i) && leb (endOf b i) (length b)
+
+-- the parts before part i are placed
+pub record PlacedUpto (b : List ℕ) (i from : ℕ) : Type 0 where
+  pub from-is : from ≡ max (directoryEnd b) (endBefore b i)
+  pub before : (j : ℕ) → j < i → placed b j ≡ true
+
+pub well-is-placed : (b : List ℕ) (i from : ℕ) → PlacedUpto b i from → wellPlaced b i from ≡ placed b i
+well-is-placed b i from h =
+    bool-same (wellPlaced b i from) (placed b i)
+    (λ t.
+      let u = and-l (ltb 0 (sizeOf b i) && leb from (startOf b i)) (leb (endOf b i) (length b)) t in
+      let l = leb-true from (startOf b i) (and-r (ltb 0 (sizeOf b i)) (leb from (startOf b i)) u) in
+      placed-part b i
+      (record {
+        some = ltb-true _ _ (and-l (ltb 0 (sizeOf b i)) (leb from (startOf b i)) u);
+        after-directory = omega (arith, h .from-is);
+        after-part = omega (arith, h .from-is);
+        within = leb-true _ _ (and-r (ltb 0 (sizeOf b i) && leb from (startOf b i)) (leb (endOf b i) (length b)) t);
+      }))
+    (λ t. go (part-placed b i t))
+  where
+    go : PartPlaced b i → wellPlaced b i from ≡ true
+    go p = simp (lt-ltb _ _ (p .some), le-leb from (startOf b i) (omega (arith, h .from-is, p .after-directory, p .after-part)), le-leb _ _ (p .within))
+
+pub upto-none : (b : List ℕ) (from : ℕ) → from ≡ directoryEnd b → PlacedUpto b 0 from
+upto-none b from e = record { from-is = omega arith; before = λ j l. absurd (omega arith) }
+
+pub upto-more : (b : List ℕ) (i from next : ℕ) → PlacedUpto b i from → wellPlaced b i from ≡ true → next ≡ endOf b i → PlacedUpto b (i + 1) next
+upto-more b i from next h t e = rw add-one (go (sym (well-is-placed b i from h) ∙ t))
+  where
+    go : placed b i ≡ true → PlacedUpto b (suc i) next
+    go q = record { from-is = omega (arith, part-placed b i q .after-directory); before = below-suc {P = λ j. placed b j ≡ true} (h .before) q }
+
+pub upto-stop : (b : List ℕ) (i from : ℕ) → PlacedUpto b i from → i < partCount b → wellPlaced b i from ≡ false → i ≡ misplaced b
+unfolding misplaced
+upto-stop b i from h l t =
+    let q : placed b i ≡ false = sym (well-is-placed b i from h) ∙ t in
+    first-unique (partCount b) (λ j. not (placed b j)) i
+    (record { most = omega arith; passes = λ m. rw q; earlier = λ j m. rw (h .before j m) })
+
+pub upto-done : (b : List ℕ) (i from : ℕ) → PlacedUpto b i from → i ≤ partCount b → partCount b ≤ i → partCount b ≡ misplaced b
+unfolding misplaced
+upto-done b i from h l m =
+    first-unique (partCount b) (λ j. not (placed b j)) (partCount b)
+    (record { most = le-refl _; passes = λ q. absurd (omega arith); earlier = λ j q. rw (h .before j (omega arith)) })
