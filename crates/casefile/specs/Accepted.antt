@@ -161,15 +161,16 @@ gapless-most b c e = go (accepted-case b c e)
     go a =
         let r = a .reads in
         let s = formulas-read (getD (c .model1Part) 1 0) 3 (c .formulaParts) (c .formulas) (r .formulas-read) .short in
-        omega
-        (arith,
-        gapless-length (contentParts c),
-        joined-length (c .latticePart) (c .model1Part) (c .model2Part) (c .formulaParts),
-        lattice-most (c .latticePart) (c .lattice) (r .lattice-read),
-        model-most (c .model1Part) (accepted-shape (c .lattice .size) (c .model1Part) (r .model1-read)),
-        model-most (c .model2Part) (accepted-shape (c .lattice .size) (c .model2Part) (r .model2-read)),
-        joined-most (c .formulaParts) s,
-        a .few)
+        omega (
+          arith,
+          gapless-length (contentParts c),
+          joined-length (c .latticePart) (c .model1Part) (c .model2Part) (c .formulaParts),
+          lattice-most (c .latticePart) (c .lattice) (r .lattice-read),
+          model-most (c .model1Part) (accepted-shape (c .lattice .size) (c .model1Part) (r .model1-read)),
+          model-most (c .model2Part) (accepted-shape (c .lattice .size) (c .model2Part) (r .model2-read)),
+          joined-most (c .formulaParts) s,
+          a .few,
+        )
 
 -- the gapless form of an accepted case, with any bytes after it, reads as the same content
 pub gapless-reads : (b : List ℕ) (c : Content) → caseReading b ≡ content c → (r : List ℕ) → length (gapless (contentParts c) ++ r) ≤ 32768 → caseReading (gapless (contentParts c) ++ r) ≡ content c

@@ -43,10 +43,10 @@ formulas-more b k n f h l t =
     let d : n - f - 1 ≡ n - (f + 1) = omega arith in
     record {
       same =
-        h .same
-        ∙ answer-one b k (3 + f) (n - f) (omega arith)
-        ∙ read-one (3 + f) (formulaReading k (partAt b (3 + f))) (formulasReading k (suc (3 + f)) (partsFrom b (suc (3 + f)) (n - f - 1))) t
-        ∙ ap₂ (answerFrom b k) e d;
+          h .same
+          ∙ answer-one b k (3 + f) (n - f) (omega arith)
+          ∙ read-one (3 + f) (formulaReading k (partAt b (3 + f))) (formulasReading k (suc (3 + f)) (partsFrom b (suc (3 + f)) (n - f - 1))) t
+          ∙ ap₂ (answerFrom b k) e d;
     }
 
 pub formulas-stop : (b : List ℕ) (k n f : ℕ) → FormulasUpto b k n f → f < n → isRead (formulaReading k (partAt b (3 + f))) ≡ false → RefusedAt (3 + f) ≡ answerFrom b k 3 n

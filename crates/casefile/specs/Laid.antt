@@ -48,19 +48,20 @@ module _ (b : List ℕ) where
   unfolding pairs joined
   laid [] i at pre r front s e l f m = tt
   laid (p ∷ ps) i at pre r front s e l f m =
-      let g : b ≡ front ++ (p ++ (joined ps ++ s)) = f ∙ rw append-assoc in
-      (record {
-        starts = start-read i at pre _ e l;
-        sized = size-read i at (length p) pre _ e l;
-        bytes = rw (g, drop-at front (p ++ (joined ps ++ s)) at m) (take-at p (joined ps ++ s) (length p) refl);
-        within = omega (arith, m, ap length g, length-append front (p ++ (joined ps ++ s)), length-append p (joined ps ++ s));
-      },
-      laid ps (suc i) (at + length p)
-        (pre ++ word at (word (length p) [])) r (front ++ p) s
-        (e ∙ sym (append-assoc pre (word at (word (length p) [])) (pairs (at + length p) ps ++ r)))
-        (omega (arith, l, length-append pre (word at (word (length p) []))))
-        (g ∙ sym (append-assoc front p (joined ps ++ s)))
-        (omega (arith, m, length-append front p)))
+      let g : b ≡ front ++ (p ++ (joined ps ++ s)) = f ∙ rw append-assoc in (
+        record {
+          starts = start-read i at pre _ e l;
+          sized = size-read i at (length p) pre _ e l;
+          bytes = rw (g, drop-at front (p ++ (joined ps ++ s)) at m) (take-at p (joined ps ++ s) (length p) refl);
+          within = omega (arith, m, ap length g, length-append front (p ++ (joined ps ++ s)), length-append p (joined ps ++ s));
+        },
+        laid ps (suc i) (at + length p)
+            (pre ++ word at (word (length p) [])) r (front ++ p) s
+            (e ∙ sym (append-assoc pre (word at (word (length p) [])) (pairs (at + length p) ps ++ r)))
+            (omega (arith, l, length-append pre (word at (word (length p) []))))
+            (g ∙ sym (append-assoc front p (joined ps ++ s)))
+            (omega (arith, m, length-append front p)),
+      )
 
   -- a part that is laid is read as it is
   pub laid-part : (i at : ℕ) (p : List ℕ) → LaidOne b i at p → partAt b i ≡ p
@@ -77,13 +78,13 @@ module _ (b : List ℕ) where
   laid-placed (p ∷ ps) i at h some d e j l m =
       ⊎-elim
       (λ (q : i ≡ j).
-        rw (← q)
-        (record {
-          some = omega (arith, h .0 .sized, some .0);
-          after-directory = omega (arith, h .0 .starts);
-          after-part = omega (arith, h .0 .starts);
-          within = omega (arith, h .0 .starts, h .0 .sized, h .0 .within);
-        }))
+      rw (← q)
+      (record {
+        some = omega (arith, h .0 .sized, some .0);
+        after-directory = omega (arith, h .0 .starts);
+        after-part = omega (arith, h .0 .starts);
+        within = omega (arith, h .0 .starts, h .0 .sized, h .0 .within);
+      }))
       (λ (q : i < j). laid-placed ps (suc i) (at + length p) (h .1) (some .1) (omega arith) (omega (arith, h .0 .starts, h .0 .sized)) j q (omega arith))
       (eq-or-lt-of-le l)
 

@@ -10,3 +10,4 @@ pub mod Laid
 pub mod Accepted
 pub mod Formulas
 pub mod Answered
+pub mod Written

@@ -28,7 +28,7 @@ pub part-placed : (b : List ℕ) (i : ℕ) → placed b i ≡ true → PartPlace
 unfolding placed
 part-placed b i t =
     let f =
-        all-four (ltb 0 (sizeOf b i)) (leb (directoryEnd b) (startOf b i)) (leb (endBefore b i) (startOf b i)) (leb (endOf b i) (length b)) t in
+    all-four (ltb 0 (sizeOf b i)) (leb (directoryEnd b) (startOf b i)) (leb (endBefore b i) (startOf b i)) (leb (endOf b i) (length b)) t in
     record {
       some = ltb-true _ _ (f .fst);
       after-directory = leb-true _ _ (f .snd);
@@ -95,6 +95,7 @@ accepted-placed b c e = go (sizeTest b) refl (directoryTest b) refl (ltb (mispla
   where
     rest : CaseReading
     rest = partsReading (partAt b 0) (partAt b 1) (partAt b 2) (partsFrom b 3 (partCount b - 3))
+
     go : (s : Bool) → sizeTest b ≡ s → (d : Bool) → directoryTest b ≡ d → (m : Bool) → ltb (misplaced b) (partCount b) ≡ m → cond s (cond d (cond m (refused (PartPlace (misplaced b))) rest) (refused Directory)) (refused CaseSize) ≡ content c → Placed b
     go false s d q m r x = absurd (let z : _≡_ {A = ℕ} 0 1 = cc in omega arith)
     go true s false q m r x = absurd (let z : _≡_ {A = ℕ} 0 1 = cc in omega arith)
@@ -115,15 +116,15 @@ pub well-is-placed : (b : List ℕ) (i from : ℕ) → PlacedUpto b i from → w
 well-is-placed b i from h =
     bool-same (wellPlaced b i from) (placed b i)
     (λ t.
-      let u = and-l (ltb 0 (sizeOf b i) && leb from (startOf b i)) (leb (endOf b i) (length b)) t in
-      let l = leb-true from (startOf b i) (and-r (ltb 0 (sizeOf b i)) (leb from (startOf b i)) u) in
-      placed-part b i
-      (record {
-        some = ltb-true _ _ (and-l (ltb 0 (sizeOf b i)) (leb from (startOf b i)) u);
-        after-directory = omega (arith, h .from-is);
-        after-part = omega (arith, h .from-is);
-        within = leb-true _ _ (and-r (ltb 0 (sizeOf b i) && leb from (startOf b i)) (leb (endOf b i) (length b)) t);
-      }))
+    let u = and-l (ltb 0 (sizeOf b i) && leb from (startOf b i)) (leb (endOf b i) (length b)) t in
+    let l = leb-true from (startOf b i) (and-r (ltb 0 (sizeOf b i)) (leb from (startOf b i)) u) in
+    placed-part b i
+    (record {
+      some = ltb-true _ _ (and-l (ltb 0 (sizeOf b i)) (leb from (startOf b i)) u);
+      after-directory = omega (arith, h .from-is);
+      after-part = omega (arith, h .from-is);
+      within = leb-true _ _ (and-r (ltb 0 (sizeOf b i) && leb from (startOf b i)) (leb (endOf b i) (length b)) t);
+    }))
     (λ t. go (part-placed b i t))
   where
     go : PartPlaced b i → wellPlaced b i from ≡ true

@@ -6,14 +6,15 @@ use operations::Lattice;
 use refusal::Refusal;
 ghost use mathlib.Core.Path.{_≡_};
 ghost use mathlib.Core.Bool.{_&&_};
-ghost use Prim.Native.Nat.{_+_, _*_, _-_, _%_, _/_, _≤_, _<_};
+ghost use mathlib.Core.List.{_++_};
+ghost use Prim.Native.Nat.{_+_, _*_, _-_, _≤_, _<_};
 ghost use lib.Dec.{ltb, leb};
-ghost use lib.ListN.{length, set, drop};
-ghost use lib.Seq.{paste};
+ghost use lib.ListN.{length, drop};
 ghost use Rattle.casefile.specs.Directory.{partCount, wordAt, startOf, sizeOf, endOf, sizeTest, directoryTest, misplaced, partAt, partsFrom, partsOf};
 ghost use Rattle.formula.specs.Bytes.{formulaReading};
 ghost use Rattle.casefile.specs.Reading.{formulasReading};
 ghost use Rattle.casefile.specs.Answer.{isRead, formulasAnswer, restAnswer, secondAnswer, modelsAnswer, PartsAnswered, CaseAnswered};
+ghost use Rattle.casefile.specs.Gapless.{pairs, joined, gapless, overlaid, withWord, withPair};
 ghost use Rattle.casefile.specs.Placed.{HasDirectory, Placed};
 
 // What an accepted case holds: its lattice, and the sizes of its models and formulas.
@@ -239,4 +240,74 @@ pub fn check(bytes: &[u8], t: &mut [u8; 12352]) -> CaseCheck
         return CaseCheck::Refused(Refusal::PartPlace(i));
     }
     check_parts(bytes, t)
+}
+
+// ---- the gapless case
+
+// Writes bytes at a place of a buffer.
+fn copy(part: &[u8], out: &mut [u8], at: usize)
+    requires { ⌜ at + length (now part) ≤ length (now out) ⌝ }
+    ensures { λ _. ⌜ now (out .exit) ≡ overlaid (now (out .entry)) at (now (part .entry)) ⌝ }
+{
+    let count = part.len();
+    for j in 0..count {
+        out[at + j] = part[j];
+    }
+}
+
+// Writes a number of 16 bits, low byte first.
+fn put_word(out: &mut [u8], at: usize, x: usize)
+    requires { ⌜ (at + 1 < length (now out)) × (x < 65536) ⌝ }
+    ensures { λ _. ⌜ now (out .exit) ≡ withWord (now (out .entry)) at x ⌝ }
+{
+    out[at] = (x % 256) as u8;
+    out[at + 1] = (x / 256) as u8;
+}
+
+// Writes the pair of part i.
+fn put_pair(out: &mut [u8], i: u8, start: usize, size: usize)
+    requires { ⌜ (4 + 4 * i < length (now out)) × (start < 65536) × (size < 65536) ⌝ }
+    ensures { λ _. ⌜ now (out .exit) ≡ withPair (now (out .entry)) i start size ⌝ }
+{
+    put_word(out, 1 + 4 * wide(i), start);
+    put_word(out, 3 + 4 * wide(i), size);
+}
+
+// Writes the pairs of offset and length, for parts without gaps.
+fn write_pairs(bytes: &[u8], out: &mut [u8])
+    requires { ⌜ Placed (now bytes) × (length (gapless (partsOf (now bytes))) ≤ length (now out)) ⌝ }
+    ensures { λ _. ⌜ now (out .exit) ≡ overlaid (now (out .entry)) 1 (pairs (1 + 4 * partCount (now (bytes .entry))) (partsOf (now (bytes .entry)))) ⌝ }
+{
+    let count = bytes[0];
+    let mut at = 1 + 4 * wide(count);
+    for i in 0..count {
+        let size = part_size(bytes, i);
+        put_pair(out, i, at, size);
+        at = at + size;
+    }
+}
+
+// Writes the bytes of the parts, one after the other, after the directory.
+fn write_parts(bytes: &[u8], out: &mut [u8]) -> usize
+    requires { ⌜ Placed (now bytes) × (length (gapless (partsOf (now bytes))) ≤ length (now out)) ⌝ }
+    ensures { λ r. ⌜ (r ≡ length (gapless (partsOf (now (bytes .entry))))) × (now (out .exit) ≡ overlaid (now (out .entry)) (1 + 4 * partCount (now (bytes .entry))) (joined (partsOf (now (bytes .entry))))) ⌝ }
+{
+    let count = bytes[0];
+    let mut at = 1 + 4 * wide(count);
+    for i in 0..count {
+        let p = part(bytes, i);
+        copy(p, out, at);
+        at = at + p.len();
+    }
+    at
+}
+
+// Writes the gapless case of the parts of an accepted case, and says how many bytes it has. The bytes after it are kept.
+pub fn write(bytes: &[u8], out: &mut [u8]) -> usize
+    requires { ⌜ Placed (now bytes) × (length (gapless (partsOf (now bytes))) ≤ length (now out)) ⌝ }
+    ensures { λ r. ⌜ (r ≡ length (gapless (partsOf (now (bytes .entry))))) × (now (out .exit) ≡ gapless (partsOf (now (bytes .entry))) ++ drop r (now (out .entry))) ⌝ }
+{
+    out[0] = bytes[0];
+    write_pairs(bytes, out);
+    write_parts(bytes, out)
 }

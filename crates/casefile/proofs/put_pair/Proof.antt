@@ -1,0 +1,56 @@
+-- `casefile::put_pair` meets its contract: two words.
+use Rattle.casefile.specs.Written.{pair-put}
+use borrow.Author.Needs.{needs}
+use Rattle.casefile.proofs.put_pair.Statement.{statement}
+use Rattle.casefile.proofs.put_pair.Tie as tie
+use Rattle.casefile.proofs.put_pair.Reads as reads
+use Rattle.casefile.proofs.put_pair.Lts as lts
+use Rattle.casefile.proofs.put_word.Reads as put-word-reads
+use Rattle.casefile.proofs.wide.Reads as wide-reads
+
+wide-requires : tie.Need-wide-requires
+wide-requires c κs = search needs
+
+mul-put-word : tie.Need-mul-put-word
+mul-put-word c = search needs
+
+add-put-word : tie.Need-add-put-word
+add-put-word c = search needs
+
+put-word-requires : tie.Need-put-word-requires
+put-word-requires c κs = search needs
+
+wide-requires-2 : tie.Need-wide-requires-2
+wide-requires-2 c κs = search needs
+
+mul-put-word-2 : tie.Need-mul-put-word-2
+mul-put-word-2 c = search needs
+
+add-put-word-2 : tie.Need-add-put-word-2
+add-put-word-2 c = search needs
+
+put-word-requires-2 : tie.Need-put-word-requires-2
+put-word-requires-2 c κs = search needs
+
+same-length : tie.Need-same-length
+same-length c = search needs
+
+returns : tie.Need-returns
+returns c =
+    let a = c .before .before .before .before .before .before .before .before .before .before .before .args in
+    pair-put (a .out .now) _ _ (a .i) _ _ (a .start) (a .size) (c .before .before .before .before .before .before .before .before .wide .ensures .0) (c .before .before .before .wide2 .ensures .0) (c .before .before .before .before .before .before .before .put-word .ensures) (c .before .before .put-word2 .ensures)
+
+pub put-pair-spec : {M : Type 1} → statement M
+put-pair-spec =
+    tie.close
+    (tie.spec
+    wide-requires
+    mul-put-word
+    add-put-word
+    put-word-requires
+    wide-requires-2
+    mul-put-word-2
+    add-put-word-2
+    put-word-requires-2
+    same-length
+    returns)

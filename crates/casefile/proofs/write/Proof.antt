@@ -1,0 +1,55 @@
+-- `casefile::write` meets its contract: the count, the pairs, then the parts.
+use mathlib.Core.Path.{_≡_, sym, ap, _∙_}
+use native.Mathlib.Omega.{arith}
+use lib.ListN.{length, length-set}
+use Rattle.casefile.specs.Directory.{partCount}
+use Rattle.casefile.specs.Written.{directory-fits, case-written}
+use borrow.Author.Needs.{needs}
+use Rattle.casefile.proofs.write.Statement.{statement}
+use Rattle.casefile.proofs.write.Tie as tie
+use Rattle.casefile.proofs.write.Reads as reads
+use Rattle.casefile.proofs.write.Lts as lts
+use Rattle.casefile.proofs.write_pairs.Reads as write-pairs-reads
+use Rattle.casefile.proofs.write_parts.Reads as write-parts-reads
+
+shared-slice-read-out : tie.Need-shared-slice-read-out
+shared-slice-read-out c = search needs
+
+slice-write-out : tie.Need-slice-write-out
+slice-write-out c =
+    let s = c .before .before .before in
+    omega (arith, directory-fits (s .args .bytes .now) (s .args .out .now) (s .pre .0) (s .pre .1))
+
+write-pairs-requires : tie.Need-write-pairs-requires
+write-pairs-requires c κs = search needs
+
+write-parts-requires : tie.Need-write-parts-requires
+write-parts-requires c κs =
+    let s = c .before .before .before .before .before .before .before .before in
+    (s .pre .0, omega (arith, s .pre .1, c .before .before .before .write-pairs .kept .1 .0, length-set (s .args .out .now) 0 (partCount (s .args .bytes .now))))
+
+same-length : tie.Need-same-length
+same-length c =
+    let s = c .before .before .before .before .before .before .before .before .before .before .before in
+    c .before .before .write-parts .kept .1 .0
+    ∙ c .before .before .before .before .before .before .write-pairs .kept .1 .0
+    ∙ length-set (s .args .out .now) 0 (partCount (s .args .bytes .now))
+
+returns : tie.Need-returns
+returns c =
+    let s = c .before .before .before .before .before .before .before .before .before .before .before in
+    let w = c .before .before .write-parts .ensures in (
+      w .0,
+      case-written (s .args .bytes .now) (s .args .out .now) (s .pre .0) (s .pre .1) _ _ _ (c .before .before .before .before .before .before .write-pairs .ensures) (w .1) (w .0),
+    )
+
+pub write-spec : {M : Type 1} → statement M
+write-spec =
+    tie.close
+    (tie.spec
+    shared-slice-read-out
+    slice-write-out
+    write-pairs-requires
+    write-parts-requires
+    same-length
+    returns)
