@@ -1,7 +1,7 @@
 -- What holds of an accepted case, and its gapless form: the same content, and its greatest length. Rests on Reading, Placed and Laid.
 use Prim.Native.Nat.{ℕ, zero, suc, _+_, _*_, _-_, _≤_, _<_}
 use mathlib.Core.Path.{_≡_, refl, sym, ap, _∙_}
-use mathlib.Core.Bool.{Bool, true, false, cond, _&&_}
+use mathlib.Core.Bool.{Bool, true, false, cond, _&&_, _||_}
 use mathlib.Core.List.{List, [], _∷_, _++_}
 use native.Mathlib.Omega.{arith}
 use borrow.Author.Tests.{eqb-true}
@@ -13,8 +13,9 @@ use Rattle.theory.specs.Lattice.{All}
 use Rattle.theory.specs.Part.{Part, ModelShape}
 use Rattle.theory.specs.Test.{and-l, and-r}
 use Rattle.refusal.specs.declared.Refusal.{Refusal}
-use Rattle.refusal.specs.declared.Refusal.the-variants.{BadModel}
-use Rattle.lattice.specs.Reading.{LatticeReading, latticeReading}
+use Rattle.refusal.specs.declared.Refusal.the-variants.{LatticeForm, BadModel}
+use Rattle.lattice.specs.Reading.{LatticeReading, latticeReading, latticePart, latticeForm, isPanel, explicitForm, partReading, require}
+use Rattle.lattice.specs.Accepted.{explicit-out}
 use Rattle.model.specs.Places.{prod-le}
 use Rattle.model.specs.Reading.{modelTest, accepted-shape}
 use Rattle.formula.specs.Bytes.{FormulaReading, formulaReading}
@@ -116,9 +117,23 @@ accepted-case b c e = go (accepted-placed b c e)
 
 -- ---- lengths
 
-lattice-most : (l : List ℕ) (P : Part) → latticeReading l ≡ LatticeReading.accepted P → length l ≤ 4161
-unfolding latticeReading
-lattice-most l P e = absurd (let z : _≡_ {A = ℕ} 0 1 = cc in omega arith)
+form-passes : (l : List ℕ) (P : Part) → latticeReading l ≡ LatticeReading.accepted P → latticeForm l ≡ true
+unfolding latticeReading require
+form-passes l P e = go (latticeForm l) e
+  where
+    go : (t : Bool) → require t LatticeForm (partReading (latticePart l)) ≡ LatticeReading.accepted P → t ≡ true
+    go true f = refl
+    go false f = absurd (let z : _≡_ {A = ℕ} 0 1 = cc in omega arith)
+
+form-most : (l : List ℕ) → latticeForm l ≡ true → length l ≤ 4161
+unfolding latticeForm isPanel
+form-most l t = go (isPanel l) refl t
+  where
+    n : ℕ
+    n = getD l 0 0
+    go : (p : Bool) → isPanel l ≡ p → (p || explicitForm n l) ≡ true → length l ≤ 4161
+    go true e f = omega (arith, eqb-true (length l) 1 (and-l (eqb (length l) 1) (eqb n 0) e))
+    go false e f = let w = explicit-out n l f in omega (arith, w .exact, w .most, prod-le n n 64 64 (w .most) (w .most))
 
 model-most : (b : List ℕ) → ModelShape b → length b ≤ 5186
 model-most b s =
@@ -165,7 +180,7 @@ gapless-most b c e = go (accepted-case b c e)
           arith,
           gapless-length (contentParts c),
           joined-length (c .latticePart) (c .model1Part) (c .model2Part) (c .formulaParts),
-          lattice-most (c .latticePart) (c .lattice) (r .lattice-read),
+          form-most (c .latticePart) (form-passes (c .latticePart) (c .lattice) (r .lattice-read)),
           model-most (c .model1Part) (accepted-shape (c .lattice .size) (c .model1Part) (r .model1-read)),
           model-most (c .model2Part) (accepted-shape (c .lattice .size) (c .model2Part) (r .model2-read)),
           joined-most (c .formulaParts) s,
