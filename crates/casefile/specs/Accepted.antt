@@ -3,12 +3,13 @@ use Prim.Native.Nat.{ℕ, zero, suc, _+_, _*_, _-_, _≤_, _<_}
 use mathlib.Core.Path.{_≡_, refl, sym, ap, _∙_}
 use mathlib.Core.Bool.{Bool, true, false, cond, _&&_, _||_}
 use mathlib.Core.List.{List, [], _∷_, _++_}
+use native.Mathlib.Nat.{le-of-suc-le-suc, not-suc-le-zero}
 use native.Mathlib.Omega.{arith}
 use borrow.Author.Tests.{eqb-true}
 use lib.Dec.{eqb}
 use lib.ListN.{length, getD, take, drop, length-append, length-take, length-drop}
 use lib.Seq.{take-append-add}
-use Rattle.theory.specs.Formula.{Formula}
+use Rattle.theory.specs.Formula.{Formula, bottom}
 use Rattle.theory.specs.Lattice.{All}
 use Rattle.theory.specs.Part.{Part, ModelShape}
 use Rattle.theory.specs.Test.{and-l, and-r}
@@ -131,6 +132,7 @@ form-most l t = go (isPanel l) refl t
   where
     n : ℕ
     n = getD l 0 0
+
     go : (p : Bool) → isPanel l ≡ p → (p || explicitForm n l) ≡ true → length l ≤ 4161
     go true e f = omega (arith, eqb-true (length l) 1 (and-l (eqb (length l) 1) (eqb n 0) e))
     go false e f = let w = explicit-out n l f in omega (arith, w .exact, w .most, prod-le n n 64 64 (w .most) (w .most))
@@ -139,14 +141,19 @@ model-most : (b : List ℕ) → ModelShape b → length b ≤ 5186
 model-most b s =
     omega (arith, s .exact, s .states-most, prod-le (getD b 0 0) (getD b 1 0) 64 16 (s .states-most) (s .propositions-most), prod-le (getD b 0 0) (getD b 0 0) 64 64 (s .states-most) (s .states-most))
 
--- the formulas of formula parts: each part is read, and has at most 255 bytes
+-- the formulas of formula parts: as many, each part is read as its formula, and has at most 255 bytes
 pub record FormulasRead (k : ℕ) (ps : List (List ℕ)) (φs : List Formula) : Type 0 where
   pub as-many : length φs ≡ length ps
   pub short : All (λ p. length p ≤ 255) ps
+  pub each : (f : ℕ) → f < length φs → formulaReading k (getD ps f []) ≡ FormulaReading.read (getD φs f bottom)
+
+each-more : (k : ℕ) (p : List ℕ) (ps : List (List ℕ)) (φ : Formula) (φs : List Formula) → formulaReading k p ≡ FormulaReading.read φ → FormulasRead k ps φs → (f : ℕ) → f < length (φ ∷ φs) → formulaReading k (getD (p ∷ ps) f []) ≡ FormulaReading.read (getD (φ ∷ φs) f bottom)
+each-more k p ps φ φs e h zero l = e
+each-more k p ps φ φs e h (suc f) l = h .each f (le-of-suc-le-suc l)
 
 pub formulas-read : (k i : ℕ) (ps : List (List ℕ)) (φs : List Formula) → formulasReading k i ps ≡ read φs → FormulasRead k ps φs
 unfolding formulasReading
-formulas-read k i [] φs e = let q : φs ≡ [] = cc in rw q (record { as-many = refl; short = tt })
+formulas-read k i [] φs e = let q : φs ≡ [] = cc in rw q (record { as-many = refl; short = tt; each = λ f l. absurd (not-suc-le-zero l) })
 formulas-read k i (p ∷ ps) φs e = go (formulaReading k p) refl (formulasReading k (suc i) ps) (formulas-read k (suc i) ps) e
   where
     go : (x : FormulaReading) → formulaReading k p ≡ x → (y : FormulasReading) → ((ψs : List Formula) → y ≡ read ψs → FormulasRead k ps ψs) → readOne i x y ≡ read φs → FormulasRead k (p ∷ ps) φs
@@ -155,7 +162,7 @@ formulas-read k i (p ∷ ps) φs e = go (formulaReading k p) refl (formulasReadi
     go (FormulaReading.read φ) f (read ψs) h u =
         let q : φs ≡ φ ∷ ψs = cc in
         let w = h ψs refl in
-        rw q (record { as-many = ap suc (w .as-many); short = (formula-part k p φ f .most, w .short) })
+        rw q (record { as-many = ap suc (w .as-many); short = (formula-part k p φ f .most, w .short); each = each-more k p ps φ ψs f w })
 
 joined-most : (ps : List (List ℕ)) → All (λ p. length p ≤ 255) ps → length (joined ps) ≤ 255 * length ps
 unfolding joined
@@ -207,6 +214,13 @@ store-reads b c e r =
     rw (front-past 24576 (gapless (contentParts c)) r m)
     (gapless-reads b c e (take (24576 - length (gapless (contentParts c))) r)
     (omega (arith, front-length 24576 (gapless (contentParts c)) r m)))
+
+-- the same of the parts that a case holds, as they are written
+pub written-most : (b : List ℕ) (c : Content) → caseReading b ≡ content c → length (gapless (partsOf b)) ≤ 16618
+written-most b c e = rw (accepted-case b c e .parts) (gapless-most b c e)
+
+pub written-reads : (b : List ℕ) (c : Content) → caseReading b ≡ content c → (r : List ℕ) → storeReading (gapless (partsOf b) ++ r) ≡ content c
+written-reads b c e r = rw (accepted-case b c e .parts) (store-reads b c e r)
 
 -- cases with the same parts have the same content, and the same gapless form
 pub same-content : (b d : List ℕ) (c f : Content) → caseReading b ≡ content c → caseReading d ≡ content f → contentParts c ≡ contentParts f → c ≡ f

@@ -8,6 +8,7 @@ use lib.ListN.{length, getD}
 use Rattle.theory.specs.Part.{Part, opsOf}
 use Rattle.operations.specs.Table.{opsIn}
 use Rattle.operations.specs.declared.Lattice.{Lattice}
+use Rattle.casefile.specs.declared.Sizes.{Sizes}
 use Rattle.casefile.specs.declared.CaseCheck.{CaseCheck}
 use Rattle.casefile.specs.declared.CaseCheck.the-variants.{Refused, Accepted}
 use Rattle.casefile.specs.declared.FormulasCheck.{FormulasCheck}
@@ -24,17 +25,20 @@ use Rattle.formula.specs.declared.FormulaCheck.{FormulaCheck}
 use Rattle.casefile.specs.Directory.{partCount, partAt, partsFrom}
 use Rattle.casefile.specs.Reading.{Content, CaseReading, refused, content, FormulasReading, refusedAt, read, formulasReading, caseReading}
 
-abbrev pub answerOf : CaseReading → CaseCheck
-answerOf (refused r) = Refused r
-answerOf (content c) =
-    Accepted
-    (record {
+-- the lattice and the sizes of a content
+abbrev pub sizesOf : Content → Sizes
+sizesOf c =
+    record {
       lattice = boundsOf (c .lattice);
       states1 = getD (c .model1Part) 0 0;
       states2 = getD (c .model2Part) 0 0;
       propositions = getD (c .model1Part) 1 0;
       formulas = length (c .formulas);
-    })
+    }
+
+abbrev pub answerOf : CaseReading → CaseCheck
+answerOf (refused r) = Refused r
+answerOf (content c) = Accepted (sizesOf c)
 
 -- The answer r is that of the case b, and where b is accepted, the tables t hold the operations of its lattice. After a refusal the
 -- tables are free.

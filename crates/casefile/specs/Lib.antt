@@ -8,6 +8,7 @@ pub mod Answer
 pub mod Placed
 pub mod Laid
 pub mod Accepted
+pub mod Content
 pub mod Formulas
 pub mod Answered
 pub mod Written

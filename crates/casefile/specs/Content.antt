@@ -1,0 +1,63 @@
+-- What an accepted case gives to whoever works with its lattice, its models and its formulas. Rests on Accepted.
+use Prim.Native.Nat.{ℕ, zero, suc, _+_, _-_, _≤_, _<_}
+use mathlib.Core.Path.{_≡_, refl, sym, ap, _∙_}
+use mathlib.Core.List.{List, [], _∷_}
+use native.Mathlib.Nat.{le-of-suc-le-suc, not-suc-le-zero}
+use native.Mathlib.Omega.{arith}
+use lib.ListN.{length, getD}
+use Rattle.theory.specs.Formula.{Formula, bottom}
+use Rattle.theory.specs.Lattice.{Laws}
+use Rattle.theory.specs.Model.{Valued}
+use Rattle.theory.specs.Part.{opsOf, modelOf, ModelShape}
+use Rattle.lattice.specs.Accepted.{accepted-is-lattice}
+use Rattle.model.specs.Reading.{accepted-shape, accepted-valued}
+use Rattle.formula.specs.Bytes.{FormulaReading, formulaReading}
+use Rattle.casefile.specs.Directory.{partCount, partAt, partsFrom}
+use Rattle.casefile.specs.Reading.{Content, contentParts, content, caseReading}
+use Rattle.casefile.specs.Accepted.{PartsRead, Accepted, accepted-case, parts-length, FormulasRead, formulas-read}
+
+pub record Sound (c : Content) : Type 0 where
+  pub laws : Laws (opsOf (c .lattice))
+  pub shape1 : ModelShape (c .model1Part)
+  pub shape2 : ModelShape (c .model2Part)
+  pub valued1 : Valued (opsOf (c .lattice)) (modelOf (c .model1Part))
+  pub valued2 : Valued (opsOf (c .lattice)) (modelOf (c .model2Part))
+  pub same-propositions : getD (c .model1Part) 1 0 ≡ getD (c .model2Part) 1 0
+  pub formulas : FormulasRead (getD (c .model1Part) 1 0) (c .formulaParts) (c .formulas)
+
+pub sound : (b : List ℕ) (c : Content) → caseReading b ≡ content c → Sound c
+sound b c e = go (accepted-case b c e .reads)
+  where
+    go : PartsRead c → Sound c
+    go r =
+        record {
+          laws = accepted-is-lattice (c .latticePart) (c .lattice) (r .lattice-read);
+          shape1 = accepted-shape (c .lattice .size) (c .model1Part) (r .model1-read);
+          shape2 = accepted-shape (c .lattice .size) (c .model2Part) (r .model2-read);
+          valued1 = accepted-valued (c .lattice) (c .model1Part) (r .model1-read);
+          valued2 = accepted-valued (c .lattice) (c .model2Part) (r .model2-read);
+          same-propositions = r .same-propositions;
+          formulas = formulas-read (getD (c .model1Part) 1 0) 3 (c .formulaParts) (c .formulas) (r .formulas-read);
+        }
+
+-- the parts of a case, by their numbers
+parts-at : (b : List ℕ) (n i j : ℕ) → j < n → getD (partsFrom b i n) j [] ≡ partAt b (i + j)
+unfolding partsFrom
+parts-at b zero i j l = absurd (not-suc-le-zero l)
+parts-at b (suc n) i zero l = let e : i ≡ i + 0 = omega arith in ap (partAt b) e
+parts-at b (suc n) i (suc j) l = let e : suc i + j ≡ i + suc j = omega arith in parts-at b n (suc i) j (le-of-suc-le-suc l) ∙ ap (partAt b) e
+
+pub part-is : (b : List ℕ) (c : Content) → caseReading b ≡ content c → (i : ℕ) → i < partCount b → partAt b i ≡ getD (contentParts c) i []
+part-is b c e i l =
+    let z : 0 + i ≡ i = omega arith in
+    ap (partAt b) (sym z) ∙ sym (parts-at b (partCount b) 0 i l) ∙ ap (λ (ps : List (List ℕ)). getD ps i []) (accepted-case b c e .parts)
+
+-- the count of parts
+pub count-is : (b : List ℕ) (c : Content) → caseReading b ≡ content c → partCount b ≡ 3 + length (c .formulas)
+count-is b c e =
+    omega (
+      arith,
+      ap length (accepted-case b c e .parts),
+      parts-length b 0 (partCount b),
+      formulas-read (getD (c .model1Part) 1 0) 3 (c .formulaParts) (c .formulas) (accepted-case b c e .reads .formulas-read) .as-many,
+    )
