@@ -7,7 +7,7 @@ use native.Mathlib.Nat.{le-of-suc-le-suc, not-suc-le-zero}
 use native.Mathlib.Omega.{arith}
 use borrow.Author.Tests.{eqb-true}
 use lib.Dec.{eqb}
-use lib.ListN.{length, getD, take, drop, length-append, length-take, length-drop}
+use lib.ListN.{length, getD, take, length-append, length-take, length-drop}
 use lib.Seq.{take-append-add}
 use Rattle.theory.specs.Formula.{Formula, bottom}
 use Rattle.theory.specs.Lattice.{All}
@@ -22,9 +22,9 @@ use Rattle.model.specs.Reading.{modelTest, accepted-shape}
 use Rattle.formula.specs.Bytes.{FormulaReading, formulaReading}
 use Rattle.formula.specs.RoundTrip.{formula-part}
 use Rattle.casefile.specs.Directory.{partCount, sizeOf, partAt, partsFrom, partsOf}
-use Rattle.casefile.specs.Reading.{Content, contentParts, CaseReading, refused, content, FormulasReading, refusedAt, read, readOne, formulasReading, afterFormulas, modelsReading, afterLattice, caseReading, partsReading, storeReading}
+use Rattle.casefile.specs.Reading.{Content, contentParts, FormulasReading, readOne, formulasReading, afterFormulas, modelsReading, afterLattice, partsReading, caseReading, storeReading, refused, content, refusedAt, read}
 use Rattle.casefile.specs.Gapless.{joined, gapless}
-use Rattle.casefile.specs.Placed.{PartPlaced, Placed, placed-reading, accepted-placed}
+use Rattle.casefile.specs.Placed.{Placed, placed-reading, accepted-placed}
 use Rattle.casefile.specs.Laid.{gapless-length, gapless-reading}
 
 -- each part of an accepted content passed its own test

@@ -1,5 +1,5 @@
 -- The steps of the check give the answer of the reading. Rests on Answer, Placed and Accepted.
-use Prim.Native.Nat.{ℕ, suc, _-_}
+use Prim.Native.Nat.{ℕ, _-_}
 use mathlib.Core.Path.{_≡_, refl, sym, ap, _∙_}
 use mathlib.Core.Bool.{Bool, true, false, cond, _&&_}
 use mathlib.Core.List.{List}
@@ -20,10 +20,11 @@ use Rattle.casefile.specs.declared.Sizes.{Sizes}
 use Rattle.casefile.specs.declared.CaseCheck.{CaseCheck}
 use Rattle.casefile.specs.declared.CaseCheck.the-variants.{Refused, Accepted}
 use Rattle.casefile.specs.Directory.{partCount, sizeTest, directoryTest, misplaced, partAt, partsFrom}
-use Rattle.casefile.specs.Reading.{Content, CaseReading, refused, content, FormulasReading, refusedAt, read, formulasReading, afterFormulas, modelsReading, afterLattice, caseReading, partsReading}
+use Rattle.casefile.specs.Reading.{Content, CaseReading, FormulasReading, formulasReading, afterFormulas, modelsReading, afterLattice, caseReading, refused, content, refusedAt, read}
+use Rattle.casefile.specs.Answer.{sizesOf, answerOf, CaseAnswered}
 use Rattle.casefile.specs.Placed.{Placed, placed-reading}
-use Rattle.casefile.specs.Accepted.{PartsRead, ContentOf, refused-content, parts-length, formulas-read, content-of}
-use Rattle.casefile.specs.Answer.{sizesOf, answerOf, restOf, restAnswer, formulasAnswer, afterSecond, secondAnswer, afterFirst, modelsAnswer, afterChecked, partsAnswer, PartsAnswered, CaseAnswered}
+use Rattle.casefile.specs.Accepted.{formulas-read, ContentOf, refused-content, content-of, parts-length}
+use Rattle.casefile.specs.Steps.{formulasAnswer, restOf, restAnswer, afterSecond, secondAnswer, afterFirst, modelsAnswer, afterChecked, PartsAnswered}
 
 -- model 2 with the same k, and with another
 pub second-equal : (b : List ℕ) (l : Lattice) (N1 k N2 k2 : ℕ) → k ≡ k2 → restAnswer b l N1 N2 k ≡ afterSecond b l N1 k (ModelCheck.Accepted N2 k2)

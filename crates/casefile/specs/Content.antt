@@ -1,20 +1,18 @@
 -- What an accepted case gives to whoever works with its lattice, its models and its formulas. Rests on Accepted.
-use Prim.Native.Nat.{ℕ, zero, suc, _+_, _-_, _≤_, _<_}
-use mathlib.Core.Path.{_≡_, refl, sym, ap, _∙_}
-use mathlib.Core.List.{List, [], _∷_}
+use Prim.Native.Nat.{ℕ, zero, suc, _+_, _<_}
+use mathlib.Core.Path.{_≡_, sym, ap, _∙_}
+use mathlib.Core.List.{List, []}
 use native.Mathlib.Nat.{le-of-suc-le-suc, not-suc-le-zero}
 use native.Mathlib.Omega.{arith}
 use lib.ListN.{length, getD}
-use Rattle.theory.specs.Formula.{Formula, bottom}
 use Rattle.theory.specs.Lattice.{Laws}
 use Rattle.theory.specs.Model.{Valued}
 use Rattle.theory.specs.Part.{opsOf, modelOf, ModelShape}
 use Rattle.lattice.specs.Accepted.{accepted-is-lattice}
 use Rattle.model.specs.Reading.{accepted-shape, accepted-valued}
-use Rattle.formula.specs.Bytes.{FormulaReading, formulaReading}
 use Rattle.casefile.specs.Directory.{partCount, partAt, partsFrom}
-use Rattle.casefile.specs.Reading.{Content, contentParts, content, caseReading}
-use Rattle.casefile.specs.Accepted.{PartsRead, Accepted, accepted-case, parts-length, FormulasRead, formulas-read}
+use Rattle.casefile.specs.Reading.{Content, contentParts, caseReading, content}
+use Rattle.casefile.specs.Accepted.{PartsRead, formulas-read, parts-length, accepted-case, FormulasRead}
 
 pub record Sound (c : Content) : Type 0 where
   pub laws : Laws (opsOf (c .lattice))

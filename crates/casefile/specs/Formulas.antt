@@ -1,7 +1,7 @@
 -- For a loop over the formula parts: the answer is that of the parts still to come. Rests on Answer.
-use Prim.Native.Nat.{ℕ, zero, suc, _+_, _-_, _≤_, _<_}
+use Prim.Native.Nat.{ℕ, suc, _+_, _-_, _≤_, _<_}
 use mathlib.Core.Path.{_≡_, refl, sym, ap, ap₂, _∙_}
-use mathlib.Core.Bool.{Bool, true, false}
+use mathlib.Core.Bool.{true, false}
 use mathlib.Core.List.{List}
 use native.Mathlib.Omega.{arith}
 use Rattle.theory.specs.Test.{false-true}
@@ -9,8 +9,8 @@ use Rattle.formula.specs.Bytes.{FormulaReading, formulaReading}
 use Rattle.casefile.specs.declared.FormulasCheck.{FormulasCheck}
 use Rattle.casefile.specs.declared.FormulasCheck.the-variants.{RefusedAt, Read}
 use Rattle.casefile.specs.Directory.{partAt, partsFrom}
-use Rattle.casefile.specs.Reading.{FormulasReading, refusedAt, read, readOne, formulasReading}
-use Rattle.casefile.specs.Answer.{isRead, formulasAnswer}
+use Rattle.casefile.specs.Reading.{FormulasReading, readOne, formulasReading, refusedAt, read}
+use Rattle.casefile.specs.Steps.{isRead, formulasAnswer}
 
 -- the answer for the n parts from part i on
 abbrev pub answerFrom : List ℕ → ℕ → ℕ → ℕ → FormulasCheck

@@ -1,17 +1,17 @@
 -- The gapless case of a list of parts, with any bytes after it, is read as these parts. Rests on Gapless and Placed.
-use Prim.Native.Nat.{ℕ, zero, suc, _+_, _*_, _-_, _/_, _%_, _≤_, _<_}
+use Prim.Native.Nat.{ℕ, suc, _+_, _*_, _-_, _≤_, _<_}
 use mathlib.Core.Path.{_≡_, refl, sym, ap, ap₂, _∙_}
 use mathlib.Core.Logic.{⊎-elim}
 use mathlib.Core.List.{List, [], _∷_, _++_, append-assoc}
-use native.Mathlib.Nat.{le-refl, eq-or-lt-of-le, not-suc-le-zero}
+use native.Mathlib.Nat.{eq-or-lt-of-le}
 use native.Mathlib.Omega.{arith}
 use lib.ListN.{length, getD, take, drop, length-append}
 use lib.Seq.{getD-append-add, take-at, drop-at}
 use Rattle.theory.specs.Lattice.{All}
-use Rattle.casefile.specs.Directory.{partCount, directoryEnd, startOf, sizeOf, endOf, endBefore, partAt, partsFrom}
-use Rattle.casefile.specs.Reading.{CaseReading, caseReading, partsReading}
-use Rattle.casefile.specs.Gapless.{word, pairs, joined, gapless}
-use Rattle.casefile.specs.Placed.{PartPlaced, Placed, HasDirectory, placed-reading}
+use Rattle.casefile.specs.Directory.{partCount, directoryEnd, startOf, sizeOf, endBefore, partAt, partsFrom}
+use Rattle.casefile.specs.Reading.{partsReading, caseReading}
+use Rattle.casefile.specs.Gapless.{word, pairs, joined, directory, gapless}
+use Rattle.casefile.specs.Placed.{PartPlaced, Placed, placed-reading}
 
 -- part i of b is p and stands at `at`
 pub record LaidOne (b : List ℕ) (i at : ℕ) (p : List ℕ) : Type 0 where

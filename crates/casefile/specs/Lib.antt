@@ -9,6 +9,10 @@ pub mod Placed
 pub mod Laid
 pub mod Accepted
 pub mod Content
+pub mod Examples
+-- ---- for the code
+pub mod Steps
+pub mod Misplaced
 pub mod Formulas
 pub mod Answered
 pub mod Written

@@ -2,16 +2,16 @@
 use Prim.Native.Nat.{ℕ, zero, suc, _+_, _*_, _-_, _/_, _%_, _≤_, _<_}
 use mathlib.Core.Path.{_≡_, refl, sym, subst, ap, ap₂, _∙_}
 use mathlib.Core.List.{List, [], _∷_, _++_, append-assoc, append-nil}
-use native.Mathlib.Nat.{le-refl}
 use native.Mathlib.Numerals.{add-one}
 use native.Mathlib.Omega.{arith}
 use lib.ListN.{length, getD, take, drop, set, length-append, length-drop, take-append-drop}
 use lib.Seq.{length-take-le, take-length, take-at, drop-cons, drop-append-add, drop-drop, set-at, paste}
-use Rattle.casefile.specs.Directory.{partCount, sizeOf, startOf, partAt, partsFrom, partsOf}
-use Rattle.casefile.specs.Gapless.{word, pairs, joined, gapless, overlaid, withWord, withPair}
-use Rattle.casefile.specs.Placed.{PartPlaced, Placed}
+use Rattle.casefile.specs.Directory.{partCount, startOf, sizeOf, partAt, partsFrom, partsOf}
+use Rattle.casefile.specs.Gapless.{word, pairs, joined, gapless}
+use Rattle.casefile.specs.Placed.{Placed}
 use Rattle.casefile.specs.Laid.{pairs-length, gapless-length}
 use Rattle.casefile.specs.Accepted.{part-length, parts-length}
+use Rattle.casefile.specs.Steps.{overlaid, withWord, withPair}
 
 -- d was the buffer at first, out is it now. The first `at` bytes are written; with `rest` after them they are `whole`
 pub record Written (d out : List ℕ) (at : ℕ) (rest whole : List ℕ) : Type 0 where

@@ -5,17 +5,16 @@ use model::ModelCheck;
 use operations::Lattice;
 use refusal::Refusal;
 ghost use mathlib.Core.Path.{_≡_};
-ghost use mathlib.Core.Bool.{_&&_};
 ghost use mathlib.Core.List.{_++_};
 ghost use Prim.Native.Nat.{_+_, _*_, _-_, _≤_, _<_};
-ghost use lib.Dec.{ltb, leb};
 ghost use lib.ListN.{length, drop};
-ghost use Rattle.casefile.specs.Directory.{partCount, wordAt, startOf, sizeOf, endOf, sizeTest, directoryTest, misplaced, partAt, partsFrom, partsOf};
 ghost use Rattle.formula.specs.Bytes.{formulaReading};
+ghost use Rattle.casefile.specs.Directory.{partCount, wordAt, startOf, sizeOf, endOf, sizeTest, directoryTest, misplaced, partAt, partsFrom, partsOf};
 ghost use Rattle.casefile.specs.Reading.{formulasReading};
-ghost use Rattle.casefile.specs.Answer.{isRead, formulasAnswer, restAnswer, secondAnswer, modelsAnswer, PartsAnswered, CaseAnswered};
-ghost use Rattle.casefile.specs.Gapless.{pairs, joined, gapless, overlaid, withWord, withPair};
+ghost use Rattle.casefile.specs.Gapless.{pairs, joined, gapless};
+ghost use Rattle.casefile.specs.Answer.{CaseAnswered};
 ghost use Rattle.casefile.specs.Placed.{HasDirectory, Placed};
+ghost use Rattle.casefile.specs.Steps.{wellPlaced, isRead, formulasAnswer, restAnswer, secondAnswer, modelsAnswer, PartsAnswered, overlaid, withWord, withPair};
 
 // What an accepted case holds: its lattice, and the sizes of its models and formulas.
 pub struct Sizes {
@@ -113,7 +112,7 @@ fn right_directory(bytes: &[u8]) -> bool
 // Part i is not empty, starts at `from` or later, and ends within the case.
 fn well_placed(bytes: &[u8], i: u8, from: usize) -> bool
     requires { ⌜ HasDirectory (now bytes) × (i < partCount (now bytes)) ⌝ }
-    ensures { λ r. ⌜ r ≡ (ltb 0 (sizeOf (now (bytes .entry)) i) && leb from (startOf (now (bytes .entry)) i) && leb (endOf (now (bytes .entry)) i) (length (now (bytes .entry)))) ⌝ }
+    ensures { λ r. ⌜ r ≡ wellPlaced (now (bytes .entry)) i from ⌝ }
 {
     if part_size(bytes, i) == 0 {
         return false;

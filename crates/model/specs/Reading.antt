@@ -1,16 +1,17 @@
 -- When a model part is accepted, and what then holds of it. Rests on theory's Part, Model and Test.
-use Prim.Native.Nat.{ℕ, zero, suc, _+_, _*_, _-_, _≤_, _<_}
-use mathlib.Core.Path.{_≡_, refl, sym, _∙_}
+use Prim.Native.Nat.{ℕ, zero, suc, _+_, _*_, _-_, _/_, _%_, _≤_, _<_}
+use mathlib.Core.Path.{_≡_, refl, sym}
 use mathlib.Core.Bool.{Bool, true, false, cond, _&&_}
+use mathlib.Core.Logic.{_⊎_, inl, inr, ⊎-elim, _↔_}
 use mathlib.Core.List.{List}
+use native.Mathlib.Nat.{mul-zero, mod-lt, div-add-mod', div-lt-iff-lt-mul, zero-lt-suc}
 use native.Mathlib.Omega.{arith}
-use borrow.Author.Tests.{ltb-true, leb-true, eqb-true, lt-ltb, le-leb, eq-eqb}
+use borrow.Author.Tests.{ltb-true, ltb-false, leb-true, eqb-true, lt-ltb, le-leb, eq-eqb}
 use lib.Dec.{ltb, leb, eqb}
 use lib.ListN.{length, getD}
-use Rattle.theory.specs.Lattice.{Element}
 use Rattle.theory.specs.Model.{Valued}
 use Rattle.theory.specs.Part.{Part, opsOf, modelOf, modelLength, ModelShape}
-use Rattle.theory.specs.Test.{allBelow, and-l, and-r, and-in, all-at, not-passed}
+use Rattle.theory.specs.Test.{allBelow, and-l, and-r, and-in, all-at, all-in, not-passed}
 use Rattle.model.specs.Places.{row-le}
 use Rattle.model.specs.declared.ModelCheck.{ModelCheck}
 use Rattle.model.specs.declared.ModelCheck.the-variants.{Refused, Accepted}
@@ -79,6 +80,12 @@ values-pass n b t = and-r (sizesTest b) (elementsOnly n b) t
 pub accepted-shape : (n : ℕ) (b : List ℕ) → modelTest n b ≡ true → ModelShape b
 accepted-shape n b t = shape-of b (sizes-pass n b t)
 
+test-in : (n : ℕ) (b : List ℕ) → ModelShape b → elementsOnly n b ≡ true → modelTest n b ≡ true
+unfolding modelTest
+test-in n b s v =
+    let p : sizesTest b ≡ true = simp (lt-ltb _ _ (s .some), le-leb _ _ (s .states-most), le-leb _ _ (s .propositions-most), eq-eqb _ _ (s .exact)) in
+    and-in (sizesTest b) (elementsOnly n b) p v
+
 -- an accepted part is a model whose values are elements
 pub accepted-valued : (P : Part) (b : List ℕ) → modelTest (P .size) b ≡ true → Valued (opsOf P) (modelOf b)
 accepted-valued P b t =
@@ -90,13 +97,68 @@ accepted-valued P b t =
       transition-element = λ q l r m. v _ (omega arith) (omega (arith, s .exact, row-le q (getD b 0 0) (getD b 0 0) l));
     }
 
+-- ---- a part of that shape whose values are elements is accepted
+
+at-or-before : (a i : ℕ) → (a ≤ i) ⊎ (i < a)
+at-or-before a i = go (ltb i a) refl
+  where
+    go : (t : Bool) → ltb i a ≡ t → (a ≤ i) ⊎ (i < a)
+    go true e = inr (ltb-true i a e)
+    go false e = inl (ltb-false i a e)
+
+-- place j of n rows of w values is in a row and a column
+record Cell (j n w : ℕ) : Type 0 where
+  row : ℕ
+  column : ℕ
+  row-lt : row < n
+  column-lt : column < w
+  is : row * w + column ≡ j
+
+cell : (j n w : ℕ) → j < n * w → Cell j n w
+cell j n zero l = absurd (omega (arith, mul-zero n))
+cell j n (suc w) l =
+    record {
+      row = j / suc w;
+      column = j % suc w;
+      row-lt = div-lt-iff-lt-mul (zero-lt-suc w) .1 l;
+      column-lt = mod-lt j (zero-lt-suc w);
+      is = div-add-mod' j (suc w);
+    }
+
+module _ (P : Part) (b : List ℕ) (s : ModelShape b) (v : Valued (opsOf P) (modelOf b)) where
+  initial-at : (i : ℕ) → i < getD b 0 0 → ltb (getD b (2 + i) 0) (P .size) ≡ true
+  initial-at i l = v .initial-element i l
+
+  label-at : (i : ℕ) → getD b 0 0 ≤ i → i < getD b 0 0 + getD b 0 0 * getD b 1 0 → ltb (getD b (2 + i) 0) (P .size) ≡ true
+  label-at i l m =
+      let c = cell (i - getD b 0 0) (getD b 0 0) (getD b 1 0) (omega arith) in
+      let e : 2 + getD b 0 0 + (c .row * getD b 1 0 + c .column) ≡ 2 + i = omega (arith, c .is) in
+      rw e at (v .label-element (c .row) (c .row-lt) (c .column) (c .column-lt))
+
+  transition-at : (i : ℕ) → getD b 0 0 + getD b 0 0 * getD b 1 0 ≤ i → i < length b - 2 → ltb (getD b (2 + i) 0) (P .size) ≡ true
+  transition-at i l m =
+      let c = cell (i - getD b 0 0 - getD b 0 0 * getD b 1 0) (getD b 0 0) (getD b 0 0) (omega (arith, s .exact)) in
+      let e : 2 + getD b 0 0 + getD b 0 0 * getD b 1 0 + (c .row * getD b 0 0 + c .column) ≡ 2 + i = omega (arith, c .is) in
+      rw e at (v .transition-element (c .row) (c .row-lt) (c .column) (c .column-lt))
+
+  all-elements : elementsOnly (P .size) b ≡ true
+  unfolding elementsOnly
+  all-elements =
+      all-in (length b - 2) (λ i. ltb (getD b (2 + i) 0) (P .size))
+      (λ i l.
+      ⊎-elim (λ (m : getD b 0 0 + getD b 0 0 * getD b 1 0 ≤ i). transition-at i m l)
+      (λ (m : i < getD b 0 0 + getD b 0 0 * getD b 1 0). ⊎-elim (λ (k : getD b 0 0 ≤ i). label-at i k m) (initial-at i) (at-or-before (getD b 0 0) i))
+      (at-or-before (getD b 0 0 + getD b 0 0 * getD b 1 0) i))
+
+-- A part is accepted exactly when it has its sizes and its length, and every value is an element.
+pub accepted-exactly : (P : Part) (b : List ℕ) → (modelTest (P .size) b ≡ true) ↔ (ModelShape b × Valued (opsOf P) (modelOf b))
+accepted-exactly P b = (λ t. (accepted-shape (P .size) b t, accepted-valued P b t), λ h. test-in (P .size) b (h .0) (all-elements P b (h .0) (h .1)))
+
 -- ---- what the code answers
 
 pub answers-accepted : (n : ℕ) (b : List ℕ) → ModelShape b → elementsOnly n b ≡ true → Accepted (getD b 0 0) (getD b 1 0) ≡ modelAnswer n b
 unfolding modelAnswer
-answers-accepted n b s v =
-    let p : sizesTest b ≡ true = simp (lt-ltb _ _ (s .some), le-leb _ _ (s .states-most), le-leb _ _ (s .propositions-most), eq-eqb _ _ (s .exact)) in
-    sym (rw (and-in (sizesTest b) (elementsOnly n b) p v))
+answers-accepted n b s v = sym (rw (test-in n b s v))
 
 pub answers-refused : (n : ℕ) (b : List ℕ) → (ModelShape b → elementsOnly n b ≡ true → ⊥) → Refused ≡ modelAnswer n b
 unfolding modelAnswer

@@ -12,12 +12,6 @@ use Rattle.casefile.specs.Placed.{HasDirectory, Placed, has-directory, a
 use Rattle.casefile.specs.Answered.{size-answered, directory-answered, place-answered, parts-answered}
 use Rattle.casefile.proofs.check.Statement.{statement}
 use Rattle.casefile.proofs.check.Tie as tie
-use Rattle.casefile.proofs.check.Reads as reads
-use Rattle.casefile.proofs.check.Lts as lts
-use Rattle.casefile.proofs.check_parts.Reads as check-parts-reads
-use Rattle.casefile.proofs.first_misplaced.Reads as first-misplaced-reads
-use Rattle.casefile.proofs.right_directory.Reads as right-directory-reads
-use Rattle.casefile.proofs.right_size.Reads as right-size-reads
 
 sized : (c : tie.Else1) → sizeTest (c .before .before .before .args .bytes .now) ≡ true
 sized c = sym (c .before .right-size .ensures) ∙ not-false _ (c .if1 .left)

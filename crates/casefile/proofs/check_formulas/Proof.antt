@@ -1,15 +1,11 @@
 -- `casefile::check_formulas` meets its contract: the parts passed so far are formulas.
-use Prim.Native.Nat.{_+_, _-_, _≤_}
-use mathlib.Core.Path.{_≡_, sym, _∙_}
+use Prim.Native.Nat.{_-_, _≤_}
+use mathlib.Core.Path.{sym, _∙_}
 use native.Mathlib.Omega.{arith}
 use borrow.Author.Tests.{not-true, not-false}
-use Rattle.casefile.specs.Directory.{partCount}
 use Rattle.casefile.specs.Formulas.{FormulasUpto, formulas-none, formulas-more, formulas-stop, formulas-done}
 use Rattle.casefile.proofs.check_formulas.Statement.{statement}
 use Rattle.casefile.proofs.check_formulas.Tie as tie
-use Rattle.casefile.proofs.check_formulas.Reads as reads
-use Rattle.casefile.proofs.check_formulas.Lts as lts
-use Rattle.casefile.proofs.is_formula.Reads as is-formula-reads
 
 abbrev Inv-loop : tie.InvT-loop
 Inv-loop bytes k count f₀ f = (f ≤ count) × FormulasUpto bytes k count f

@@ -1,15 +1,10 @@
 -- `casefile::check_models` meets its contract: by the check of model 1.
-use mathlib.Core.Path.{_≡_, sym, ap, _∙_}
+use mathlib.Core.Path.{sym, ap, _∙_}
 use borrow.Author.Needs.{needs}
 use Rattle.model.specs.Reading.{modelAnswer}
-use Rattle.casefile.specs.Answer.{afterFirst}
+use Rattle.casefile.specs.Steps.{afterFirst}
 use Rattle.casefile.proofs.check_models.Statement.{statement}
 use Rattle.casefile.proofs.check_models.Tie as tie
-use Rattle.casefile.proofs.check_models.Reads as reads
-use Rattle.casefile.proofs.check_models.Lts as lts
-use Rattle.casefile.proofs.check_second.Reads as check-second-reads
-use Rattle.casefile.proofs.part.Reads as part-reads
-use Rattle.model.proofs.check.Reads as check-reads
 
 part-requires : tie.Need-part-requires
 part-requires c κs = search needs

@@ -1,18 +1,13 @@
 -- `casefile::check_parts` meets its contract: by the check of the lattice.
 use Prim.Native.Nat.{ℕ}
-use mathlib.Core.Path.{_≡_, sym, ap, _∙_}
+use mathlib.Core.Path.{sym, ap, _∙_}
 use mathlib.Core.List.{List}
 use borrow.Author.Needs.{needs}
 use Rattle.lattice.specs.Reading.{latticeReading}
 use Rattle.lattice.specs.Answer.{answerOf}
-use Rattle.casefile.specs.Answer.{afterChecked}
+use Rattle.casefile.specs.Steps.{afterChecked}
 use Rattle.casefile.proofs.check_parts.Statement.{statement}
 use Rattle.casefile.proofs.check_parts.Tie as tie
-use Rattle.casefile.proofs.check_parts.Reads as reads
-use Rattle.casefile.proofs.check_parts.Lts as lts
-use Rattle.casefile.proofs.check_models.Reads as check-models-reads
-use Rattle.casefile.proofs.part.Reads as part-reads
-use Rattle.lattice.proofs.check.Reads as check-reads
 
 part-requires : tie.Need-part-requires
 part-requires c κs = search needs

@@ -1,12 +1,9 @@
 -- `casefile::check_rest` meets its contract: by the check of the formulas.
-use mathlib.Core.Path.{_≡_, sym, ap, _∙_}
+use mathlib.Core.Path.{sym, ap, _∙_}
 use borrow.Author.Needs.{needs}
-use Rattle.casefile.specs.Answer.{restOf}
+use Rattle.casefile.specs.Steps.{restOf}
 use Rattle.casefile.proofs.check_rest.Statement.{statement}
 use Rattle.casefile.proofs.check_rest.Tie as tie
-use Rattle.casefile.proofs.check_rest.Reads as reads
-use Rattle.casefile.proofs.check_rest.Lts as lts
-use Rattle.casefile.proofs.check_formulas.Reads as check-formulas-reads
 
 check-formulas-requires : tie.Need-check-formulas-requires
 check-formulas-requires c κs = search needs

@@ -1,16 +1,11 @@
 -- `casefile::check_second` meets its contract: by the check of model 2.
-use mathlib.Core.Path.{_≡_, sym, ap, _∙_}
+use mathlib.Core.Path.{sym, ap, _∙_}
 use borrow.Author.Needs.{needs}
 use Rattle.model.specs.Reading.{modelAnswer}
-use Rattle.casefile.specs.Answer.{afterSecond}
+use Rattle.casefile.specs.Steps.{afterSecond}
 use Rattle.casefile.specs.Answered.{second-equal, second-differs}
 use Rattle.casefile.proofs.check_second.Statement.{statement}
 use Rattle.casefile.proofs.check_second.Tie as tie
-use Rattle.casefile.proofs.check_second.Reads as reads
-use Rattle.casefile.proofs.check_second.Lts as lts
-use Rattle.casefile.proofs.check_rest.Reads as check-rest-reads
-use Rattle.casefile.proofs.part.Reads as part-reads
-use Rattle.model.proofs.check.Reads as check-reads
 
 part-requires : tie.Need-part-requires
 part-requires c κs = search needs

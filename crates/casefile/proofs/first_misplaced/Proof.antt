@@ -1,17 +1,12 @@
 -- `casefile::first_misplaced` meets its contract: the parts passed so far are placed.
 use Prim.Native.Nat.{_-_, _≤_}
-use mathlib.Core.Path.{_≡_, sym, _∙_}
+use mathlib.Core.Path.{sym, _∙_}
 use native.Mathlib.Omega.{arith}
 use borrow.Author.Tests.{not-true, not-false}
 use Rattle.casefile.specs.Directory.{partCount}
-use Rattle.casefile.specs.Placed.{PlacedUpto, upto-none, upto-more, upto-stop, upto-done}
+use Rattle.casefile.specs.Misplaced.{PlacedUpto, upto-none, upto-more, upto-stop, upto-done}
 use Rattle.casefile.proofs.first_misplaced.Statement.{statement}
 use Rattle.casefile.proofs.first_misplaced.Tie as tie
-use Rattle.casefile.proofs.first_misplaced.Reads as reads
-use Rattle.casefile.proofs.first_misplaced.Lts as lts
-use Rattle.casefile.proofs.part_end.Reads as part-end-reads
-use Rattle.casefile.proofs.well_placed.Reads as well-placed-reads
-use Rattle.casefile.proofs.wide.Reads as wide-reads
 
 abbrev Inv-loop : tie.InvT-loop
 Inv-loop bytes count from₀ i₀ from i = (i ≤ partCount bytes) × PlacedUpto bytes i from

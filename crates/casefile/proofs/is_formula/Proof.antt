@@ -1,17 +1,13 @@
 -- `casefile::is_formula` meets its contract: the check of the part says so.
 use Prim.Native.Nat.{ℕ}
-use mathlib.Core.Path.{_≡_, sym, ap, _∙_}
+use mathlib.Core.Path.{sym, ap, _∙_}
 use mathlib.Core.List.{List}
 use borrow.Author.Needs.{needs}
 use Rattle.formula.specs.Bytes.{formulaReading}
 use Rattle.formula.specs.Check.{checked}
-use Rattle.casefile.specs.Answer.{isAccepted}
+use Rattle.casefile.specs.Steps.{isAccepted}
 use Rattle.casefile.proofs.is_formula.Statement.{statement}
 use Rattle.casefile.proofs.is_formula.Tie as tie
-use Rattle.casefile.proofs.is_formula.Reads as reads
-use Rattle.casefile.proofs.is_formula.Lts as lts
-use Rattle.casefile.proofs.part.Reads as part-reads
-use Rattle.formula.proofs.check.Reads as check-reads
 
 part-requires : tie.Need-part-requires
 part-requires c κs = search needs

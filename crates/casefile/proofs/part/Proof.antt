@@ -6,10 +6,6 @@ use borrow.Author.Needs.{needs}
 use Rattle.casefile.specs.Directory.{sizeOf}
 use Rattle.casefile.proofs.part.Statement.{statement}
 use Rattle.casefile.proofs.part.Tie as tie
-use Rattle.casefile.proofs.part.Reads as reads
-use Rattle.casefile.proofs.part.Lts as lts
-use Rattle.casefile.proofs.part_end.Reads as part-end-reads
-use Rattle.casefile.proofs.part_start.Reads as part-start-reads
 
 part-start-requires : tie.Need-part-start-requires
 part-start-requires c κs = search needs

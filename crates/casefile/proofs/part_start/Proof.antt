@@ -1,13 +1,8 @@
 -- `casefile::part_start` meets its contract: the pair stands in the directory.
-use mathlib.Core.Path.{_≡_}
 use borrow.Author.Needs.{needs}
 use Rattle.casefile.specs.Directory.{startOf}
 use Rattle.casefile.proofs.part_start.Statement.{statement}
 use Rattle.casefile.proofs.part_start.Tie as tie
-use Rattle.casefile.proofs.part_start.Reads as reads
-use Rattle.casefile.proofs.part_start.Lts as lts
-use Rattle.casefile.proofs.wide.Reads as wide-reads
-use Rattle.casefile.proofs.word.Reads as word-reads
 
 wide-requires : tie.Need-wide-requires
 wide-requires c κs = search needs

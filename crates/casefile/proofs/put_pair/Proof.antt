@@ -1,12 +1,8 @@
 -- `casefile::put_pair` meets its contract: two words.
-use Rattle.casefile.specs.Written.{pair-put}
 use borrow.Author.Needs.{needs}
+use Rattle.casefile.specs.Written.{pair-put}
 use Rattle.casefile.proofs.put_pair.Statement.{statement}
 use Rattle.casefile.proofs.put_pair.Tie as tie
-use Rattle.casefile.proofs.put_pair.Reads as reads
-use Rattle.casefile.proofs.put_pair.Lts as lts
-use Rattle.casefile.proofs.put_word.Reads as put-word-reads
-use Rattle.casefile.proofs.wide.Reads as wide-reads
 
 wide-requires : tie.Need-wide-requires
 wide-requires c κs = search needs

@@ -1,15 +1,10 @@
 -- `casefile::right_directory` meets its contract: by its tests.
-use mathlib.Core.Path.{_≡_}
-use native.Mathlib.Omega.{arith}
 use borrow.Author.Needs.{needs}
 use borrow.Author.Tests.{le-leb, lt-leb}
 use Rattle.theory.specs.Test.{and-false}
 use Rattle.casefile.specs.Directory.{partCount}
 use Rattle.casefile.proofs.right_directory.Statement.{statement}
 use Rattle.casefile.proofs.right_directory.Tie as tie
-use Rattle.casefile.proofs.right_directory.Reads as reads
-use Rattle.casefile.proofs.right_directory.Lts as lts
-use Rattle.casefile.proofs.wide.Reads as wide-reads
 
 shared-slice-read-count : tie.Need-shared-slice-read-count
 shared-slice-read-count c = search needs

@@ -1,5 +1,4 @@
 -- `casefile::right_size` meets its contract: by its tests.
-use mathlib.Core.Path.{_≡_}
 use native.Mathlib.Omega.{arith}
 use borrow.Author.Tests.{lt-ltb}
 use lib.ListN.{length}

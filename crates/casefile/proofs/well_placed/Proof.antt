@@ -1,18 +1,11 @@
 -- `casefile::well_placed` meets its contract: by its tests.
-use mathlib.Core.Path.{_≡_, sym, ap, _∙_}
-use mathlib.Core.Bool.{_&&_}
 use native.Mathlib.Omega.{arith}
 use borrow.Author.Needs.{needs}
 use borrow.Author.Tests.{lt-ltb, le-ltb, le-leb, lt-leb}
 use Rattle.theory.specs.Test.{and-false}
-use Rattle.casefile.specs.Directory.{sizeOf, startOf}
+use Rattle.casefile.specs.Directory.{startOf, sizeOf}
 use Rattle.casefile.proofs.well_placed.Statement.{statement}
 use Rattle.casefile.proofs.well_placed.Tie as tie
-use Rattle.casefile.proofs.well_placed.Reads as reads
-use Rattle.casefile.proofs.well_placed.Lts as lts
-use Rattle.casefile.proofs.part_end.Reads as part-end-reads
-use Rattle.casefile.proofs.part_size.Reads as part-size-reads
-use Rattle.casefile.proofs.part_start.Reads as part-start-reads
 
 part-size-requires : tie.Need-part-size-requires
 part-size-requires c κs = search needs

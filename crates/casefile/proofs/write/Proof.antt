@@ -1,16 +1,12 @@
 -- `casefile::write` meets its contract: the count, the pairs, then the parts.
-use mathlib.Core.Path.{_≡_, sym, ap, _∙_}
+use mathlib.Core.Path.{_∙_}
 use native.Mathlib.Omega.{arith}
-use lib.ListN.{length, length-set}
+use lib.ListN.{length-set}
+use borrow.Author.Needs.{needs}
 use Rattle.casefile.specs.Directory.{partCount}
 use Rattle.casefile.specs.Written.{directory-fits, case-written}
-use borrow.Author.Needs.{needs}
 use Rattle.casefile.proofs.write.Statement.{statement}
 use Rattle.casefile.proofs.write.Tie as tie
-use Rattle.casefile.proofs.write.Reads as reads
-use Rattle.casefile.proofs.write.Lts as lts
-use Rattle.casefile.proofs.write_pairs.Reads as write-pairs-reads
-use Rattle.casefile.proofs.write_parts.Reads as write-parts-reads
 
 shared-slice-read-out : tie.Need-shared-slice-read-out
 shared-slice-read-out c = search needs

@@ -1,16 +1,10 @@
 -- `casefile::write_pairs` meets its contract: the pairs of the parts passed so far are written.
-use Prim.Native.Nat.{_-_, _+_, _*_, _≤_, _<_}
-use mathlib.Core.Path.{_≡_, refl, sym, ap, _∙_}
+use Prim.Native.Nat.{_-_, _≤_}
 use native.Mathlib.Omega.{arith}
 use Rattle.casefile.specs.Directory.{partCount}
-use Rattle.casefile.specs.Written.{PairsWritten, PairRoom, pairs-start, pairs-turn, pairs-room, pairs-kept, pairs-done}
+use Rattle.casefile.specs.Written.{PairsWritten, PairRoom, pairs-start, pairs-turn, pairs-kept, pairs-room, pairs-done}
 use Rattle.casefile.proofs.write_pairs.Statement.{statement}
 use Rattle.casefile.proofs.write_pairs.Tie as tie
-use Rattle.casefile.proofs.write_pairs.Reads as reads
-use Rattle.casefile.proofs.write_pairs.Lts as lts
-use Rattle.casefile.proofs.part_size.Reads as part-size-reads
-use Rattle.casefile.proofs.put_pair.Reads as put-pair-reads
-use Rattle.casefile.proofs.wide.Reads as wide-reads
 
 abbrev Inv-loop : tie.InvT-loop
 Inv-loop bytes out₀ count at₀ i₀ out at i = (i ≤ partCount bytes) × PairsWritten bytes out₀ out i at

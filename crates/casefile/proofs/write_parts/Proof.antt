@@ -1,17 +1,12 @@
 -- `casefile::write_parts` meets its contract: the parts passed so far are written.
-use Prim.Native.Nat.{_-_, _+_, _*_, _≤_, _<_}
-use mathlib.Core.Path.{_≡_, refl, sym, ap, _∙_}
+use Prim.Native.Nat.{_-_, _≤_}
+use mathlib.Core.Path.{ap}
 use native.Mathlib.Omega.{arith}
 use lib.ListN.{length}
 use Rattle.casefile.specs.Directory.{partCount}
-use Rattle.casefile.specs.Written.{PartsWritten, PartRoom, parts-start, parts-turn, parts-room, parts-kept, parts-end, parts-done}
+use Rattle.casefile.specs.Written.{PartsWritten, PartRoom, parts-start, parts-kept, parts-room, parts-turn, parts-end, parts-done}
 use Rattle.casefile.proofs.write_parts.Statement.{statement}
 use Rattle.casefile.proofs.write_parts.Tie as tie
-use Rattle.casefile.proofs.write_parts.Reads as reads
-use Rattle.casefile.proofs.write_parts.Lts as lts
-use Rattle.casefile.proofs.copy.Reads as copy-reads
-use Rattle.casefile.proofs.part.Reads as part-reads
-use Rattle.casefile.proofs.wide.Reads as wide-reads
 
 abbrev Inv-loop : tie.InvT-loop
 Inv-loop bytes out₀ count at₀ i₀ out at i = (i ≤ partCount bytes) × PartsWritten bytes out₀ out i at

@@ -1,10 +1,9 @@
 -- `model::check` meets its contract: each test that fails breaks the shape or the values.
-use Prim.Native.Nat.{ℕ, _+_, _*_, _≤_}
-use mathlib.Core.Path.{_≡_, sym, _∙_}
+use Prim.Native.Nat.{_*_, _≤_}
+use mathlib.Core.Path.{sym, _∙_}
 use native.Mathlib.Omega.{arith}
 use borrow.Author.Needs.{needs}
 use borrow.Author.Tests.{not-true, not-false}
-use Rattle.theory.specs.Part.{ModelShape}
 use Rattle.theory.specs.Test.{false-true}
 use Rattle.model.specs.Places.{prod-le}
 use Rattle.model.specs.Reading.{answers-accepted, answers-refused}
