@@ -9,8 +9,7 @@ use native.Mathlib.Omega.{arith}
 use borrow.Author.Tests.{ltb-true, leb-true, lt-ltb, le-leb}
 use lib.Dec.{ltb, leb}
 use lib.ListN.{length}
-use Rattle.theory.specs.Folds.{below-suc}
-use Rattle.theory.specs.Test.{and-l, and-r, bool-same, first-unique}
+use Rattle.theory.specs.Test.{below-suc, and-l, and-r, bool-same, first-unique}
 use Rattle.casefile.specs.Directory.{partCount, directoryEnd, startOf, sizeOf, endOf, endBefore, placed, misplaced}
 use Rattle.casefile.specs.Placed.{PartPlaced, part-placed, placed-part}
 use Rattle.casefile.specs.Steps.{wellPlaced}
