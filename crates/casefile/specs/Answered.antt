@@ -3,7 +3,6 @@ use Prim.Native.Nat.{ℕ, _-_}
 use mathlib.Core.Path.{_≡_, refl, sym, ap, _∙_}
 use mathlib.Core.Bool.{Bool, true, false, cond, _&&_}
 use mathlib.Core.List.{List}
-use native.Mathlib.Omega.{arith}
 use borrow.Author.Tests.{eq-eqb, ne-eqb}
 use lib.Dec.{ltb, eqb}
 use lib.ListN.{length, getD}
@@ -16,12 +15,11 @@ use Rattle.lattice.specs.Reading.{LatticeReading, latticeReading}
 use Rattle.lattice.specs.Answer.{boundsOf, answerOf as latticeAnswer}
 use Rattle.model.specs.Reading.{modelTest, modelAnswer}
 use Rattle.model.specs.declared.ModelCheck.{ModelCheck}
-use Rattle.casefile.specs.declared.Sizes.{Sizes}
 use Rattle.casefile.specs.declared.CaseCheck.{CaseCheck}
-use Rattle.casefile.specs.declared.CaseCheck.the-variants.{Refused, Accepted}
+use Rattle.casefile.specs.declared.CaseCheck.the-variants.{Refused}
 use Rattle.casefile.specs.Directory.{partCount, sizeTest, directoryTest, misplaced, partAt, partsFrom}
-use Rattle.casefile.specs.Reading.{Content, CaseReading, FormulasReading, formulasReading, afterFormulas, modelsReading, afterLattice, caseReading, refused, content, refusedAt, read}
-use Rattle.casefile.specs.Answer.{sizesOf, answerOf, CaseAnswered}
+use Rattle.casefile.specs.Reading.{Content, CaseReading, FormulasReading, formulasReading, afterFormulas, modelsReading, afterLattice, caseReading, refused, refusedAt, read}
+use Rattle.casefile.specs.Answer.{answerOf, CaseAnswered}
 use Rattle.casefile.specs.Placed.{Placed, placed-reading}
 use Rattle.casefile.specs.Accepted.{formulas-read, ContentOf, refused-content, content-of, parts-length}
 use Rattle.casefile.specs.Steps.{formulasAnswer, restOf, restAnswer, afterSecond, secondAnswer, afterFirst, modelsAnswer, afterChecked, PartsAnswered}
@@ -95,18 +93,3 @@ module _ (b : List ℕ) where
     where
       go : (c : Content) → ContentOf (partAt b 0) (partAt b 1) (partAt b 2) fs c → opsIn t (boundsOf (c .lattice)) ≡ opsOf (c .lattice)
       go c k = h .tables (c .lattice) (let e : partAt b 0 ≡ c .latticePart = cc (k .is) in rw e (k .reads .lattice-read))
-
--- ---- for callers
-
--- an accepted case has a content, and the sizes are the content's
-pub record AcceptedAs (b : List ℕ) (s : Sizes) : Type 0 where
-  pub holds : Content
-  pub reads : caseReading b ≡ content holds
-  pub sizes : s ≡ sizesOf holds
-
-pub accepted-as : (b : List ℕ) (s : Sizes) → Accepted s ≡ answerOf (caseReading b) → AcceptedAs b s
-accepted-as b s e = go (caseReading b) refl e
-  where
-    go : (x : CaseReading) → caseReading b ≡ x → Accepted s ≡ answerOf x → AcceptedAs b s
-    go (refused f) q h = absurd (let z : _≡_ {A = ℕ} 0 1 = cc in omega arith)
-    go (content c) q h = record { holds = c; reads = q; sizes = cc }

@@ -9,6 +9,7 @@ pub mod Placed
 pub mod Laid
 pub mod Accepted
 pub mod Content
+pub mod Caller
 pub mod Examples
 -- ---- for the code
 pub mod Steps

@@ -1,21 +1,9 @@
 -- `case_boundaries::keep` may write: an accepted case is placed, and its gapless form fits the store.
-use Prim.Native.Nat.{ℕ, _≤_}
-use mathlib.Core.Path.{_≡_, sym, _∙_}
 use native.Mathlib.Omega.{arith}
-use lib.ListN.{length}
-use Rattle.casefile.specs.Placed.{accepted-placed}
-use Rattle.casefile.specs.Accepted.{written-most}
-use Rattle.casefile.specs.Answered.{AcceptedAs, accepted-as}
+use Rattle.casefile.specs.Caller.{when-accepted}
 use borrow.Author.Needs.{needs}
 use Rattle.case_boundaries.proofs.keep.Statement.{statement}
 use Rattle.case_boundaries.proofs.keep.Tie as tie
-use Rattle.case_boundaries.proofs.keep.Reads as reads
-use Rattle.case_boundaries.proofs.keep.Lts as lts
-use Rattle.case_boundaries.proofs.decimal.Reads as decimal-reads
-use Rattle.casefile.proofs.check.Reads as check-reads
-use Rattle.casefile.proofs.write.Reads as write-reads
-use Rattle.io.proofs.print_decimal.Reads as print-decimal-reads
-use Rattle.io.proofs.write_all.Reads as write-all-reads
 
 check-requires : tie.Need-check-requires
 check-requires c κs = search needs
@@ -26,8 +14,8 @@ enum-known-answer c = search needs
 write-requires : tie.Need-write-requires
 write-requires c κs =
     let s = c .before .before .before .before .before .before .before in
-    let h = accepted-as (s .args .bytes .now) _ (sym (c .before .before .answer .given .1) ∙ c .before .before .before .before .check .ensures .answer) in
-    (accepted-placed _ (h .holds) (h .reads), omega (arith, written-most (s .args .bytes .now) (h .holds) (h .reads), c .write-arg .given .0 .1))
+    let h = when-accepted (s .args .bytes .now) _ _ _ (c .before .before .before .before .check .ensures) (c .before .before .answer .given .1) in
+    (h .placed, omega (arith, h .short, c .write-arg .given .0 .1))
 
 print-decimal-requires : tie.Need-print-decimal-requires
 print-decimal-requires c κs = search needs

@@ -5,8 +5,6 @@ use native.Mathlib.Omega.{arith}
 use lib.ListN.{length, length-set}
 use Rattle.case_boundaries.proofs.start.Statement.{statement}
 use Rattle.case_boundaries.proofs.start.Tie as tie
-use Rattle.case_boundaries.proofs.start.Reads as reads
-use Rattle.case_boundaries.proofs.start.Lts as lts
 
 abbrev Inv-loop : tie.InvT-loop
 Inv-loop bytes out₀ count i₀ out i = (i ≤ count) × (length out ≡ length out₀)

@@ -1,0 +1,58 @@
+-- What a caller of the check learns of a case or a store from the answer. Rests on Answer, Accepted and Content.
+use Prim.Native.Nat.{ℕ, _≤_}
+use mathlib.Core.Path.{_≡_, refl, sym, _∙_}
+use mathlib.Core.List.{List}
+use native.Mathlib.Omega.{arith}
+use lib.ListN.{length}
+use Rattle.theory.specs.Lattice.{Laws}
+use Rattle.theory.specs.Part.{opsOf}
+use Rattle.operations.specs.Table.{opsIn}
+use Rattle.refusal.specs.declared.Refusal.{Refusal}
+use Rattle.casefile.specs.declared.Sizes.{Sizes}
+use Rattle.casefile.specs.declared.CaseCheck.{CaseCheck}
+use Rattle.casefile.specs.declared.CaseCheck.the-variants.{Refused, Accepted}
+use Rattle.casefile.specs.Directory.{partsOf}
+use Rattle.casefile.specs.Reading.{Content, CaseReading, refused, content, caseReading}
+use Rattle.casefile.specs.Gapless.{gapless}
+use Rattle.casefile.specs.Answer.{sizesOf, answerOf, CaseAnswered}
+use Rattle.casefile.specs.Placed.{Placed, accepted-placed}
+use Rattle.casefile.specs.Accepted.{written-most}
+use Rattle.casefile.specs.Content.{Sound, sound}
+
+-- after the answer that the case b is accepted with the sizes s, and the tables t
+pub record AcceptedCase (b : List ℕ) (s : Sizes) (t : List ℕ) : Type 0 where
+  pub holds : Content
+  pub reads : caseReading b ≡ content holds
+  pub sizes : s ≡ sizesOf holds
+  pub tables : opsIn t (s .lattice) ≡ opsOf (holds .lattice)
+  pub laws : Laws (opsIn t (s .lattice))
+  pub sound : Sound holds
+  pub placed : Placed b
+  pub short : length (gapless (partsOf b)) ≤ 16618
+
+pub when-accepted : (b : List ℕ) (r : CaseCheck) (s : Sizes) (t : List ℕ) → CaseAnswered b r t → r ≡ Accepted s → AcceptedCase b s t
+when-accepted b r s t w k = go (caseReading b) refl (sym k ∙ w .answer)
+  where
+    go : (x : CaseReading) → caseReading b ≡ x → Accepted s ≡ answerOf x → AcceptedCase b s t
+    go (refused f) e h = absurd (let z : _≡_ {A = ℕ} 0 1 = cc in omega arith)
+    go (content c) e h =
+        let q : s ≡ sizesOf c = cc in
+        let p : opsIn t (s .lattice) ≡ opsOf (c .lattice) = rw q (w .tables c e) in
+        record {
+          holds = c;
+          reads = e;
+          sizes = q;
+          tables = p;
+          laws = rw p (sound b c e .laws);
+          sound = sound b c e;
+          placed = accepted-placed b c e;
+          short = written-most b c e;
+        }
+
+-- after the answer that it is refused
+pub when-refused : (b : List ℕ) (r : CaseCheck) (f : Refusal) (t : List ℕ) → CaseAnswered b r t → r ≡ Refused f → caseReading b ≡ refused f
+when-refused b r f t w k = go (caseReading b) (sym k ∙ w .answer)
+  where
+    go : (x : CaseReading) → Refused f ≡ answerOf x → x ≡ refused f
+    go (refused g) h = cc
+    go (content c) h = absurd (let z : _≡_ {A = ℕ} 0 1 = cc in omega arith)
