@@ -38,18 +38,12 @@ enum FormulasCheck {
     Read,
 }
 
-fn wide(x: u8) -> usize
-    ensures { λ r. ⌜ (r ≡ x) × (r < 256) ⌝ }
-{
-    x as usize
-}
-
 // A number of 16 bits, low byte first.
 fn word(bytes: &[u8], at: usize) -> usize
     requires { ⌜ at + 1 < length (now bytes) ⌝ }
     ensures { λ r. ⌜ (r ≡ wordAt (now (bytes .entry)) at) × (r < 65536) ⌝ }
 {
-    wide(bytes[at]) + 256 * wide(bytes[at + 1])
+    operations::wide(bytes[at]) + 256 * operations::wide(bytes[at + 1])
 }
 
 // Where part i starts.
@@ -57,7 +51,7 @@ pub fn part_start(bytes: &[u8], i: u8) -> usize
     requires { ⌜ HasDirectory (now bytes) × (i < partCount (now bytes)) ⌝ }
     ensures { λ r. ⌜ (r ≡ startOf (now (bytes .entry)) i) × (r < 65536) ⌝ }
 {
-    word(bytes, 1 + 4 * wide(i))
+    word(bytes, 1 + 4 * operations::wide(i))
 }
 
 // How many bytes part i has.
@@ -65,7 +59,7 @@ pub fn part_size(bytes: &[u8], i: u8) -> usize
     requires { ⌜ HasDirectory (now bytes) × (i < partCount (now bytes)) ⌝ }
     ensures { λ r. ⌜ (r ≡ sizeOf (now (bytes .entry)) i) × (r < 65536) ⌝ }
 {
-    word(bytes, 3 + 4 * wide(i))
+    word(bytes, 3 + 4 * operations::wide(i))
 }
 
 // Where part i ends: a sum that may be past 16 bits.
@@ -106,7 +100,7 @@ fn right_directory(bytes: &[u8]) -> bool
     if 11 < count {
         return false;
     }
-    1 + 4 * wide(count) <= bytes.len()
+    1 + 4 * operations::wide(count) <= bytes.len()
 }
 
 // Part i is not empty, starts at `from` or later, and ends within the case.
@@ -129,7 +123,7 @@ fn first_misplaced(bytes: &[u8]) -> u8
     ensures { λ r. ⌜ r ≡ misplaced (now (bytes .entry)) ⌝ }
 {
     let count = bytes[0];
-    let mut from = 1 + 4 * wide(count);
+    let mut from = 1 + 4 * operations::wide(count);
     for i in 0..count {
         if !well_placed(bytes, i, from) {
             return i;
@@ -268,8 +262,8 @@ fn put_pair(out: &mut [u8], i: u8, start: usize, size: usize)
     requires { ⌜ (4 + 4 * i < length (now out)) × (start < 65536) × (size < 65536) ⌝ }
     ensures { λ _. ⌜ now (out .exit) ≡ withPair (now (out .entry)) i start size ⌝ }
 {
-    put_word(out, 1 + 4 * wide(i), start);
-    put_word(out, 3 + 4 * wide(i), size);
+    put_word(out, 1 + 4 * operations::wide(i), start);
+    put_word(out, 3 + 4 * operations::wide(i), size);
 }
 
 // Writes the pairs of offset and length, for parts without gaps.
@@ -278,7 +272,7 @@ fn write_pairs(bytes: &[u8], out: &mut [u8])
     ensures { λ _. ⌜ now (out .exit) ≡ overlaid (now (out .entry)) 1 (pairs (1 + 4 * partCount (now (bytes .entry))) (partsOf (now (bytes .entry)))) ⌝ }
 {
     let count = bytes[0];
-    let mut at = 1 + 4 * wide(count);
+    let mut at = 1 + 4 * operations::wide(count);
     for i in 0..count {
         let size = part_size(bytes, i);
         put_pair(out, i, at, size);
@@ -292,7 +286,7 @@ fn write_parts(bytes: &[u8], out: &mut [u8]) -> usize
     ensures { λ r. ⌜ (r ≡ length (gapless (partsOf (now (bytes .entry))))) × (now (out .exit) ≡ overlaid (now (out .entry)) (1 + 4 * partCount (now (bytes .entry))) (joined (partsOf (now (bytes .entry))))) ⌝ }
 {
     let count = bytes[0];
-    let mut at = 1 + 4 * wide(count);
+    let mut at = 1 + 4 * operations::wide(count);
     for i in 0..count {
         let p = part(bytes, i);
         copy(p, out, at);

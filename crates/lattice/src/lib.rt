@@ -767,12 +767,6 @@ enum Rule {
     Complement,
 }
 
-fn wide(x: u8) -> usize
-    ensures { λ r. ⌜ (r ≡ x) × (r < 256) ⌝ }
-{
-    x as usize
-}
-
 // ---- reading the part
 
 fn is_panel(part: &[u8]) -> bool
@@ -819,7 +813,7 @@ fn has_form(part: &[u8]) -> bool
         return true;
     }
     let limit = part[0];
-    let n = wide(limit);
+    let n = operations::wide(limit);
     if n < 1 {
         return false;
     }
@@ -851,12 +845,12 @@ fn order_entry(part: &[u8], a: Element, b: Element) -> u8
     requires { ⌜ (latticeForm (now part) ≡ true) × (a .0 < latticePart (now part) .size) × (b .0 < latticePart (now part) .size) ⌝ }
     ensures { λ r. ⌜ r ≡ one (latticePart (now (part .entry)) .order (a .0) (b .0)) ⌝ }
 {
-    let i = wide(a.0);
-    let j = wide(b.0);
+    let i = operations::wide(a.0);
+    let j = operations::wide(b.0);
     if is_panel(part) {
         return PANEL_ORDER[i * 27 + j];
     }
-    let n = wide(part[0]);
+    let n = operations::wide(part[0]);
     part[1 + n + (i * n + j)]
 }
 
@@ -867,7 +861,7 @@ fn complement_entry(part: &[u8], a: Element) -> u8
     if is_panel(part) {
         return 26 - a.0;
     }
-    let i = wide(a.0);
+    let i = operations::wide(a.0);
     part[1 + i]
 }
 
@@ -985,8 +979,8 @@ fn bound_at(t: &[u8; 12352], n: u8, k: usize) -> u8
 {
     let a = element_of(n, k / 64);
     let b = element_of(n, k);
-    let i = wide(a.0);
-    let j = wide(b.0);
+    let i = operations::wide(a.0);
+    let j = operations::wide(b.0);
     let place = k / 4096 * 4096 + (lesser(i, j) * 64 + greater(i, j));
     if place < k {
         return t[place];

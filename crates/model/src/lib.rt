@@ -20,18 +20,12 @@ pub enum ModelCheck {
     Accepted(u8, u8),
 }
 
-fn wide(x: u8) -> usize
-    ensures { λ r. ⌜ (r ≡ x) × (r < 256) ⌝ }
-{
-    x as usize
-}
-
 // N, the number of states.
 pub fn states(m: &[u8]) -> usize
     requires { ⌜ ModelShape (now m) ⌝ }
     ensures { λ r. ⌜ r ≡ modelOf (now (m .entry)) .states ⌝ }
 {
-    wide(m[0])
+    operations::wide(m[0])
 }
 
 // k, the number of propositions.
@@ -39,7 +33,7 @@ pub fn propositions(m: &[u8]) -> usize
     requires { ⌜ ModelShape (now m) ⌝ }
     ensures { λ r. ⌜ r ≡ modelOf (now (m .entry)) .propositions ⌝ }
 {
-    wide(m[1])
+    operations::wide(m[1])
 }
 
 // The initial value of a state.
@@ -47,7 +41,7 @@ pub fn initial(m: &[u8], q: State) -> Element
     requires { ⌜ ModelShape (now m) × (q .0 < getD (now m) 0 0) ⌝ }
     ensures { λ r. ⌜ r .0 ≡ modelOf (now (m .entry)) .initial (q .0) ⌝ }
 {
-    Element(m[2 + wide(q.0)])
+    Element(m[2 + operations::wide(q.0)])
 }
 
 // Where the proposition values of a state begin; there are k of them.
@@ -55,9 +49,9 @@ pub fn label_row(m: &[u8], q: State) -> usize
     requires { ⌜ ModelShape (now m) × (q .0 < getD (now m) 0 0) ⌝ }
     ensures { λ r. ⌜ (r ≡ labelRow (now (m .entry)) (q .0)) × (r + getD (now (m .entry)) 1 0 ≤ length (now (m .entry))) ⌝ }
 {
-    let n = wide(m[0]);
-    let k = wide(m[1]);
-    let s = wide(q.0);
+    let n = operations::wide(m[0]);
+    let k = operations::wide(m[1]);
+    let s = operations::wide(q.0);
     2 + n + s * k
 }
 
@@ -66,9 +60,9 @@ pub fn transition_row(m: &[u8], q: State) -> usize
     requires { ⌜ ModelShape (now m) × (q .0 < getD (now m) 0 0) ⌝ }
     ensures { λ r. ⌜ (r ≡ transitionRow (now (m .entry)) (q .0)) × (r + getD (now (m .entry)) 0 0 ≤ length (now (m .entry))) ⌝ }
 {
-    let n = wide(m[0]);
-    let k = wide(m[1]);
-    let s = wide(q.0);
+    let n = operations::wide(m[0]);
+    let k = operations::wide(m[1]);
+    let s = operations::wide(q.0);
     2 + n + n * k + s * n
 }
 
@@ -104,8 +98,8 @@ pub fn check(part: &[u8], n: u8) -> ModelCheck
     if 16 < propositions {
         return ModelCheck::Refused;
     }
-    let w = wide(states);
-    let k = wide(propositions);
+    let w = operations::wide(states);
+    let k = operations::wide(propositions);
     if part.len() != 2 + w + w * k + w * w {
         return ModelCheck::Refused;
     }

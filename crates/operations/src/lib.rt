@@ -1,5 +1,6 @@
 // Lattice elements, and the operations on them as lookups in tables.
 ghost use mathlib.Core.Path.{_≡_};
+ghost use Prim.Native.Nat.{_<_};
 ghost use Rattle.theory.specs.Lattice.{imp};
 ghost use Rattle.operations.specs.Table.{atMostIn, meetIn, joinIn, complementIn, opsIn};
 
@@ -11,6 +12,13 @@ pub struct Lattice {
     pub size: u8,
     pub top: Element,
     pub bottom: Element,
+}
+
+// A byte as an index.
+pub fn wide(x: u8) -> usize
+    ensures { λ r. ⌜ (r ≡ x) × (r < 256) ⌝ }
+{
+    x as usize
 }
 
 // a is at or below b.

@@ -15,12 +15,6 @@ ghost use Rattle.operations.specs.Table.{atMostIn, meetIn, opsIn};
 ghost use Rattle.rounds.specs.Folded.{Counted};
 ghost use Rattle.rounds.specs.Table.{tableOf, iffIn, Shaped, matched, rowWritten, rowSame, rowChanged, simulationTest};
 
-fn wide(x: u8) -> usize
-    ensures { λ r. ⌜ (r ≡ x) × (r < 256) ⌝ }
-{
-    x as usize
-}
-
 // a ↔ b, the meet of a → b and b → a.
 fn equivalent(t: &[u8; 12352], a: Element, b: Element) -> Element
     ensures { λ r. ⌜ r .0 ≡ iffIn (now (t .entry)) (a .0) (b .0) ⌝ }
@@ -178,7 +172,7 @@ pub fn row(
         × (r ≡ rowChanged (opsIn (now (t .entry)) l) (modelOf (now (m1 .entry))) (modelOf (now (m2 .entry))) (tableOf (now (s .entry)) (getD (now (m2 .entry)) 0 0)) (q1 .0)) ⌝ }
 {
     let n2 = model::states(m2);
-    let at = wide(q1.0) * n2;
+    let at = operations::wide(q1.0) * n2;
     let mut changed = false;
     for q2 in 0..n2 {
         let e = entry(t, l, m1, m2, s, q1, State(q2 as u8));
@@ -194,7 +188,7 @@ fn row_same(t: &[u8; 12352], l: Lattice, m1: &[u8], m2: &[u8], s: &[u8], q1: Sta
     ensures { λ r. ⌜ r ≡ rowSame (opsIn (now (t .entry)) l) (modelOf (now (m1 .entry))) (modelOf (now (m2 .entry))) (tableOf (now (s .entry)) (getD (now (m2 .entry)) 0 0)) (q1 .0) ⌝ }
 {
     let n2 = model::states(m2);
-    let at = wide(q1.0) * n2;
+    let at = operations::wide(q1.0) * n2;
     for q2 in 0..n2 {
         let e = entry(t, l, m1, m2, s, q1, State(q2 as u8));
         if s[at + q2] != e.0 {

@@ -8,7 +8,7 @@ use mathlib.Core.List.{List, [], _∷_, map}
 use native.Mathlib.Nat.{suc-mul, not-suc-le-zero, le-refl, le-trans, mul-assoc}
 use native.Mathlib.Omega.{arith}
 use lib.ListN.{length, length-map}
-use Rattle.theory.specs.Lattice.{Ops, Laws, Below, Chain, All, Pairwise}
+use Rattle.theory.specs.Lattice.{Ops, Laws, AtMost, Chain, All, Pairwise}
 use Rattle.theory.specs.Simulation.{one, count}
 use Rattle.theory.specs.Test.{below-suc, decide, false-true}
 
@@ -237,10 +237,10 @@ module _ {A : Type 0} {O : Ops A} (L : Laws O) where
         it : A → A
         it a = O .meet a a
 
-        rise : {a b : A} → Below O (it a) (it b) → Below O a b
+        rise : {a b : A} → AtMost O (it a) (it b) → AtMost O a b
         rise p = L .trans (L .meet-glb (L .rfl _) (L .rfl _)) (L .trans p (L .meet-l _ _))
 
-        lift : {a b : A} → Below O a b → Below O (it a) (it b)
+        lift : {a b : A} → AtMost O a b → AtMost O (it a) (it b)
         lift p = L .meet-glb (L .trans (L .meet-l _ _) p) (L .trans (L .meet-l _ _) p)
 
     pub apart-length-up : (l : List A) → Pairwise (Apart (λ a b. O .atMost b a)) l → length l ≤ h

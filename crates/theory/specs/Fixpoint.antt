@@ -10,10 +10,10 @@ use native.Mathlib.Decide.{le-ind}
 use native.Mathlib.Omega.{arith}
 use borrow.Author.Tests.{ltb-true}
 use lib.ListN.{length}
-use Rattle.theory.specs.Lattice.{Ops, Laws, Below, Element, Chain, imp, bigMeet, bigJoin}
+use Rattle.theory.specs.Lattice.{Ops, Laws, AtMost, Element, Chain, imp, bigMeet, bigJoin}
 use Rattle.theory.specs.Model.{Model, Valued}
 use Rattle.theory.specs.Formula.{Formula, bottom, top, prop, negated, var, or, and, AX, EX, mu, nu, boundBy, overProps, closed}
-use Rattle.theory.specs.Value.{iterate, bind, allNext, someNext, eval, enough, valueAt, ToElements, SameMap, BelowMap, LeastFixpoint, GreatestFixpoint}
+use Rattle.theory.specs.Value.{iterate, bind, allNext, someNext, eval, enough, valueAt, ToElements, SameMap, AtMostMap, LeastFixpoint, GreatestFixpoint}
 use Rattle.theory.specs.Calculus.{Present, Calculus}
 use Rattle.theory.specs.Folds.{meet-mono, join-mono, imp-mono, bigMeet-mono, bigJoin-mono, bigMeet-cong, bigJoin-cong, bigMeet-element, bigJoin-element}
 use Rattle.theory.specs.Test.{and-l, and-r}
@@ -72,11 +72,11 @@ module _ {A : Type 0} {O : Ops A} (L : Laws O) where
   pub chain-size : (l : List A) → Chain O l → length l ≤ O .size
   chain-size l c = L .finite l (c .elements) (c .distinct)
 
-  pub allNext-mono : (M : Model A) {f g : ℕ → A} → ((q : ℕ) → q < M .states → Below O (f q) (g q)) → (q : ℕ) → Below O (allNext O M f q) (allNext O M g q)
+  pub allNext-mono : (M : Model A) {f g : ℕ → A} → ((q : ℕ) → q < M .states → AtMost O (f q) (g q)) → (q : ℕ) → AtMost O (allNext O M f q) (allNext O M g q)
   unfolding allNext
   allNext-mono M h q = bigMeet-mono L (M .states) (λ r l. imp-mono L (L .rfl _) (h r l))
 
-  pub someNext-mono : (M : Model A) {f g : ℕ → A} → ((q : ℕ) → q < M .states → Below O (f q) (g q)) → (q : ℕ) → Below O (someNext O M f q) (someNext O M g q)
+  pub someNext-mono : (M : Model A) {f g : ℕ → A} → ((q : ℕ) → q < M .states → AtMost O (f q) (g q)) → (q : ℕ) → AtMost O (someNext O M f q) (someNext O M g q)
   unfolding someNext
   someNext-mono M h q = bigJoin-mono L (M .states) (λ r l. meet-mono L (L .rfl _) (h r l))
 
@@ -115,22 +115,22 @@ module _ {A : Type 0} (W : Preorder A) (N : ℕ) where
     steps-down t q l r k = descends t q l
 
 module _ {A : Type 0} {O : Ops A} (L : Laws O) (M : Model A) where
-  abbrev pub BelowEnv : (ℕ → ℕ → A) → (ℕ → ℕ → A) → Type 0
-  BelowEnv e d = (v : ℕ) → BelowMap O M (e v) (d v)
+  abbrev pub AtMostEnv : (ℕ → ℕ → A) → (ℕ → ℕ → A) → Type 0
+  AtMostEnv e d = (v : ℕ) → AtMostMap O M (e v) (d v)
 
-  bind-mono : (e d : ℕ → ℕ → A) (x y : ℕ → A) → BelowMap O M x y → BelowEnv e d → BelowEnv (bind x e) (bind y d)
+  bind-mono : (e d : ℕ → ℕ → A) (x y : ℕ → A) → AtMostMap O M x y → AtMostEnv e d → AtMostEnv (bind x e) (bind y d)
   unfolding bind
   bind-mono e d x y b h zero = b
   bind-mono e d x y b h (suc v) = h v
 
-  iterate-mono : (f g : (ℕ → A) → ℕ → A) → ((x y : ℕ → A) → BelowMap O M x y → BelowMap O M (f x) (g y)) → (x : ℕ → A) (t : ℕ) → BelowMap O M (iterate t f x) (iterate t g x)
+  iterate-mono : (f g : (ℕ → A) → ℕ → A) → ((x y : ℕ → A) → AtMostMap O M x y → AtMostMap O M (f x) (g y)) → (x : ℕ → A) (t : ℕ) → AtMostMap O M (iterate t f x) (iterate t g x)
   unfolding iterate
   iterate-mono f g h x zero q l = L .rfl _
   iterate-mono f g h x (suc t) q l = h _ _ (iterate-mono f g h x t) q l
 
   -- ---- values are monotone in the environment
 
-  pub eval-mono : (K : ℕ) (φ : Formula) (e d : ℕ → ℕ → A) → BelowEnv e d → BelowMap O M (eval O M K φ e) (eval O M K φ d)
+  pub eval-mono : (K : ℕ) (φ : Formula) (e d : ℕ → ℕ → A) → AtMostEnv e d → AtMostMap O M (eval O M K φ e) (eval O M K φ d)
   unfolding eval
   eval-mono K bottom e d h q l = L .rfl _
   eval-mono K top e d h q l = L .rfl _
@@ -148,46 +148,46 @@ module _ {A : Type 0} {O : Ops A} (L : Laws O) (M : Model A) where
   abbrev pub body : ℕ → Formula → (ℕ → ℕ → A) → (ℕ → A) → ℕ → A
   body K f e m = eval O M K f (bind m e)
 
-  pub body-mono : (K : ℕ) (f : Formula) (e : ℕ → ℕ → A) (x y : ℕ → A) → BelowMap O M x y → BelowMap O M (body K f e x) (body K f e y)
+  pub body-mono : (K : ℕ) (f : Formula) (e : ℕ → ℕ → A) (x y : ℕ → A) → AtMostMap O M x y → AtMostMap O M (body K f e x) (body K f e y)
   body-mono K f e x y b = eval-mono K f _ _ (bind-mono e e x y b (λ v q l. L .rfl _))
 
   -- ---- the value of a least fixpoint: the body sends it to itself, and whatever the body does not raise lies above it
 
-  pub mu-falls : (K : ℕ) → enough O M ≤ K → (f : Formula) (e : ℕ → ℕ → A) → BelowMap O M (body K f e (eval O M K (mu f) e)) (eval O M K (mu f) e)
+  pub mu-falls : (K : ℕ) → enough O M ≤ K → (f : Formula) (e : ℕ → ℕ → A) → AtMostMap O M (body K f e (eval O M K (mu f) e)) (eval O M K (mu f) e)
   unfolding eval
   mu-falls K w f e =
       iterate-fixed (upwards L) (M .states) (O .bot) (L .bot-min) (body K f e) (λ x y. body-mono K f e y x) (O .size)
       (first-unlowered (upwards L) (O .size) (apart-length-up L (O .size) (chain-size L)) (M .states) 1 _ (steps-down (upwards L) (M .states) (O .bot) (L .bot-min) (body K f e) (λ x y. body-mono K f e y x)))
       K w
 
-  pub mu-rises : (K : ℕ) (f : Formula) (e : ℕ → ℕ → A) → BelowMap O M (eval O M K (mu f) e) (body K f e (eval O M K (mu f) e))
+  pub mu-rises : (K : ℕ) (f : Formula) (e : ℕ → ℕ → A) → AtMostMap O M (eval O M K (mu f) e) (body K f e (eval O M K (mu f) e))
   unfolding eval
   mu-rises K f e = iterate-falls (upwards L) (M .states) (O .bot) (L .bot-min) (body K f e) (λ x y. body-mono K f e y x) K
 
-  pub mu-least : (K : ℕ) (f : Formula) (e : ℕ → ℕ → A) (y : ℕ → A) → BelowMap O M (body K f e y) y → BelowMap O M (eval O M K (mu f) e) y
+  pub mu-least : (K : ℕ) (f : Formula) (e : ℕ → ℕ → A) (y : ℕ → A) → AtMostMap O M (body K f e y) y → AtMostMap O M (eval O M K (mu f) e) y
   unfolding eval
   mu-least K f e y w = iterate-greatest (upwards L) (M .states) (O .bot) (L .bot-min) (body K f e) (λ x y. body-mono K f e y x) y w K
 
   -- ---- the value of a greatest fixpoint: likewise
 
-  pub nu-rises : (K : ℕ) → enough O M ≤ K → (f : Formula) (e : ℕ → ℕ → A) → BelowMap O M (eval O M K (nu f) e) (body K f e (eval O M K (nu f) e))
+  pub nu-rises : (K : ℕ) → enough O M ≤ K → (f : Formula) (e : ℕ → ℕ → A) → AtMostMap O M (eval O M K (nu f) e) (body K f e (eval O M K (nu f) e))
   unfolding eval
   nu-rises K w f e =
       iterate-fixed (downwards L) (M .states) (O .top) (L .top-max) (body K f e) (body-mono K f e) (O .size)
       (first-unlowered (downwards L) (O .size) (apart-length L (O .size) (chain-size L)) (M .states) 1 _ (steps-down (downwards L) (M .states) (O .top) (L .top-max) (body K f e) (body-mono K f e)))
       K w
 
-  pub nu-falls : (K : ℕ) (f : Formula) (e : ℕ → ℕ → A) → BelowMap O M (body K f e (eval O M K (nu f) e)) (eval O M K (nu f) e)
+  pub nu-falls : (K : ℕ) (f : Formula) (e : ℕ → ℕ → A) → AtMostMap O M (body K f e (eval O M K (nu f) e)) (eval O M K (nu f) e)
   unfolding eval
   nu-falls K f e = iterate-falls (downwards L) (M .states) (O .top) (L .top-max) (body K f e) (body-mono K f e) K
 
-  pub nu-greatest : (K : ℕ) (f : Formula) (e : ℕ → ℕ → A) (y : ℕ → A) → BelowMap O M y (body K f e y) → BelowMap O M y (eval O M K (nu f) e)
+  pub nu-greatest : (K : ℕ) (f : Formula) (e : ℕ → ℕ → A) (y : ℕ → A) → AtMostMap O M y (body K f e y) → AtMostMap O M y (eval O M K (nu f) e)
   unfolding eval
   nu-greatest K f e y w = iterate-greatest (downwards L) (M .states) (O .top) (L .top-max) (body K f e) (body-mono K f e) y w K
 
   -- ---- the count of applications does not matter, where it is enough; J and K may come from models of different sizes
 
-  pub applications-le : (K J : ℕ) → enough O M ≤ K → enough O M ≤ J → (φ : Formula) (e d : ℕ → ℕ → A) → BelowEnv e d → BelowMap O M (eval O M K φ e) (eval O M J φ d)
+  pub applications-le : (K J : ℕ) → enough O M ≤ K → enough O M ≤ J → (φ : Formula) (e d : ℕ → ℕ → A) → AtMostEnv e d → AtMostMap O M (eval O M K φ e) (eval O M J φ d)
   unfolding eval
   applications-le K J u w bottom e d b q l = L .rfl _
   applications-le K J u w top e d b q l = L .rfl _

@@ -4,7 +4,7 @@ use Prim.Native.Nat.{ℕ, zero, suc, _≤_, _<_}
 use mathlib.Core.Path.{_≡_, refl}
 use native.Mathlib.Nat.{le-refl, not-suc-le-zero}
 use native.Mathlib.Omega.{arith}
-use Rattle.theory.specs.Lattice.{Ops, Laws, Below, Element, imp, iff, bigMeet, bigJoin}
+use Rattle.theory.specs.Lattice.{Ops, Laws, AtMost, Element, imp, iff, bigMeet, bigJoin}
 use Rattle.theory.specs.Test.{below-suc}
 
 module _ {A : Type 0} (O : Ops A) where
@@ -24,7 +24,7 @@ module _ {A : Type 0} {O : Ops A} (L : Laws O) where
   open Laws L using (rfl, trans, antisym, meet-l, meet-r, meet-glb, join-l, join-r, join-lub, dist, neg-anti, neg-in, neg-out, top-max, bot-min, meet-element, join-element, neg-element, top-element, bot-element)
 
   abbrev _⊑_ : A → A → Type 0
-  _⊑_ a b = Below O a b
+  _⊑_ a b = AtMost O a b
 
   infix 40 _⊑_
   infixl 70 _⊓_

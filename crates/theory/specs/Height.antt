@@ -10,7 +10,7 @@ use native.Mathlib.Omega.{arith}
 use borrow.Author.Tests.{ltb-true, lt-ltb, eqb-true, eq-eqb, ne-eqb, eqb-false}
 use lib.Dec.{eqb, ltb}
 use lib.ListN.{length}
-use Rattle.theory.specs.Lattice.{Ops, Below, Element, All, Pairwise, Chain, LongestChain}
+use Rattle.theory.specs.Lattice.{Ops, AtMost, Element, All, Pairwise, Chain, LongestChain}
 use Rattle.theory.specs.Simulation.{one}
 use Rattle.theory.specs.Test.{decide}
 use Rattle.theory.specs.Descent.{sum, sum-le, sum-strict, scan, all-map}
@@ -113,9 +113,9 @@ module _ (O : Ops ℕ) (numbers : (a : ℕ) → O .isElement a ≡ ltb a (O .siz
   chain-most l c = distinct-le (O .size) l (below-size l c) (c .distinct)
 
   chain? : (l : List ℕ) → Chain O l ⊎ (¬ Chain O l)
-  chain? l = go (all? (Element O) (λ a. decide (O .isElement a)) l) (pairwise? (λ a b. a ≢ b) distinct? l) (pairwise? (λ a b. Below O a b ⊎ Below O b a) (λ a b. either (decide (O .atMost a b)) (decide (O .atMost b a))) l)
+  chain? l = go (all? (Element O) (λ a. decide (O .isElement a)) l) (pairwise? (λ a b. a ≢ b) distinct? l) (pairwise? (λ a b. AtMost O a b ⊎ AtMost O b a) (λ a b. either (decide (O .atMost a b)) (decide (O .atMost b a))) l)
     where
-      go : All (Element O) l ⊎ (¬ All (Element O) l) → Pairwise (λ a b. a ≢ b) l ⊎ (¬ Pairwise (λ a b. a ≢ b) l) → Pairwise (λ a b. Below O a b ⊎ Below O b a) l ⊎ (¬ Pairwise (λ a b. Below O a b ⊎ Below O b a) l) → Chain O l ⊎ (¬ Chain O l)
+      go : All (Element O) l ⊎ (¬ All (Element O) l) → Pairwise (λ a b. a ≢ b) l ⊎ (¬ Pairwise (λ a b. a ≢ b) l) → Pairwise (λ a b. AtMost O a b ⊎ AtMost O b a) l ⊎ (¬ Pairwise (λ a b. AtMost O a b ⊎ AtMost O b a) l) → Chain O l ⊎ (¬ Chain O l)
       go (inl p) (inl q) (inl r) = inl (record { elements = p; distinct = q; ordered = r })
       go (inr p) q r = inr (λ c. p (c .elements))
       go (inl p) (inr q) r = inr (λ c. q (c .distinct))

@@ -33,8 +33,8 @@ Pairwise R (a ∷ l) = All (R a) l × Pairwise R l
 
 module _ {A : Type 0} (O : Ops A) where
   -- a is at or below b
-  abbrev pub Below : A → A → Type 0
-  Below a b = O .atMost a b ≡ true
+  abbrev pub AtMost : A → A → Type 0
+  AtMost a b = O .atMost a b ≡ true
 
   abbrev pub Element : A → Type 0
   Element a = O .isElement a ≡ true
@@ -43,7 +43,7 @@ module _ {A : Type 0} (O : Ops A) where
   pub record Chain (l : List A) : Type 0 where
     pub elements : All Element l
     pub distinct : Pairwise (λ a b. a ≢ b) l
-    pub ordered : Pairwise (λ a b. Below a b ⊎ Below b a) l
+    pub ordered : Pairwise (λ a b. AtMost a b ⊎ AtMost b a) l
 
   -- 'h being the number of elements in the lattice's longest chain'
   pub record LongestChain (h : ℕ) : Type 0 where
@@ -56,21 +56,21 @@ module _ {A : Type 0} (O : Ops A) where
   -- join. The complement of the complement is the element, and a ≤ b gives not-b ≤ not-a.' Antisymmetry is for elements;
   -- every result is an element; and there are no more than `size` elements.
   pub record Laws : Type 0 where
-    pub rfl : (a : A) → Below a a
-    pub trans : {a b c : A} → Below a b → Below b c → Below a c
-    pub antisym : {a b : A} → Element a → Element b → Below a b → Below b a → a ≡ b
-    pub meet-l : (a b : A) → Below (O .meet a b) a
-    pub meet-r : (a b : A) → Below (O .meet a b) b
-    pub meet-glb : {a b c : A} → Below c a → Below c b → Below c (O .meet a b)
-    pub join-l : (a b : A) → Below a (O .join a b)
-    pub join-r : (a b : A) → Below b (O .join a b)
-    pub join-lub : {a b c : A} → Below a c → Below b c → Below (O .join a b) c
-    pub dist : (a b c : A) → Below (O .meet a (O .join b c)) (O .join (O .meet a b) (O .meet a c))
-    pub neg-anti : {a b : A} → Below a b → Below (O .neg b) (O .neg a)
-    pub neg-in : (a : A) → Below a (O .neg (O .neg a))
-    pub neg-out : (a : A) → Below (O .neg (O .neg a)) a
-    pub top-max : (a : A) → Below a (O .top)
-    pub bot-min : (a : A) → Below (O .bot) a
+    pub rfl : (a : A) → AtMost a a
+    pub trans : {a b c : A} → AtMost a b → AtMost b c → AtMost a c
+    pub antisym : {a b : A} → Element a → Element b → AtMost a b → AtMost b a → a ≡ b
+    pub meet-l : (a b : A) → AtMost (O .meet a b) a
+    pub meet-r : (a b : A) → AtMost (O .meet a b) b
+    pub meet-glb : {a b c : A} → AtMost c a → AtMost c b → AtMost c (O .meet a b)
+    pub join-l : (a b : A) → AtMost a (O .join a b)
+    pub join-r : (a b : A) → AtMost b (O .join a b)
+    pub join-lub : {a b c : A} → AtMost a c → AtMost b c → AtMost (O .join a b) c
+    pub dist : (a b c : A) → AtMost (O .meet a (O .join b c)) (O .join (O .meet a b) (O .meet a c))
+    pub neg-anti : {a b : A} → AtMost a b → AtMost (O .neg b) (O .neg a)
+    pub neg-in : (a : A) → AtMost a (O .neg (O .neg a))
+    pub neg-out : (a : A) → AtMost (O .neg (O .neg a)) a
+    pub top-max : (a : A) → AtMost a (O .top)
+    pub bot-min : (a : A) → AtMost (O .bot) a
     pub meet-element : (a b : A) → Element (O .meet a b)
     pub join-element : (a b : A) → Element (O .join a b)
     pub neg-element : (a : A) → Element (O .neg a)

@@ -6,11 +6,11 @@ use mathlib.Core.Bool.{true}
 use native.Mathlib.Nat.{not-suc-le-zero}
 use native.Mathlib.Omega.{arith}
 use borrow.Author.Tests.{ltb-true}
-use Rattle.theory.specs.Lattice.{Ops, Laws, Below, imp, iff, bigMeet, bigJoin}
+use Rattle.theory.specs.Lattice.{Ops, Laws, AtMost, imp, iff, bigMeet, bigJoin}
 use Rattle.theory.specs.Model.{Model}
 use Rattle.theory.specs.Formula.{Formula, bottom, top, prop, negated, var, or, and, AX, EX, mu, nu, closed, boundBy, universal, fixpointFree, overProps, nestedAX, UniversalSentence}
 use Rattle.theory.specs.Value.{iterate, bind, allNext, someNext, eval, enough, valueAt, wholeValue}
-use Rattle.theory.specs.Simulation.{propositionPart, successorPart, F, roundOf, round, BelowTable, Bounds, FirstUnchanged, score}
+use Rattle.theory.specs.Simulation.{propositionPart, successorPart, F, roundOf, round, AtMostTable, Bounds, FirstUnchanged, score}
 use Rattle.theory.specs.Folds.{bigMeet-le, bigMeet-mono, bigJoin-lub, join-bigMeet, meet-mono, join-mono, imp-mono, imp-meet, imp-join, imp-bot, imp-top, imp-neg, iff-l, iff-r, de-morgan-join}
 use Rattle.theory.specs.Test.{and-l, and-r, false-true}
 use Rattle.theory.specs.Fixpoint.{applications-le}
@@ -22,30 +22,30 @@ module _ {A : Type 0} {O : Ops A} (L : Laws O) (M₁ M₂ : Model A) where
 
   infixl 70 _⊓_
   infixl 60 _⊔_
-  bounds-prop : (S : ℕ → ℕ → A) (p : ℕ) → p < M₁ .propositions → (q₁ q₂ : ℕ) → Below O (F O M₁ M₂ S q₁ q₂) (imp O (M₂ .label q₂ p) (M₁ .label q₁ p))
+  bounds-prop : (S : ℕ → ℕ → A) (p : ℕ) → p < M₁ .propositions → (q₁ q₂ : ℕ) → AtMost O (F O M₁ M₂ S q₁ q₂) (imp O (M₂ .label q₂ p) (M₁ .label q₁ p))
   unfolding F propositionPart
   bounds-prop S p h q₁ q₂ = trans (meet-l _ _) (trans (bigMeet-le L (M₁ .propositions) _ p h) (iff-r L _ _))
 
-  bounds-negated : (S : ℕ → ℕ → A) (p : ℕ) → p < M₁ .propositions → (q₁ q₂ : ℕ) → Below O (F O M₁ M₂ S q₁ q₂) (imp O (neg (M₂ .label q₂ p)) (neg (M₁ .label q₁ p)))
+  bounds-negated : (S : ℕ → ℕ → A) (p : ℕ) → p < M₁ .propositions → (q₁ q₂ : ℕ) → AtMost O (F O M₁ M₂ S q₁ q₂) (imp O (neg (M₂ .label q₂ p)) (neg (M₁ .label q₁ p)))
   unfolding F propositionPart
   bounds-negated S p h q₁ q₂ = trans (meet-l _ _) (trans (bigMeet-le L (M₁ .propositions) _ p h) (trans (iff-l L _ _) (imp-neg L _ _)))
 
   -- The step from states to their successors: if each move c of model 1 is matched by a move d of model 2 into S, and S bounds f by
   -- g, then what holds after all moves is bounded. The moves are the transitions from a pair of states, or the initial values.
-  pub bounds-moves : (S : ℕ → ℕ → A) (f g c d : ℕ → A) → Bounds O M₁ M₂ S f g → Below O (bigMeet O (M₁ .states) (λ q. imp O (c q) (bigJoin O (M₂ .states) (λ r. d r ⊓ S q r)))) (imp O (bigMeet O (M₂ .states) (λ r. imp O (d r) (g r))) (bigMeet O (M₁ .states) (λ q. imp O (c q) (f q))))
+  pub bounds-moves : (S : ℕ → ℕ → A) (f g c d : ℕ → A) → Bounds O M₁ M₂ S f g → AtMost O (bigMeet O (M₁ .states) (λ q. imp O (c q) (bigJoin O (M₂ .states) (λ r. d r ⊓ S q r)))) (imp O (bigMeet O (M₂ .states) (λ r. imp O (d r) (g r))) (bigMeet O (M₁ .states) (λ q. imp O (c q) (f q))))
   unfolding imp
   bounds-moves S f g c d h = rw (join-bigMeet L (M₁ .states) (neg X) (λ q. imp O (c q) (f q))) (bigMeet-mono L (M₁ .states) each)
     where
       X : A
       X = bigMeet O (M₂ .states) (λ r. imp O (d r) (g r))
 
-      matched : (q : ℕ) → q < M₁ .states → (r : ℕ) → r < M₂ .states → Below O (d r ⊓ S q r) (neg X ⊔ f q)
+      matched : (q : ℕ) → q < M₁ .states → (r : ℕ) → r < M₂ .states → AtMost O (d r ⊓ S q r) (neg X ⊔ f q)
       matched q l r m = trans (meet-mono L (rfl _) (h q l r m)) (trans (dist _ _ _) (join-mono L (trans (meet-mono L (neg-in _) (rfl _)) (rw (← de-morgan-join L (neg (d r)) (g r)) (neg-anti (bigMeet-le L (M₂ .states) _ r m)))) (meet-r _ _)))
 
-      each : (q : ℕ) → q < M₁ .states → Below O (imp O (c q) (bigJoin O (M₂ .states) (λ r. d r ⊓ S q r))) (neg X ⊔ imp O (c q) (f q))
+      each : (q : ℕ) → q < M₁ .states → AtMost O (imp O (c q) (bigJoin O (M₂ .states) (λ r. d r ⊓ S q r))) (neg X ⊔ imp O (c q) (f q))
       each q l = join-lub (trans (join-l _ _) (join-r _ _)) (trans (bigJoin-lub L (M₂ .states) _ _ (matched q l)) (join-mono L (rfl _) (join-r _ _)))
 
-  bounds-next : (S : ℕ → ℕ → A) (f g : ℕ → A) → Bounds O M₁ M₂ S f g → (q₁ q₂ : ℕ) → Below O (F O M₁ M₂ S q₁ q₂) (imp O (allNext O M₂ g q₂) (allNext O M₁ f q₁))
+  bounds-next : (S : ℕ → ℕ → A) (f g : ℕ → A) → Bounds O M₁ M₂ S f g → (q₁ q₂ : ℕ) → AtMost O (F O M₁ M₂ S q₁ q₂) (imp O (allNext O M₂ g q₂) (allNext O M₁ f q₁))
   unfolding F successorPart allNext someNext
   bounds-next S f g h q₁ q₂ = trans (meet-r _ _) (bounds-moves S f g (M₁ .transition q₁) (M₂ .transition q₂) h)
 
@@ -83,7 +83,7 @@ module _ {A : Type 0} {O : Ops A} (L : Laws O) (M₁ M₂ : Model A) where
 
   -- ---- for a table at or below its F: every universal formula, fixpoints among them
 
-  module _ (S : ℕ → ℕ → A) (sound : BelowTable O M₁ M₂ S (F O M₁ M₂ S)) where
+  module _ (S : ℕ → ℕ → A) (sound : AtMostTable O M₁ M₂ S (F O M₁ M₂ S)) where
     bounds-iterate : (f g : (ℕ → A) → ℕ → A) → ((x y : ℕ → A) → Bounds O M₁ M₂ S x y → Bounds O M₁ M₂ S (f x) (g y)) → (x y : ℕ → A) → Bounds O M₁ M₂ S x y → (t : ℕ) → Bounds O M₁ M₂ S (iterate t f x) (iterate t g y)
     unfolding iterate
     bounds-iterate f g h x y b zero = b
@@ -142,12 +142,12 @@ module _ {A : Type 0} {O : Ops A} (L : Laws O) (M₁ M₂ : Model A) where
 
   -- ---- theorem 7 (theorem 6.1 of 000): the score is at most 'not the whole value on model 2, joined with the whole value on model 1'
 
-  pub score-bounds : (S : ℕ → ℕ → A) (φ : Formula) → Bounds O M₁ M₂ S (valueAt O M₁ φ) (valueAt O M₂ φ) → Below O (score O M₁ M₂ S) (imp O (wholeValue O M₂ φ) (wholeValue O M₁ φ))
+  pub score-bounds : (S : ℕ → ℕ → A) (φ : Formula) → Bounds O M₁ M₂ S (valueAt O M₁ φ) (valueAt O M₂ φ) → AtMost O (score O M₁ M₂ S) (imp O (wholeValue O M₂ φ) (wholeValue O M₁ φ))
   unfolding score wholeValue
   score-bounds S φ h = bounds-moves S (valueAt O M₁ φ) (valueAt O M₂ φ) (M₁ .initial) (M₂ .initial) h
 
-  pub score-by-round : (φ : Formula) → UniversalSentence (M₁ .propositions) φ → fixpointFree φ ≡ true → (r : ℕ) → nestedAX φ < r → Below O (score O M₁ M₂ (round O M₁ M₂ r)) (imp O (wholeValue O M₂ φ) (wholeValue O M₁ φ))
+  pub score-by-round : (φ : Formula) → UniversalSentence (M₁ .propositions) φ → fixpointFree φ ≡ true → (r : ℕ) → nestedAX φ < r → AtMost O (score O M₁ M₂ (round O M₁ M₂ r)) (imp O (wholeValue O M₂ φ) (wholeValue O M₁ φ))
   score-by-round φ s x r h = score-bounds _ φ (bounded-by-round φ s x r h)
 
-  pub score-at-T : (T : ℕ) → FirstUnchanged O M₁ M₂ T → (φ : Formula) → UniversalSentence (M₁ .propositions) φ → Below O (score O M₁ M₂ (round O M₁ M₂ T)) (imp O (wholeValue O M₂ φ) (wholeValue O M₁ φ))
+  pub score-at-T : (T : ℕ) → FirstUnchanged O M₁ M₂ T → (φ : Formula) → UniversalSentence (M₁ .propositions) φ → AtMost O (score O M₁ M₂ (round O M₁ M₂ T)) (imp O (wholeValue O M₂ φ) (wholeValue O M₁ φ))
   score-at-T T f φ s = score-bounds _ φ (bounded-at-T T f φ s)

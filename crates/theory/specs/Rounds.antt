@@ -9,10 +9,10 @@ use native.Mathlib.Numerals.{sub-one}
 use native.Mathlib.Decide.{le-ind}
 use native.Mathlib.Omega.{arith}
 use lib.ListN.{length}
-use Rattle.theory.specs.Lattice.{Ops, Laws, Below, Element, Chain, LongestChain, imp}
+use Rattle.theory.specs.Lattice.{Ops, Laws, AtMost, Element, Chain, LongestChain, imp}
 use Rattle.theory.specs.Model.{Model}
 use Rattle.theory.specs.Value.{allNext, someNext}
-use Rattle.theory.specs.Simulation.{successorPart, F, round, roundOf, SameTable, BelowTable, FixedBy, GreatestFixedBy, FirstUnchangedOf, FirstUnchanged, Simulation, GreatestSimulation, score}
+use Rattle.theory.specs.Simulation.{successorPart, F, round, roundOf, SameTable, AtMostTable, FixedBy, GreatestFixedBy, FirstUnchangedOf, FirstUnchanged, Simulation, GreatestSimulation, score}
 use Rattle.theory.specs.Folds.{meet-mono, bigMeet-cong, bigJoin-cong}
 use Rattle.theory.specs.Descent.{First, Unlowered, lowerings, first-unlowered, lowerings-le, downwards, apart-length}
 use Rattle.theory.specs.Fixpoint.{allNext-cong, someNext-cong, allNext-mono, someNext-mono, chain-size}
@@ -60,7 +60,7 @@ module _ {A : Type 0} (O : Ops A) (M₁ M₂ : Model A) where
         omega arith
 
 module _ {A : Type 0} {O : Ops A} (L : Laws O) (M₁ M₂ : Model A) where
-  pub F-mono : {S U : ℕ → ℕ → A} → BelowTable O M₁ M₂ S U → (q₁ q₂ : ℕ) → Below O (F O M₁ M₂ S q₁ q₂) (F O M₁ M₂ U q₁ q₂)
+  pub F-mono : {S U : ℕ → ℕ → A} → AtMostTable O M₁ M₂ S U → (q₁ q₂ : ℕ) → AtMost O (F O M₁ M₂ S q₁ q₂) (F O M₁ M₂ U q₁ q₂)
   unfolding F successorPart
   F-mono h q₁ q₂ = meet-mono L (L .rfl _) (allNext-mono L M₁ (λ q₁' l. someNext-mono L M₂ (λ q₂' m. h q₁' l q₂' m) q₂) q₁)
 
@@ -70,19 +70,19 @@ module _ {A : Type 0} {O : Ops A} (L : Laws O) (M₁ M₂ : Model A) where
 
   -- ---- a monotone operator
 
-  module _ (G : (ℕ → ℕ → A) → ℕ → ℕ → A) (mono : (S U : ℕ → ℕ → A) → BelowTable O M₁ M₂ S U → (q₁ q₂ : ℕ) → Below O (G S q₁ q₂) (G U q₁ q₂)) where
-    pub descend : (r q₁ q₂ : ℕ) → Below O (roundOf O M₁ M₂ G (suc r) q₁ q₂) (roundOf O M₁ M₂ G r q₁ q₂)
+  module _ (G : (ℕ → ℕ → A) → ℕ → ℕ → A) (mono : (S U : ℕ → ℕ → A) → AtMostTable O M₁ M₂ S U → (q₁ q₂ : ℕ) → AtMost O (G S q₁ q₂) (G U q₁ q₂)) where
+    pub descend : (r q₁ q₂ : ℕ) → AtMost O (roundOf O M₁ M₂ G (suc r) q₁ q₂) (roundOf O M₁ M₂ G r q₁ q₂)
     unfolding roundOf
     descend zero q₁ q₂ = L .top-max _
     descend (suc r) q₁ q₂ = mono _ _ (λ q₁' l q₂' m. descend r q₁' q₂') q₁ q₂
 
     -- a table that G does not lower lies at or below every round
-    pub below-every : (S : ℕ → ℕ → A) → BelowTable O M₁ M₂ S (G S) → (r : ℕ) → BelowTable O M₁ M₂ S (roundOf O M₁ M₂ G r)
+    pub below-every : (S : ℕ → ℕ → A) → AtMostTable O M₁ M₂ S (G S) → (r : ℕ) → AtMostTable O M₁ M₂ S (roundOf O M₁ M₂ G r)
     unfolding roundOf
     below-every S h zero q₁ l q₂ m = L .top-max _
     below-every S h (suc r) q₁ l q₂ m = L .trans (h q₁ l q₂ m) (mono _ _ (below-every S h r) q₁ q₂)
 
-    pub fixed-below : (S : ℕ → ℕ → A) → FixedBy O M₁ M₂ G S → BelowTable O M₁ M₂ S (G S)
+    pub fixed-below : (S : ℕ → ℕ → A) → FixedBy O M₁ M₂ G S → AtMostTable O M₁ M₂ S (G S)
     fixed-below S s q₁ l q₂ m = rw (← s q₁ l q₂ m) (L .rfl _)
 
     -- all rounds together lower at most N1·N2·(h − 1) entries
@@ -115,7 +115,7 @@ module _ {A : Type 0} {O : Ops A} (L : Laws O) (M₁ M₂ : Model A) where
               earlier zero p l s = not-suc-le-zero p
               earlier (suc t) p l s =
                   w .2 .earlier t (omega arith)
-                  (λ q₁ k q₂ m. subst (λ (n : ℕ). Below O (roundOf O M₁ M₂ G n q₁ q₂) (roundOf O M₁ M₂ G (suc t) q₁ q₂)) (sub-one (suc t)) (rw (← s q₁ k q₂ m) (L .rfl _)))
+                  (λ q₁ k q₂ m. subst (λ (n : ℕ). AtMost O (roundOf O M₁ M₂ G n q₁ q₂) (roundOf O M₁ M₂ G (suc t) q₁ q₂)) (sub-one (suc t)) (rw (← s q₁ k q₂ m) (L .rfl _)))
 
       -- whatever T is, the bound holds of it
       pub T-within : (cong : (S U : ℕ → ℕ → A) → SameTable O M₁ M₂ S U → (q₁ q₂ : ℕ) → G S q₁ q₂ ≡ G U q₁ q₂) (h : ℕ) → ((l : List A) → Chain O l → length l ≤ h) → (T : ℕ) → FirstUnchangedOf O M₁ M₂ G T → T ≤ M₁ .states * M₂ .states * (h - 1) + 1
@@ -124,10 +124,10 @@ module _ {A : Type 0} {O : Ops A} (L : Laws O) (M₁ M₂ : Model A) where
   -- ==== for F
 
   -- theorem 3
-  pub rounds-descend : (r q₁ q₂ : ℕ) → Below O (round O M₁ M₂ (suc r) q₁ q₂) (round O M₁ M₂ r q₁ q₂)
+  pub rounds-descend : (r q₁ q₂ : ℕ) → AtMost O (round O M₁ M₂ (suc r) q₁ q₂) (round O M₁ M₂ r q₁ q₂)
   rounds-descend = descend (F O M₁ M₂) (λ S U. F-mono)
 
-  pub below-rounds : (S : ℕ → ℕ → A) → BelowTable O M₁ M₂ S (F O M₁ M₂ S) → (r : ℕ) → BelowTable O M₁ M₂ S (round O M₁ M₂ r)
+  pub below-rounds : (S : ℕ → ℕ → A) → AtMostTable O M₁ M₂ S (F O M₁ M₂ S) → (r : ℕ) → AtMostTable O M₁ M₂ S (round O M₁ M₂ r)
   below-rounds = below-every (F O M₁ M₂) (λ S U. F-mono)
 
   pub round-element : (r q₁ q₂ : ℕ) → Element O (round O M₁ M₂ r q₁ q₂)
@@ -157,9 +157,9 @@ module _ {A : Type 0} {O : Ops A} (L : Laws O) (M₁ M₂ : Model A) where
   pub settled-greatest : (T : ℕ) → FirstUnchanged O M₁ M₂ T → GreatestSimulation O M₁ M₂ (round O M₁ M₂ T)
   settled-greatest T f = record { isFixed = fixed-at-T O M₁ M₂ (F O M₁ M₂) (λ S U. F-cong O M₁ M₂) T f; greatest = λ U u. below-rounds U (fixed-below (F O M₁ M₂) (λ S U. F-mono) U u) T }
 
-  pub settled-below : (T : ℕ) → FirstUnchanged O M₁ M₂ T → BelowTable O M₁ M₂ (round O M₁ M₂ T) (F O M₁ M₂ (round O M₁ M₂ T))
+  pub settled-below : (T : ℕ) → FirstUnchanged O M₁ M₂ T → AtMostTable O M₁ M₂ (round O M₁ M₂ T) (F O M₁ M₂ (round O M₁ M₂ T))
   settled-below T f = fixed-below (F O M₁ M₂) (λ S U. F-mono) _ (settled-greatest T f .isFixed)
 
   -- 'Each entry is at or above the greatest simulation's.'
-  pub above-settled : (T : ℕ) → FirstUnchanged O M₁ M₂ T → (r : ℕ) → BelowTable O M₁ M₂ (round O M₁ M₂ T) (round O M₁ M₂ r)
+  pub above-settled : (T : ℕ) → FirstUnchanged O M₁ M₂ T → (r : ℕ) → AtMostTable O M₁ M₂ (round O M₁ M₂ T) (round O M₁ M₂ r)
   above-settled T f r = below-rounds (round O M₁ M₂ T) (settled-below T f) r

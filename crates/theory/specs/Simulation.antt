@@ -2,7 +2,7 @@
 use Prim.Native.Nat.{ℕ, zero, suc, _+_, _*_, _-_, _/_, _<_}
 use mathlib.Core.Path.{_≡_}
 use mathlib.Core.Bool.{Bool, true, false}
-use Rattle.theory.specs.Lattice.{Ops, Below, imp, iff, bigMeet, bigJoin}
+use Rattle.theory.specs.Lattice.{Ops, AtMost, imp, iff, bigMeet, bigJoin}
 use Rattle.theory.specs.Model.{Model}
 use Rattle.theory.specs.Value.{allNext, someNext}
 
@@ -32,12 +32,12 @@ module _ {A : Type 0} (O : Ops A) (M₁ M₂ : Model A) where
   abbrev pub SameTable : (ℕ → ℕ → A) → (ℕ → ℕ → A) → Type 0
   SameTable S U = AllPairs (λ q₁ q₂. S q₁ q₂ ≡ U q₁ q₂)
 
-  abbrev pub BelowTable : (ℕ → ℕ → A) → (ℕ → ℕ → A) → Type 0
-  BelowTable S U = AllPairs (λ q₁ q₂. Below O (S q₁ q₂) (U q₁ q₂))
+  abbrev pub AtMostTable : (ℕ → ℕ → A) → (ℕ → ℕ → A) → Type 0
+  AtMostTable S U = AllPairs (λ q₁ q₂. AtMost O (S q₁ q₂) (U q₁ q₂))
 
   -- every entry of S is at most 'not g at the pair's state of model 2, joined with f at the pair's state of model 1'
   abbrev pub Bounds : (ℕ → ℕ → A) → (ℕ → A) → (ℕ → A) → Type 0
-  Bounds S f g = BelowTable S (λ q₁ q₂. imp O (g q₂) (f q₁))
+  Bounds S f g = AtMostTable S (λ q₁ q₂. imp O (g q₂) (f q₁))
 
   -- ---- for any operator G on tables; F is the one that document 01 speaks of
 
@@ -59,7 +59,7 @@ module _ {A : Type 0} (O : Ops A) (M₁ M₂ : Model A) where
 
     pub record GreatestFixedBy (S : ℕ → ℕ → A) : Type 0 where
       pub isFixed : FixedBy S
-      pub greatest : (U : ℕ → ℕ → A) → FixedBy U → BelowTable U S
+      pub greatest : (U : ℕ → ℕ → A) → FixedBy U → AtMostTable U S
 
   abbrev pub round : ℕ → ℕ → ℕ → A
   round = roundOf F

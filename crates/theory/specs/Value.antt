@@ -1,7 +1,7 @@
 -- The value of a formula at a state and on a whole model. Rests on Lattice, Model, Formula.
 use Prim.Native.Nat.{ℕ, zero, suc, _*_, _-_, _<_}
 use mathlib.Core.Path.{_≡_}
-use Rattle.theory.specs.Lattice.{Ops, Below, Element, imp, bigMeet, bigJoin}
+use Rattle.theory.specs.Lattice.{Ops, AtMost, Element, imp, bigMeet, bigJoin}
 use Rattle.theory.specs.Model.{Model}
 use Rattle.theory.specs.Formula.{Formula, bottom, top, prop, negated, var, or, and, AX, EX, mu, nu}
 
@@ -26,20 +26,20 @@ module _ {A : Type 0} (O : Ops A) (M : Model A) where
   abbrev pub SameMap : (ℕ → A) → (ℕ → A) → Type 0
   SameMap x y = (q : ℕ) → q < M .states → x q ≡ y q
 
-  abbrev pub BelowMap : (ℕ → A) → (ℕ → A) → Type 0
-  BelowMap x y = (q : ℕ) → q < M .states → Below O (x q) (y q)
+  abbrev pub AtMostMap : (ℕ → A) → (ℕ → A) → Type 0
+  AtMostMap x y = (q : ℕ) → q < M .states → AtMost O (x q) (y q)
 
   -- 'the least map from states to elements that its body sends to itself', g being the body
   pub record LeastFixpoint (g : (ℕ → A) → ℕ → A) (x : ℕ → A) : Type 0 where
     pub elements : ToElements x
     pub fixed : SameMap (g x) x
-    pub least : (y : ℕ → A) → ToElements y → SameMap (g y) y → BelowMap x y
+    pub least : (y : ℕ → A) → ToElements y → SameMap (g y) y → AtMostMap x y
 
   -- 'the greatest likewise'
   pub record GreatestFixpoint (g : (ℕ → A) → ℕ → A) (x : ℕ → A) : Type 0 where
     pub elements : ToElements x
     pub fixed : SameMap (g x) x
-    pub greatest : (y : ℕ → A) → ToElements y → SameMap (g y) y → BelowMap y x
+    pub greatest : (y : ℕ → A) → ToElements y → SameMap (g y) y → AtMostMap y x
 
 module _ {A : Type 0} (O : Ops A) where
   -- 'AX f at q is the meet over all q' of (not R(q, q')) joined with f(q')'

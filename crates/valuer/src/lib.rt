@@ -18,13 +18,6 @@ ghost use Rattle.valuer.specs.Values.{Reads, fromInitial, Values, ValueA
 ghost use Rattle.valuer.specs.Code.{literal, combine, nextOf, startOf};
 ghost use Rattle.valuer.specs.Node.{slotOf, Here, Node, Iterated};
 
-// A byte as a place.
-fn wide(x: u8) -> usize
-    ensures { λ r. ⌜ (r ≡ x) × (r < 256) ⌝ }
-{
-    x as usize
-}
-
 // The state at a place of a map.
 fn state(q: usize) -> State
     requires { ⌜ q < 256 ⌝ }
@@ -39,7 +32,7 @@ fn labels(m: &[u8], p: Proposition) -> [u8; 64]
     ensures { λ r. ⌜ Filled (λ q. modelOf (now (m .entry)) .label q (p .0)) (getD (now (m .entry)) 0 0) r ⌝ }
 {
     let n = model::states(m);
-    let column = wide(p.0);
+    let column = operations::wide(p.0);
     let mut out = [0u8; 64];
     for q in 0..n {
         let row = model::label_row(m, state(q));
@@ -315,7 +308,7 @@ fn round_limit(l: Lattice, m: &[u8]) -> usize
     ensures { λ r. ⌜ r ≡ getD (now (m .entry)) 0 0 * (l .size - 1) ⌝ }
 {
     let n = model::states(m);
-    let size = wide(l.size);
+    let size = operations::wide(l.size);
     if size == 0 {
         return 0;
     }
@@ -338,7 +331,7 @@ pub fn value(t: &[u8; 12352], l: Lattice, m: &[u8], f: &[u8], q: State) -> Eleme
     ensures { λ r. ⌜ ValueAt (now (t .entry)) l (now (m .entry)) (now (f .entry)) (q .0) (r .0) ⌝ }
 {
     let x = values(t, l, m, f);
-    let s = wide(q.0);
+    let s = operations::wide(q.0);
     Element(x[s])
 }
 

@@ -3,7 +3,6 @@ use Rattle.model.proofs.initial.Statement.{statement}
 use Rattle.model.proofs.initial.Tie as tie
 use Rattle.model.proofs.initial.Reads as reads
 use Rattle.model.proofs.initial.Lts as lts
-use Rattle.model.proofs.wide.Reads as wide-reads
 
 -- src/lib.rt:42:19
 wide-requires : tie.Need-wide-requires

@@ -5,7 +5,6 @@ use Rattle.model.proofs.label_row.Statement.{statement}
 use Rattle.model.proofs.label_row.Tie as tie
 use Rattle.model.proofs.label_row.Reads as reads
 use Rattle.model.proofs.label_row.Lts as lts
-use Rattle.model.proofs.wide.Reads as wide-reads
 
 -- the place, from what was read
 facts : (c : tie.After-wide3) → RowFacts (c .before .before .before .before .before .before .args .m .now) (c .before .before .before .before .before .before .args .q .0) (c .before .before .before .wide .result) (c .before .wide2 .result) (c .wide3 .result)
