@@ -1,10 +1,9 @@
+-- `model::transition_row` meets its contract: by what is known of a row's place.
 use native.Mathlib.Omega.{arith}
 use borrow.Author.Needs.{needs}
 use Rattle.model.specs.Places.{RowFacts, row-facts}
 use Rattle.model.proofs.transition_row.Statement.{statement}
 use Rattle.model.proofs.transition_row.Tie as tie
-use Rattle.model.proofs.transition_row.Reads as reads
-use Rattle.model.proofs.transition_row.Lts as lts
 
 -- the place, from what was read
 facts : (c : tie.After-wide3) → RowFacts (c .before .before .before .before .before .before .args .m .now) (c .before .before .before .before .before .before .args .q .0) (c .before .before .before .wide .result) (c .before .wide2 .result) (c .wide3 .result)
@@ -12,47 +11,36 @@ facts c =
     row-facts _ _ _ _ _ (c .before .before .before .before .before .before .pre .0) (c .before .before .before .before .before .before .pre .1)
     (c .before .before .before .wide .ensures .0) (c .before .wide2 .ensures .0) (c .wide3 .ensures .0)
 
--- src/lib.rt:61:18
 shared-slice-read-wide : tie.Need-shared-slice-read-wide
 shared-slice-read-wide c = search needs
 
--- src/lib.rt:61:9
 wide-requires : tie.Need-wide-requires
 wide-requires c κs = search needs
 
--- src/lib.rt:62:18
 shared-slice-read-wide-2 : tie.Need-shared-slice-read-wide-2
 shared-slice-read-wide-2 c = search needs
 
--- src/lib.rt:62:9
 wide-requires-2 : tie.Need-wide-requires-2
 wide-requires-2 c κs = search needs
 
--- src/lib.rt:63:9
 wide-requires-3 : tie.Need-wide-requires-3
 wide-requires-3 c κs = search needs
 
--- src/lib.rt:64:5
 add-result : tie.Need-add-result
 add-result c = search needs
 
--- src/lib.rt:64:13
 mul-result : tie.Need-mul-result
 mul-result c = omega (arith, facts c)
 
--- src/lib.rt:64:5
 add-result-2 : tie.Need-add-result-2
 add-result-2 c = omega (arith, facts c)
 
--- src/lib.rt:64:21
 mul-result-2 : tie.Need-mul-result-2
 mul-result-2 c = omega (arith, facts c)
 
--- src/lib.rt:64:5
 add-result-3 : tie.Need-add-result-3
 add-result-3 c = omega (arith, facts c)
 
--- src/lib.rt:57:1
 returns : tie.Need-returns
 returns c = (facts c .transition, facts c .transition-in)
 

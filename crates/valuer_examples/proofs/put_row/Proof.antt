@@ -3,9 +3,6 @@ use Prim.Native.Nat.{_≤_, _-_}
 use borrow.Author.Needs.{needs}
 use Rattle.valuer_examples.proofs.put_row.Statement.{statement}
 use Rattle.valuer_examples.proofs.put_row.Tie as tie
-use Rattle.valuer_examples.proofs.put_row.Reads as reads
-use Rattle.valuer_examples.proofs.put_row.Lts as lts
-use Rattle.valuer_examples.proofs.put.Reads as put-reads
 
 abbrev Inv-loop : tie.InvT-loop
 Inv-loop t₀ a b₀ t b = b ≤ 8
