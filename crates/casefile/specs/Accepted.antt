@@ -2,10 +2,11 @@
 use Prim.Native.Nat.{ℕ, zero, suc, _+_, _*_, _-_, _≤_, _<_}
 use mathlib.Core.Path.{_≡_, refl, sym, ap, _∙_}
 use mathlib.Core.Bool.{Bool, true, false, cond, _&&_, _||_}
+use mathlib.Core.Logic.{_↔_}
 use mathlib.Core.List.{List, [], _∷_, _++_}
 use native.Mathlib.Nat.{le-of-suc-le-suc, not-suc-le-zero}
 use native.Mathlib.Omega.{arith}
-use borrow.Author.Tests.{eqb-true}
+use borrow.Author.Tests.{eqb-true, eq-eqb}
 use lib.Dec.{eqb}
 use lib.ListN.{length, getD, take, length-append, length-take, length-drop}
 use lib.Seq.{take-append-add}
@@ -115,6 +116,20 @@ accepted-case b c e = go (accepted-placed b c e)
           few = omega (arith, ap length s, parts-length b 0 (partCount b));
           again = cc (k .is, q);
         }
+
+-- the content of parts that pass their tests
+parts-read : (c : Content) → PartsRead c → partsReading (c .latticePart) (c .model1Part) (c .model2Part) (c .formulaParts) ≡ content c
+unfolding modelsReading
+parts-read c r = simp (r .lattice-read, r .model1-read, r .model2-read, eq-eqb _ _ (r .same-propositions), r .formulas-read)
+
+-- A case is accepted with a content exactly when its parts stand where they may, are those of the content, and pass their tests.
+pub case-exactly : (b : List ℕ) (c : Content) → (caseReading b ≡ content c) ↔ (Placed b × (partsOf b ≡ contentParts c) × PartsRead c)
+case-exactly b c = (λ e. let a = accepted-case b c e in (a .placed, a .parts, a .reads), λ w. back (w .0) (w .1) (w .2))
+  where
+    back : Placed b → partsOf b ≡ contentParts c → PartsRead c → caseReading b ≡ content c
+    back p s r =
+        let q : partAt b 0 ∷ partAt b 1 ∷ partAt b 2 ∷ partsFrom b 3 (partCount b - 3) ≡ contentParts c = sym (parts-four b (p .directory .count-least)) ∙ s in
+        placed-reading b p ∙ cc (q, parts-read c r)
 
 -- ---- lengths
 

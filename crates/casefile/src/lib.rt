@@ -218,7 +218,7 @@ fn check_parts(bytes: &[u8], t: &mut [u8; 12352]) -> CaseCheck
 }
 
 // The refusal that a case gets, or what it holds. The tables of an accepted case's lattice are left in t; after a refusal t holds
-// anything. A store is checked in its first 24,576 bytes.
+// anything. To check a store, lend its first 24,576 bytes.
 pub fn check(bytes: &[u8], t: &mut [u8; 12352]) -> CaseCheck
     ensures { λ r. ⌜ CaseAnswered (now (bytes .entry)) r (now (t .exit)) ⌝ }
 {

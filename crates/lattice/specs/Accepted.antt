@@ -2,6 +2,7 @@
 use Prim.Native.Nat.{ℕ, zero, suc, _+_, _*_, _≤_, _<_}
 use mathlib.Core.Path.{_≡_, refl, sym, ap, _∙_}
 use mathlib.Core.Bool.{Bool, true, false, cond, _&&_, _||_}
+use mathlib.Core.Logic.{_↔_}
 use mathlib.Core.List.{List}
 use native.Mathlib.Nat.{le-refl, not-suc-le-zero}
 use native.Mathlib.Omega.{arith}
@@ -263,6 +264,95 @@ accepted-sound b P h =
 pub accepted-is-lattice : (b : List ℕ) (P : Part) → latticeReading b ≡ accepted P → Laws (opsOf P)
 accepted-is-lattice b P h = let w = accepted-sound b P h in rw (w .0) (lawsOf (latticePart b) (w .1))
 
+-- ---- exactly the distributive De Morgan lattices
+
+-- The order and the complement of P are those of a distributive De Morgan lattice on the numbers below n, with some meet and join.
+pub record DeMorganLattice (P : Part) : Type 0 where
+  pub rfl : (a : ℕ) → a < P .size → P .order a a ≡ true
+  pub antisym : (a b : ℕ) → a < P .size → b < P .size → P .order a b ≡ true → P .order b a ≡ true → a ≡ b
+  pub trans : (a b c : ℕ) → a < P .size → b < P .size → c < P .size → P .order a b ≡ true → P .order b c ≡ true → P .order a c ≡ true
+  pub meet : ℕ → ℕ → ℕ
+  pub meet-lt : (a b : ℕ) → a < P .size → b < P .size → meet a b < P .size
+  pub meet-is : (a b : ℕ) → a < P .size → b < P .size → MeetAt P a b (meet a b)
+  pub join : ℕ → ℕ → ℕ
+  pub join-lt : (a b : ℕ) → a < P .size → b < P .size → join a b < P .size
+  pub join-is : (a b : ℕ) → a < P .size → b < P .size → MeetAt (reversed P) a b (join a b)
+  pub dist : (a b c : ℕ) → a < P .size → b < P .size → c < P .size → meet a (join b c) ≡ join (meet a b) (meet a c)
+  pub complement-lt : (a : ℕ) → a < P .size → P .complement a < P .size
+  pub involution : (a : ℕ) → a < P .size → P .complement (P .complement a) ≡ a
+  pub antitone : (a b : ℕ) → a < P .size → b < P .size → P .order a b ≡ true → P .order (P .complement b) (P .complement a) ≡ true
+
+module _ (P : Part) (D : DeMorganLattice P) where
+  lattice-ordered : Ordered P
+  lattice-ordered = record { rfl = D .rfl; anti = record { same = D .antisym }; trans = D .trans }
+
+  lattice-bounded : Bounded P
+  lattice-bounded =
+      record {
+        meet-lt = λ a b l m. meet-some P a b _ (D .meet-lt a b l m) (D .meet-is a b l m);
+        join-lt = λ a b l m. rw join-reversed (meet-some (reversed P) a b _ (D .join-lt a b l m) (D .join-is a b l m));
+      }
+
+  same-meet : (a b : ℕ) → a < P .size → b < P .size → meetOf P a b ≡ D .meet a b
+  same-meet a b l m =
+      meet-same P a b _ _ (lattice-ordered .anti) (D .meet-lt a b l m) (lattice-bounded .meet-lt a b l m) (D .meet-is a b l m) (meet-at P lattice-bounded a b l m)
+
+  same-join : (a b : ℕ) → a < P .size → b < P .size → joinOf P a b ≡ D .join a b
+  same-join a b l m =
+      meet-same (reversed P) a b _ _ (ordered-reversed P lattice-ordered .anti) (D .join-lt a b l m) (lattice-bounded .join-lt a b l m) (D .join-is a b l m)
+      (join-at P lattice-bounded a b l m)
+
+  lattice-distributive : distributive (P .size) (meetOf P) (joinOf P) ≡ true
+  unfolding distributive
+  lattice-distributive =
+      all3-in (P .size) _ (λ a b c l m k.
+      eq-eqb (meetOf P a (joinOf P b c)) (joinOf P (meetOf P a b) (meetOf P a c))
+      (rw (same-join b c m k, same-meet a b l m, same-meet a c l k)
+      (rw (same-meet a _ l (D .join-lt b c m k), same-join _ _ (D .meet-lt a b l m) (D .meet-lt a c l k))
+      (D .dist a b c l m k))))
+
+  lattice-complements : complementRules (P .size) (P .order) (P .complement) ≡ true
+  unfolding complementRules
+  lattice-complements =
+      and-in _ _
+      (all-in (P .size) _ (λ a l. eq-eqb _ _ (D .involution a l)))
+      (all2-in (P .size) _ (λ a b l m. ⇒-in (P .order a b) _ (D .antitone a b l m)))
+
+-- A part of the right form whose order and complement are those of a distributive De Morgan lattice on its n elements is accepted.
+pub lattice-is-accepted : (b : List ℕ) → latticeForm b ≡ true → DeMorganLattice (latticePart b) → latticeReading b ≡ accepted (latticePart b)
+unfolding latticeReading partReading require
+lattice-is-accepted b f D =
+    rw (f, ordered-in _ (lattice-ordered _ D), bounded-in _ (lattice-bounded _ D), lattice-distributive _ D, lattice-complements _ D)
+
+-- what the tests say of the elements themselves
+sound-lattice : (P : Part) → Sound P → DeMorganLattice P
+sound-lattice P s =
+    record {
+      rfl = s .ordered .rfl;
+      antisym = s .ordered .anti .same;
+      trans = s .ordered .trans;
+      meet = meetOf P;
+      meet-lt = s .bounds .meet-lt;
+      meet-is = meet-at P (s .bounds);
+      join = joinOf P;
+      join-lt = s .bounds .join-lt;
+      join-is = join-at P (s .bounds);
+      dist = λ a b c l m k. rw (id P s a l, id P s b m, id P s c k) at (dist-same P s a b c);
+      complement-lt = s .formed .inside;
+      involution = λ a l. rw (id P s a l) at (neg-same P s a);
+      antitone = λ a b l m p. rw (id P s a l, id P s b m) at (neg-order P s a b (rw (id P s a l, id P s b m) p));
+    }
+
+-- Accepted are exactly the parts of the right form whose order and complement are those of a distributive De Morgan lattice.
+pub accepted-exactly : (b : List ℕ) → (latticeReading b ≡ accepted (latticePart b)) ↔ ((latticeForm b ≡ true) × DeMorganLattice (latticePart b))
+unfolding latticeReading
+accepted-exactly b = (
+  λ e. (require-out (latticeForm b) _ _ _ e .0, sound-lattice _ (accepted-sound b _ e .1)),
+  λ w. lattice-is-accepted b (w .0) (w .1),
+)
+
+-- ---- from operations that obey the laws for all numbers
+
 -- The elements of O are the numbers below n, and its order and complement on them are those of the part.
 pub record SameLattice (P : Part) (O : Ops ℕ) : Type 0 where
   pub elements : (a : ℕ) → O .isElement a ≡ ltb a (P .size)
@@ -314,47 +404,26 @@ module _ (P : Part) (O : Ops ℕ) (L : Laws O) (w : SameLattice P O) where
         greatest = λ c k p q. from _ c (join-below a b) k (join-lub (to a c l k p) (to b c m k q));
       }
 
-  same-bounded : Bounded P
-  same-bounded =
-      record {
-        meet-lt = λ a b l m. meet-some P a b _ (meet-below a b) (same-meet-at a b l m);
-        join-lt = λ a b l m. rw join-reversed (meet-some (reversed P) a b _ (join-below a b) (same-join-at a b l m));
-      }
-
-  same-meet : (a b : ℕ) → a < P .size → b < P .size → meetOf P a b ≡ O .meet a b
-  same-meet a b l m =
-      meet-same P a b _ _ (same-ordered .anti) (meet-below a b) (same-bounded .meet-lt a b l m) (same-meet-at a b l m) (meet-at P same-bounded a b l m)
-
-  same-join : (a b : ℕ) → a < P .size → b < P .size → joinOf P a b ≡ O .join a b
-  same-join a b l m =
-      meet-same (reversed P) a b _ _ (ordered-reversed P same-ordered .anti) (join-below a b) (same-bounded .join-lt a b l m) (same-join-at a b l m)
-      (join-at P same-bounded a b l m)
-
-  same-distributive : distributive (P .size) (meetOf P) (joinOf P) ≡ true
-  unfolding distributive
-  same-distributive =
-      all3-in (P .size) _ (λ a b c l m k.
-      eq-eqb (meetOf P a (joinOf P b c)) (joinOf P (meetOf P a b) (meetOf P a c))
-      (rw (same-join b c m k, same-meet a b l m, same-meet a c l k)
-      (rw (same-meet a _ l (join-below b c), same-join _ _ (meet-below a b) (meet-below a c))
-      (antisym (meet-element _ _) (join-element _ _) (dist a b c)
-      (join-lub (meet-glb (meet-l _ _) (trans (meet-r _ _) (join-l _ _))) (meet-glb (meet-l _ _) (trans (meet-r _ _) (join-r _ _))))))))
-
   neg-below : (a : ℕ) → a < P .size → P .complement a < P .size
   neg-below a l = rw (← w .complements a l) (is-below _ (neg-element a))
 
-  same-complements : complementRules (P .size) (P .order) (P .complement) ≡ true
-  unfolding complementRules
-  same-complements =
-      and-in _ _
-      (all-in (P .size) _ (λ a l.
-      eq-eqb _ _
-      (sym (w .complements _ (neg-below a l)) ∙ ap (O .neg) (sym (w .complements a l)) ∙ antisym (neg-element _) (is-element a l) (neg-out a) (neg-in a))))
-      (all2-in (P .size) _ (λ a b l m.
-      ⇒-in (P .order a b) _ (λ p. from _ _ (neg-below b m) (neg-below a l) (rw (← w .complements a l, ← w .complements b m) (neg-anti (to a b l m p))))))
-
--- A part of the right form whose order and complement are those of some distributive De Morgan lattice on n elements is accepted.
-pub lattice-is-accepted : (b : List ℕ) → latticeForm b ≡ true → (O : Ops ℕ) → Laws O → SameLattice (latticePart b) O → latticeReading b ≡ accepted (latticePart b)
-unfolding latticeReading partReading require
-lattice-is-accepted b f O L w =
-    rw (f, ordered-in _ (same-ordered _ O L w), bounded-in _ (same-bounded _ O L w), same-distributive _ O L w, same-complements _ O L w)
+  pub ops-lattice : DeMorganLattice P
+  ops-lattice =
+      record {
+        rfl = same-ordered .rfl;
+        antisym = same-ordered .anti .same;
+        trans = same-ordered .trans;
+        meet = O .meet;
+        meet-lt = λ a b l m. meet-below a b;
+        meet-is = same-meet-at;
+        join = O .join;
+        join-lt = λ a b l m. join-below a b;
+        join-is = same-join-at;
+        dist = λ a b c l m k.
+            antisym (meet-element _ _) (join-element _ _) (dist a b c)
+            (join-lub (meet-glb (meet-l _ _) (trans (meet-r _ _) (join-l _ _))) (meet-glb (meet-l _ _) (trans (meet-r _ _) (join-r _ _))));
+        complement-lt = neg-below;
+        involution = λ a l.
+            sym (w .complements _ (neg-below a l)) ∙ ap (O .neg) (sym (w .complements a l)) ∙ antisym (neg-element _) (is-element a l) (neg-out a) (neg-in a);
+        antitone = λ a b l m p. from _ _ (neg-below b m) (neg-below a l) (rw (← w .complements a l, ← w .complements b m) (neg-anti (to a b l m p)));
+      }

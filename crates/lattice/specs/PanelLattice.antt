@@ -19,7 +19,7 @@ use Rattle.lattice.specs.Panel.{panelOrder, panelPart}
 use Rattle.lattice.specs.Reading.{isPanel, latticePart, latticeForm, accepted, latticeReading}
 use Rattle.lattice.specs.Bounds.{one-test}
 use Rattle.theory.specs.Height.{distinct-le}
-use Rattle.lattice.specs.Accepted.{lattice-is-accepted}
+use Rattle.lattice.specs.Accepted.{lattice-is-accepted, ops-lattice}
 use Rattle.lattice.specs.Form.{part-explicit, form-last}
 use Rattle.lattice.specs.Agree.{ops-same}
 
@@ -175,9 +175,10 @@ panel-read = refl
 pub panel-accepted : latticeReading (0 ∷ []) ≡ accepted panelPart
 unfolding latticeForm isPanel
 panel-accepted =
-    lattice-is-accepted (0 ∷ []) form panelOps panelLaws
+    lattice-is-accepted (0 ∷ []) form
+    (ops-lattice _ panelOps panelLaws
     (rw panel-read
-    (record { elements = λ a. refl; orders = panel-orders; complements = panel-complements }))
+    (record { elements = λ a. refl; orders = panel-orders; complements = panel-complements })))
     ∙ ap accepted panel-read
   where
     form : latticeForm (0 ∷ []) ≡ true
@@ -223,10 +224,11 @@ module _ (b : List ℕ) (w : PanelBytes b) where
 
   pub panel-bytes-accepted : latticeReading b ≡ accepted (latticePart b)
   panel-bytes-accepted =
-      lattice-is-accepted b has-form panelOps panelLaws
+      lattice-is-accepted b has-form
+      (ops-lattice _ panelOps panelLaws
       (rw explicit
       (record {
         elements = λ a. rw (w .size);
         orders = λ i j l m. panel-orders i j (rw (w .size) at l) (rw (w .size) at m) ∙ sym (same-orders i j (rw (w .size) at l) (rw (w .size) at m));
         complements = λ a l. panel-complements a (rw (w .size) at l) ∙ sym (w .complements a (rw (w .size) at l));
-      }))
+      })))

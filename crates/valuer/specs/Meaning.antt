@@ -17,7 +17,7 @@ use Rattle.operations.specs.Table.{opsIn}
 use Rattle.operations.specs.declared.Lattice.{Lattice}
 use Rattle.formula.specs.Bytes.{read, formulaReading}
 use Rattle.formula.specs.RoundTrip.{formula-part}
-use Rattle.valuer.specs.Values.{fromInitial, Values, WholeValue}
+use Rattle.valuer.specs.Values.{fromInitial, Values, ValueAt, WholeValue}
 
 module _ (t : List ℕ) (l : Lattice) (m f : List ℕ) (L : Laws (opsIn t l)) (ok : Valued (opsIn t l) (modelOf m)) (φ : Formula) (e : formulaReading (getD m 1 0) f ≡ read φ) where
   value-calculus : (u : Formula → (ℕ → ℕ → ℕ) → ℕ → ℕ) → Calculus (opsIn t l) (modelOf m) u
@@ -34,7 +34,15 @@ module _ (t : List ℕ) (l : Lattice) (m f : List ℕ) (L : Laws (opsIn t l)) (o
   unfolding wholeValue
   whole-calculus u c r a = a .is φ e ∙ bigMeet-cong (opsIn t l) (getD m 0 0) _ _ (λ q b. ap (imp (opsIn t l) (modelOf m .initial q)) (value-calculus u c q b))
 
+  pub value-at-calculus : (u : Formula → (ℕ → ℕ → ℕ) → ℕ → ℕ) → Calculus (opsIn t l) (modelOf m) u → (q r : ℕ) → ValueAt t l m f q r → q < getD m 0 0 → r ≡ u φ (λ v i. l .bottom .0) q
+  value-at-calculus u c q r a b = a .is φ e ∙ value-calculus u c q b
+
   -- and they are elements
+  pub value-at-element : (q r : ℕ) → ValueAt t l m f q r → q < getD m 0 0 → r < l .size
+  value-at-element q r a b =
+      let w = formula-part (getD m 1 0) f φ e in
+      rw (a .is φ e) (ltb-true _ _ (value-element L (modelOf m) ok φ (w .bound) (w .props) q b))
+
   pub values-elements : (r : List ℕ) → Values t l m f r → (q : ℕ) → q < getD m 0 0 → getD r q 0 < l .size
   values-elements r a q b =
       let w = formula-part (getD m 1 0) f φ e in
