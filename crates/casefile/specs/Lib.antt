@@ -4,7 +4,7 @@ pub mod Directory
 pub mod Reading
 pub mod Gapless
 pub mod Answer
--- ---- theorems
+-- ---- theorems; Placed has the conditions that functions on an accepted case ask for
 pub mod Placed
 pub mod Laid
 pub mod Accepted

@@ -15,7 +15,7 @@ use Rattle.casefile.specs.declared.FormulasCheck.the-variants.{RefusedAt
 use Rattle.refusal.specs.declared.Refusal.the-variants.{BadModel, BadFormula}
 use Rattle.lattice.specs.Reading.{accepted, latticeReading}
 use Rattle.lattice.specs.Answer.{boundsOf, answerOf as latticeAnswer}
-use Rattle.lattice.specs.declared.Checked.{Checked}
+use Rattle.lattice.specs.declared.LatticeCheck.{LatticeCheck}
 use Rattle.model.specs.declared.ModelCheck.{ModelCheck}
 use Rattle.model.specs.Reading.{modelAnswer}
 use Rattle.formula.specs.Bytes.{FormulaReading}
@@ -67,9 +67,9 @@ abbrev pub modelsAnswer : List ℕ → Lattice → CaseCheck
 modelsAnswer b l = afterFirst b l (modelAnswer (l .size) (partAt b 1))
 
 -- the answer for all parts
-abbrev pub afterChecked : List ℕ → Checked → CaseCheck
-afterChecked b (Checked.Refused f) = Refused f
-afterChecked b (Checked.Accepted l) = modelsAnswer b l
+abbrev pub afterChecked : List ℕ → LatticeCheck → CaseCheck
+afterChecked b (LatticeCheck.Refused f) = Refused f
+afterChecked b (LatticeCheck.Accepted l) = modelsAnswer b l
 
 abbrev pub partsAnswer : List ℕ → CaseCheck
 partsAnswer b = afterChecked b (latticeAnswer (latticeReading (partAt b 0)))

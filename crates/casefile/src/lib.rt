@@ -1,6 +1,6 @@
 // Cases: the directory, the check of all parts, and the gapless case of the parts.
 use formula::FormulaCheck;
-use lattice::Checked;
+use lattice::LatticeCheck;
 use model::ModelCheck;
 use operations::Lattice;
 use refusal::Refusal;
@@ -212,8 +212,8 @@ fn check_parts(bytes: &[u8], t: &mut [u8; 12352]) -> CaseCheck
     ensures { λ r. ⌜ PartsAnswered (now (bytes .entry)) r (now (t .exit)) ⌝ }
 {
     match lattice::check(part(bytes, 0), t) {
-        Checked::Refused(f) => CaseCheck::Refused(f),
-        Checked::Accepted(l) => check_models(bytes, l),
+        LatticeCheck::Refused(f) => CaseCheck::Refused(f),
+        LatticeCheck::Accepted(l) => check_models(bytes, l),
     }
 }
 

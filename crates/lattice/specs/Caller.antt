@@ -8,7 +8,7 @@ use Rattle.theory.specs.Part.{opsOf}
 use Rattle.operations.specs.Table.{opsIn}
 use Rattle.operations.specs.declared.Lattice.{Lattice}
 use Rattle.refusal.specs.declared.Refusal.{Refusal}
-use Rattle.lattice.specs.declared.Checked.the-variants.{Refused, Accepted}
+use Rattle.lattice.specs.declared.LatticeCheck.the-variants.{Refused, Accepted}
 use Rattle.lattice.specs.Reading.{LatticeReading, refused, accepted, latticePart, latticeReading}
 use Rattle.lattice.specs.Answer.{boundsOf, Answered}
 use Rattle.lattice.specs.Accepted.{Sound, accepted-sound, lawsOf}

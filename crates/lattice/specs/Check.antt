@@ -15,8 +15,8 @@ use Rattle.operations.specs.declared.Lattice.{Lattice}
 use Rattle.refusal.specs.declared.Refusal.{Refusal}
 use Rattle.refusal.specs.declared.Refusal.the-variants.{NotDistributive, BadComplement}
 use Rattle.lattice.specs.declared.Rule.the-variants.{Order, Distributive, Complement}
-use Rattle.lattice.specs.declared.Checked.{Checked}
-use Rattle.lattice.specs.declared.Checked.the-variants.{Refused, Accepted}
+use Rattle.lattice.specs.declared.LatticeCheck.{LatticeCheck}
+use Rattle.lattice.specs.declared.LatticeCheck.the-variants.{Refused, Accepted}
 use Rattle.lattice.specs.Reading.{LatticeReading, accepted, all2, reflexive, antisymmetric, transitive, partialOrder, distributive, complementRules, require, latticeForm, latticePart}
 use Rattle.lattice.specs.Answer.{boundsOf, Answered}
 use Rattle.lattice.specs.Bounds.{element-id, boundUpTo}
@@ -141,7 +141,7 @@ unfolding require
 answered-here true f next t e = absurd (let z : _≡_ {A = ℕ} 0 1 = cc in omega arith)
 answered-here false f next t e = record { answer = refl; tables = λ P h. absurd (let z : _≡_ {A = ℕ} 0 1 = cc in omega arith) }
 
-pub answered-next : (x : Bool) (f : Refusal) (next : LatticeReading) (r : Checked) (t : List ℕ) → x ≡ true → Answered next r t → Answered (require x f next) r t
+pub answered-next : (x : Bool) (f : Refusal) (next : LatticeReading) (r : LatticeCheck) (t : List ℕ) → x ≡ true → Answered next r t → Answered (require x f next) r t
 unfolding require
 answered-next true f next r t e w = w
 answered-next false f next r t e w = absurd (let z : _≡_ {A = ℕ} 0 1 = cc in omega arith)

@@ -755,7 +755,7 @@ const PANEL_ORDER: [u8; 729] = [
 ];
 
 // What a lattice part gets: a refusal, or its size and bounds.
-pub enum Checked {
+pub enum LatticeCheck {
     Refused(Refusal),
     Accepted(Lattice),
 }
@@ -1184,21 +1184,21 @@ fn passes(t: &[u8; 12352], n: u8, rule: Rule) -> bool
 // ---- the check
 
 // What is left to test of a part whose meets and joins are in the tables: refusals 7 and 8, or n, top and bottom.
-fn check_rules(part: &[u8], t: &mut [u8; 12352]) -> Checked
+fn check_rules(part: &[u8], t: &mut [u8; 12352]) -> LatticeCheck
     requires { ⌜ (latticeForm (now part) ≡ true) × (partialOrder (latticePart (now part) .size) (latticePart (now part) .order) ≡ true) × (bounded (latticePart (now part)) ≡ true) × Filled (tableOf (opsOf (latticePart (now part)))) 12288 (now t) ⌝ }
     ensures { λ r. ⌜ Answered (rulesReading (latticePart (now (part .entry)))) r (now (t .exit)) ⌝ }
 {
     fill_complements(part, t);
     let n = size(part);
     if !passes(t, n, Rule::Distributive) {
-        return Checked::Refused(Refusal::NotDistributive);
+        return LatticeCheck::Refused(Refusal::NotDistributive);
     }
     if !passes(t, n, Rule::Complement) {
-        return Checked::Refused(Refusal::BadComplement);
+        return LatticeCheck::Refused(Refusal::BadComplement);
     }
     let top = bound_of_all(t, n, true);
     let bottom = bound_of_all(t, n, false);
-    Checked::Accepted(Lattice {
+    LatticeCheck::Accepted(Lattice {
         size: n,
         top,
         bottom,
@@ -1207,18 +1207,18 @@ fn check_rules(part: &[u8], t: &mut [u8; 12352]) -> Checked
 
 // The refusal that the part gets, or n, top and bottom. An accepted part's operations are left in the tables; after a refusal the
 // tables hold anything. An empty part is the caller's to refuse, and is refused here for its form.
-pub fn check(part: &[u8], t: &mut [u8; 12352]) -> Checked
+pub fn check(part: &[u8], t: &mut [u8; 12352]) -> LatticeCheck
     ensures { λ r. ⌜ Answered (latticeReading (now (part .entry))) r (now (t .exit)) ⌝ }
 {
     if !has_form(part) {
-        return Checked::Refused(Refusal::LatticeForm);
+        return LatticeCheck::Refused(Refusal::LatticeForm);
     }
     fill_order(part, t);
     if !passes(t, size(part), Rule::Order) {
-        return Checked::Refused(Refusal::NoPartialOrder);
+        return LatticeCheck::Refused(Refusal::NoPartialOrder);
     }
     if !fill_bounds(part, t) {
-        return Checked::Refused(Refusal::NoMeetOrJoin);
+        return LatticeCheck::Refused(Refusal::NoMeetOrJoin);
     }
     check_rules(part, t)
 }

@@ -1,17 +1,17 @@
 // The boundary examples of lattice parts: each part's name with its refusal, or that it is accepted and its n.
-use lattice::Checked;
+use lattice::LatticeCheck;
 use libc::STDOUT_FILENO;
 ghost use Prim.Native.Nat.{_+_, _*_, _≤_};
 ghost use lib.ListN.{length};
 
-fn show(name: &[u8], r: Checked) {
+fn show(name: &[u8], r: LatticeCheck) {
     io::write_all(STDOUT_FILENO, name);
     match r {
-        Checked::Refused(f) => {
+        LatticeCheck::Refused(f) => {
             io::write_all(STDOUT_FILENO, b": refused ");
             io::print_decimal(STDOUT_FILENO, refusal::number(f) as u64);
         }
-        Checked::Accepted(l) => {
+        LatticeCheck::Accepted(l) => {
             io::write_all(STDOUT_FILENO, b": accepted ");
             io::print_decimal(STDOUT_FILENO, l.size as u64);
         }

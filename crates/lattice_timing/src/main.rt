@@ -1,6 +1,6 @@
 // The check of a lattice of 64 elements, the subsets of six things. It is made 1,000 times, so that the time of a run
 // (`time target/bin/lattice_timing`), divided by 1,000, is the time of a check.
-use lattice::Checked;
+use lattice::LatticeCheck;
 use libc::STDOUT_FILENO;
 
 // 1 where subset i is within subset j.
@@ -25,8 +25,8 @@ fn checked(part: &[u8; 4161]) -> u64 {
     let mut t = [0u8; 12352];
     let r = lattice::check(part, &mut t);
     match r {
-        Checked::Refused(f) => refusal::number(f) as u64,
-        Checked::Accepted(l) => l.size as u64,
+        LatticeCheck::Refused(f) => refusal::number(f) as u64,
+        LatticeCheck::Accepted(l) => l.size as u64,
     }
 }
 

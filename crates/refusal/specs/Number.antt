@@ -1,10 +1,10 @@
 -- The table 'What a refused call gives' of document 01: the number and the part of each refusal. Rests on nothing.
 use Prim.Native.Nat.{ℕ}
 use Rattle.refusal.specs.declared.Refusal.{Refusal}
-use Rattle.refusal.specs.declared.Refusal.the-variants.{ShortBuffer, CaseSize, Directory, PartPlace, LatticeForm, NoPartialOrder, NoMeetOrJoin, NotDistributive, BadComplement, BadModel, BadFormula, SpoiledDesk, OutOfRange}
+use Rattle.refusal.specs.declared.Refusal.the-variants.{ShortDesk, CaseSize, Directory, PartPlace, LatticeForm, NoPartialOrder, NoMeetOrJoin, NotDistributive, BadComplement, BadModel, BadFormula, SpoiledDesk, OutOfRange}
 
 abbrev pub numberOf : Refusal → ℕ
-numberOf ShortBuffer = 11
+numberOf ShortDesk = 11
 numberOf CaseSize = 1
 numberOf Directory = 2
 numberOf (PartPlace p) = 3
@@ -19,7 +19,7 @@ numberOf SpoiledDesk = 12
 numberOf OutOfRange = 13
 
 abbrev pub partOf : Refusal → ℕ
-partOf ShortBuffer = 255
+partOf ShortDesk = 255
 partOf CaseSize = 255
 partOf Directory = 255
 partOf (PartPlace p) = p

@@ -3,8 +3,8 @@ ghost use mathlib.Core.Path.{_≡_};
 ghost use Rattle.refusal.specs.Number.{numberOf, partOf};
 
 pub enum Refusal {
-    // The store or a table is too short.
-    ShortBuffer,
+    // The store or a table of the desk is too short.
+    ShortDesk,
     // The case is empty or too long.
     CaseSize,
     // The count of parts is out of range, or the directory does not fit.
@@ -32,7 +32,7 @@ pub fn number(r: Refusal) -> u8
     ensures { λ n. ⌜ n ≡ numberOf r ⌝ }
 {
     match r {
-        Refusal::ShortBuffer => 11,
+        Refusal::ShortDesk => 11,
         Refusal::CaseSize => 1,
         Refusal::Directory => 2,
         Refusal::PartPlace(_) => 3,
@@ -53,7 +53,7 @@ pub fn part(r: Refusal) -> u8
     ensures { λ p. ⌜ p ≡ partOf r ⌝ }
 {
     match r {
-        Refusal::ShortBuffer => 255,
+        Refusal::ShortDesk => 255,
         Refusal::CaseSize => 255,
         Refusal::Directory => 255,
         Refusal::PartPlace(p) => p,

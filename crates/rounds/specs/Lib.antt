@@ -1,6 +1,9 @@
--- Definitions of `rounds`, and their theorems.
+-- Tables held as bytes. Definitions first, then the theorems on them.
+-- ---- what a reader must believe
 pub mod Table
-pub mod Folded
-pub mod Entry
-pub mod Row
+-- ---- theorems
 pub mod Round
+-- ---- for the code
+pub mod Row
+pub mod Entry
+pub mod Folded

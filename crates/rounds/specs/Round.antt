@@ -12,9 +12,9 @@ use borrow.Author.Tests.{eq-eqb, eqb-true}
 use lib.Dec.{eqb}
 use lib.ListN.{length, getD, take}
 use lib.Seq.{ext-getD, getD-take, length-take-le}
-use Rattle.theory.specs.Lattice.{Ops, Laws, Element}
+use Rattle.theory.specs.Lattice.{Ops, Element}
 use Rattle.theory.specs.Model.{Model}
-use Rattle.theory.specs.Simulation.{F, roundOf, round, SameTable, Simulation, perCent, share}
+use Rattle.theory.specs.Simulation.{F, roundOf, SameTable, FixedBy, perCent, share}
 use Rattle.theory.specs.Rounds.{F-cong}
 use Rattle.theory.specs.Loop.{tab, tab-at, tab-length}
 use Rattle.theory.specs.Test.{allBelow, all-at, all-in, all-cong}
@@ -24,8 +24,8 @@ use Rattle.rounds.specs.Table.{tableOf, rowWritten, entrySame, rowSame, 
 use Rattle.rounds.specs.Row.{written-length, written-at, written-before, written-after, written-all, not-and}
 
 -- in `out` the rows below q are those of F S, and every byte past them is that of `before`
-pub record Worked (O : Ops ℕ) (M₁ M₂ : Model ℕ) (S : ℕ → ℕ → ℕ) (before : List ℕ) (q : ℕ) (out : List ℕ) : Type 0 where
-  pub rows : (q₁ : ℕ) → q₁ < q → (q₂ : ℕ) → q₂ < M₂ .states → tableOf out (M₂ .states) q₁ q₂ ≡ F O M₁ M₂ S q₁ q₂
+pub record Worked (M₁ M₂ : Model ℕ) (G : (ℕ → ℕ → ℕ) → ℕ → ℕ → ℕ) (S : ℕ → ℕ → ℕ) (before : List ℕ) (q : ℕ) (out : List ℕ) : Type 0 where
+  pub rows : (q₁ : ℕ) → q₁ < q → (q₂ : ℕ) → q₂ < M₂ .states → tableOf out (M₂ .states) q₁ q₂ ≡ G S q₁ q₂
   pub kept : (i : ℕ) → q * M₂ .states ≤ i → getD out i 0 ≡ getD before i 0
   pub same-length : length out ≡ length before
 
@@ -42,11 +42,46 @@ pub share-cong : (O : Ops ℕ) (n : ℕ) (S U : ℕ → ℕ) (l : ℕ) → ((i :
 unfolding share
 share-cong O n S U l h = ap (λ (c : ℕ). perCent c n) (count-cong n _ _ (λ i k. ap (O .atMost l) (h i k)))
 
-module _ (O : Ops ℕ) (M₁ M₂ : Model ℕ) where
+-- ---- one row more
+
+module _ (M₁ M₂ : Model ℕ) (G : (ℕ → ℕ → ℕ) → ℕ → ℕ → ℕ) where
+  pub worked-none : (S : ℕ → ℕ → ℕ) (out : List ℕ) → Worked M₁ M₂ G S out 0 out
+  worked-none S out = record { rows = λ q₁ l. absurd (not-suc-le-zero l); kept = λ i l. refl; same-length = refl }
+
+  pub worked-more : (S : ℕ → ℕ → ℕ) (before : List ℕ) (q : ℕ) (out : List ℕ) → q < M₁ .states → M₁ .states * M₂ .states ≤ length before → Worked M₁ M₂ G S before q out → Worked M₁ M₂ G S before (q + 1) (rowWritten M₁ M₂ G S q out)
+  worked-more S before q out l h w =
+      record {
+        rows = λ q₁ k q₂ m.
+            ⊎-elim
+            (λ (p : q₁ ≡ q). rw p (written-at (q * M₂ .states) (M₂ .states) (G S q) out (omega (arith, row-le q (M₁ .states) (M₂ .states) l, w .same-length)) q₂ m))
+            (λ (p : q₁ < q). written-before (q * M₂ .states) (M₂ .states) (G S q) out (q₁ * M₂ .states + q₂) (omega (arith, row-le q₁ q (M₂ .states) p)) ∙ w .rows q₁ p q₂ m)
+            (eq-or-lt-of-le (omega arith));
+        kept = λ i k.
+            let e : q * M₂ .states + M₂ .states ≤ i = rw (add-one, suc-mul) at k in
+            written-after (q * M₂ .states) (M₂ .states) (G S q) out i e ∙ w .kept i (omega arith);
+        same-length = written-length _ _ _ out ∙ w .same-length;
+      }
+
+  pub changed-none : (S : ℕ → ℕ → ℕ) → changedBelow M₁ M₂ G S 0 ≡ false
+  unfolding changedBelow allBelow
+  changed-none S = refl
+
+  pub changed-more : (S : ℕ → ℕ → ℕ) (q : ℕ) → changedBelow M₁ M₂ G S (q + 1) ≡ (changedBelow M₁ M₂ G S q || rowChanged M₁ M₂ G S q)
+  unfolding changedBelow allBelow
+  changed-more S q = rw (add-one, not-and)
+
+-- G reads a table only at the pairs of states
+abbrev pub ReadsPairs : Ops ℕ → (M₁ M₂ : Model ℕ) → ((ℕ → ℕ → ℕ) → ℕ → ℕ → ℕ) → Type 0
+ReadsPairs O M₁ M₂ G = (S U : ℕ → ℕ → ℕ) → SameTable O M₁ M₂ S U → (q₁ q₂ : ℕ) → G S q₁ q₂ ≡ G U q₁ q₂
+
+pub F-reads : (O : Ops ℕ) (M₁ M₂ : Model ℕ) → ReadsPairs O M₁ M₂ (F O M₁ M₂)
+F-reads O M₁ M₂ S U = F-cong O M₁ M₂
+
+module _ (O : Ops ℕ) (M₁ M₂ : Model ℕ) (G : (ℕ → ℕ → ℕ) → ℕ → ℕ → ℕ) where
   -- ---- a table by its bytes
 
   -- round 0, from bytes that are all top
-  pub top-round : (s : List ℕ) → ((i : ℕ) → i < M₁ .states * M₂ .states → getD s i 0 ≡ O .top) → SameTable O M₁ M₂ (tableOf s (M₂ .states)) (round O M₁ M₂ 0)
+  pub top-round : (s : List ℕ) → ((i : ℕ) → i < M₁ .states * M₂ .states → getD s i 0 ≡ O .top) → SameTable O M₁ M₂ (tableOf s (M₂ .states)) (roundOf O M₁ M₂ G 0)
   unfolding roundOf
   top-round s h q₁ l q₂ m = h _ (cell-lt (M₁ .states) (M₂ .states) q₁ q₂ l m)
 
@@ -63,116 +98,91 @@ module _ (O : Ops ℕ) (M₁ M₂ : Model ℕ) where
 
   -- ---- a round by its rows
 
-  pub worked-none : (S : ℕ → ℕ → ℕ) (out : List ℕ) → Worked O M₁ M₂ S out 0 out
-  worked-none S out = record { rows = λ q₁ l. absurd (not-suc-le-zero l); kept = λ i l. refl; same-length = refl }
-
-  pub worked-more : (S : ℕ → ℕ → ℕ) (before : List ℕ) (q : ℕ) (out : List ℕ) → q < M₁ .states → M₁ .states * M₂ .states ≤ length before → Worked O M₁ M₂ S before q out → Worked O M₁ M₂ S before (q + 1) (rowWritten O M₁ M₂ S q out)
-  worked-more S before q out l h w =
-      record {
-        rows = λ q₁ k q₂ m.
-            ⊎-elim
-            (λ (p : q₁ ≡ q). rw p (written-at (q * M₂ .states) (M₂ .states) (F O M₁ M₂ S q) out (omega (arith, row-le q (M₁ .states) (M₂ .states) l, w .same-length)) q₂ m))
-            (λ (p : q₁ < q). written-before (q * M₂ .states) (M₂ .states) (F O M₁ M₂ S q) out (q₁ * M₂ .states + q₂) (omega (arith, row-le q₁ q (M₂ .states) p)) ∙ w .rows q₁ p q₂ m)
-            (eq-or-lt-of-le (omega arith));
-        kept = λ i k.
-            let e : q * M₂ .states + M₂ .states ≤ i = rw (add-one, suc-mul) at k in
-            written-after (q * M₂ .states) (M₂ .states) (F O M₁ M₂ S q) out i e ∙ w .kept i (omega arith);
-        same-length = written-length _ _ _ out ∙ w .same-length;
-      }
-
   -- the same rows, whichever of two equal tables is read
-  pub worked-cong : (S U : ℕ → ℕ → ℕ) (before : List ℕ) (q : ℕ) (out : List ℕ) → SameTable O M₁ M₂ S U → Worked O M₁ M₂ S before q out → Worked O M₁ M₂ U before q out
-  worked-cong S U before q out h w =
+  pub worked-cong : ReadsPairs O M₁ M₂ G → (S U : ℕ → ℕ → ℕ) (before : List ℕ) (q : ℕ) (out : List ℕ) → SameTable O M₁ M₂ S U → Worked M₁ M₂ G S before q out → Worked M₁ M₂ G U before q out
+  worked-cong cong S U before q out h w =
       record {
-        rows = λ q₁ k q₂ m. w .rows q₁ k q₂ m ∙ F-cong O M₁ M₂ h q₁ q₂;
+        rows = λ q₁ k q₂ m. w .rows q₁ k q₂ m ∙ cong _ _ h q₁ q₂;
         kept = w .kept;
         same-length = w .same-length;
       }
 
   -- after all rows the table is F of the one that was read; after round r it is round r + 1
-  pub worked-all : (S : ℕ → ℕ → ℕ) (before out : List ℕ) → Worked O M₁ M₂ S before (M₁ .states) out → SameTable O M₁ M₂ (tableOf out (M₂ .states)) (F O M₁ M₂ S)
+  pub worked-all : (S : ℕ → ℕ → ℕ) (before out : List ℕ) → Worked M₁ M₂ G S before (M₁ .states) out → SameTable O M₁ M₂ (tableOf out (M₂ .states)) (G S)
   worked-all S before out w = w .rows
 
-  pub worked-round : (r : ℕ) (S : ℕ → ℕ → ℕ) (before out : List ℕ) → SameTable O M₁ M₂ S (round O M₁ M₂ r) → Worked O M₁ M₂ S before (M₁ .states) out → SameTable O M₁ M₂ (tableOf out (M₂ .states)) (round O M₁ M₂ (suc r))
+  pub worked-round : ReadsPairs O M₁ M₂ G → (r : ℕ) (S : ℕ → ℕ → ℕ) (before out : List ℕ) → SameTable O M₁ M₂ S (roundOf O M₁ M₂ G r) → Worked M₁ M₂ G S before (M₁ .states) out → SameTable O M₁ M₂ (tableOf out (M₂ .states)) (roundOf O M₁ M₂ G (suc r))
   unfolding roundOf
-  worked-round r S before out h w q₁ l q₂ m = w .rows q₁ l q₂ m ∙ F-cong O M₁ M₂ h q₁ q₂
+  worked-round cong r S before out h w q₁ l q₂ m = w .rows q₁ l q₂ m ∙ cong _ _ h q₁ q₂
 
-  -- a row of F has elements alone, where the operations give elements
-  pub row-elements : Laws O → (S : ℕ → ℕ → ℕ) (q : ℕ) (out : List ℕ) → M₁ .states * M₂ .states ≤ length out → ((i : ℕ) → i < M₁ .states * M₂ .states → Element O (getD out i 0)) → (i : ℕ) → i < M₁ .states * M₂ .states → Element O (getD (rowWritten O M₁ M₂ S q out) i 0)
-  unfolding F
-  row-elements L S q out h e = written-all (Element O) _ _ _ out _ h (λ i. L .meet-element _ _) e
+  -- a row of G has elements alone, where G gives elements
+  pub row-elements : ((S : ℕ → ℕ → ℕ) (q₁ q₂ : ℕ) → Element O (G S q₁ q₂)) → (S : ℕ → ℕ → ℕ) (q : ℕ) (out : List ℕ) → M₁ .states * M₂ .states ≤ length out → ((i : ℕ) → i < M₁ .states * M₂ .states → Element O (getD out i 0)) → (i : ℕ) → i < M₁ .states * M₂ .states → Element O (getD (rowWritten M₁ M₂ G S q out) i 0)
+  row-elements given S q out h e = written-all (Element O) _ _ _ out _ h (given S q) e
 
   -- ---- the test for a simulation
 
-  pub simulation-test : (S : ℕ → ℕ → ℕ) → (simulationTest O M₁ M₂ S ≡ true) ↔ Simulation O M₁ M₂ S
+  pub simulation-test : (S : ℕ → ℕ → ℕ) → (simulationTest M₁ M₂ G S ≡ true) ↔ FixedBy O M₁ M₂ G S
   unfolding simulationTest rowSame
   simulation-test S = (
-    λ t q₁ l q₂ m. eqb-true _ _ (all-at _ (entrySame O M₁ M₂ S q₁) (all-at _ (rowSame O M₁ M₂ S) t q₁ l) q₂ m),
+    λ t q₁ l q₂ m. eqb-true _ _ (all-at _ (entrySame M₁ M₂ G S q₁) (all-at _ (rowSame M₁ M₂ G S) t q₁ l) q₂ m),
     λ s. all-in _ _ (λ q₁ l. all-in _ _ (λ q₂ m. eq-eqb _ _ (s q₁ l q₂ m))),
   )
 
   -- ---- whether a round changed anything
 
-  pub changed-none : (S : ℕ → ℕ → ℕ) → changedBelow O M₁ M₂ S 0 ≡ false
-  unfolding changedBelow allBelow
-  changed-none S = refl
-
-  pub changed-more : (S : ℕ → ℕ → ℕ) (q : ℕ) → changedBelow O M₁ M₂ S (q + 1) ≡ (changedBelow O M₁ M₂ S q || rowChanged O M₁ M₂ S q)
-  unfolding changedBelow allBelow
-  changed-more S q = rw (add-one, not-and)
-
   -- F reads a table only at the pairs of states, and so do these tests
-  pub row-same-cong : (S U : ℕ → ℕ → ℕ) → SameTable O M₁ M₂ S U → (q₁ : ℕ) → q₁ < M₁ .states → rowSame O M₁ M₂ S q₁ ≡ rowSame O M₁ M₂ U q₁
+  pub row-same-cong : ReadsPairs O M₁ M₂ G → (S U : ℕ → ℕ → ℕ) → SameTable O M₁ M₂ S U → (q₁ : ℕ) → q₁ < M₁ .states → rowSame M₁ M₂ G S q₁ ≡ rowSame M₁ M₂ G U q₁
   unfolding rowSame
-  row-same-cong S U h q₁ l = all-cong _ _ _ (λ q₂ m. ap₂ eqb (h q₁ l q₂ m) (F-cong O M₁ M₂ h q₁ q₂))
+  row-same-cong cong S U h q₁ l = all-cong _ _ _ (λ q₂ m. ap₂ eqb (h q₁ l q₂ m) (cong _ _ h q₁ q₂))
 
-  pub changed-cong : (S U : ℕ → ℕ → ℕ) → SameTable O M₁ M₂ S U → (q : ℕ) → q ≤ M₁ .states → changedBelow O M₁ M₂ S q ≡ changedBelow O M₁ M₂ U q
+  pub changed-cong : ReadsPairs O M₁ M₂ G → (S U : ℕ → ℕ → ℕ) → SameTable O M₁ M₂ S U → (q : ℕ) → q ≤ M₁ .states → changedBelow M₁ M₂ G S q ≡ changedBelow M₁ M₂ G U q
   unfolding changedBelow
-  changed-cong S U h q l = ap not (all-cong _ _ _ (λ q₁ k. row-same-cong S U h q₁ (omega arith)))
+  changed-cong cong S U h q l = ap not (all-cong _ _ _ (λ q₁ k. row-same-cong cong S U h q₁ (omega arith)))
 
   -- no row changed exactly when the table is a simulation: 'this round equals the one before'
-  pub unchanged-simulation : (S : ℕ → ℕ → ℕ) → (changedBelow O M₁ M₂ S (M₁ .states) ≡ false) ↔ Simulation O M₁ M₂ S
+  pub unchanged-simulation : (S : ℕ → ℕ → ℕ) → (changedBelow M₁ M₂ G S (M₁ .states) ≡ false) ↔ FixedBy O M₁ M₂ G S
   unfolding changedBelow simulationTest
   unchanged-simulation S = (λ e. simulation-test S .0 (not-false _ e), λ s. ap not (simulation-test S .1 s))
 
-  pub unchanged-round : (r : ℕ) (S : ℕ → ℕ → ℕ) → SameTable O M₁ M₂ S (round O M₁ M₂ r) → (changedBelow O M₁ M₂ S (M₁ .states) ≡ false) ↔ SameTable O M₁ M₂ (round O M₁ M₂ (suc r)) (round O M₁ M₂ r)
+  pub unchanged-round : ReadsPairs O M₁ M₂ G → (r : ℕ) (S : ℕ → ℕ → ℕ) → SameTable O M₁ M₂ S (roundOf O M₁ M₂ G r) → (changedBelow M₁ M₂ G S (M₁ .states) ≡ false) ↔ SameTable O M₁ M₂ (roundOf O M₁ M₂ G (suc r)) (roundOf O M₁ M₂ G r)
   unfolding roundOf
-  unchanged-round r S h = (
-    λ e q₁ l q₂ m. sym (F-cong O M₁ M₂ h q₁ q₂) ∙ sym (unchanged-simulation S .0 e q₁ l q₂ m) ∙ h q₁ l q₂ m,
-    λ s. unchanged-simulation S .1 (λ q₁ l q₂ m. h q₁ l q₂ m ∙ sym (s q₁ l q₂ m) ∙ sym (F-cong O M₁ M₂ h q₁ q₂)),
+  unchanged-round cong r S h = (
+    λ e q₁ l q₂ m. sym (cong _ _ h q₁ q₂) ∙ sym (unchanged-simulation S .0 e q₁ l q₂ m) ∙ h q₁ l q₂ m,
+    λ s. unchanged-simulation S .1 (λ q₁ l q₂ m. h q₁ l q₂ m ∙ sym (s q₁ l q₂ m) ∙ sym (cong _ _ h q₁ q₂)),
   )
 
 -- ---- a round that is worked row by row, with what it has changed so far
 
-pub record RoundSoFar (O : Ops ℕ) (M₁ M₂ : Model ℕ) (S : ℕ → ℕ → ℕ) (before : List ℕ) (q : ℕ) (out : List ℕ) (changed : Bool) : Type 0 where
-  pub worked : Worked O M₁ M₂ S before q out
-  pub changed-is : changed ≡ changedBelow O M₁ M₂ S q
+pub record RoundSoFar (M₁ M₂ : Model ℕ) (G : (ℕ → ℕ → ℕ) → ℕ → ℕ → ℕ) (S : ℕ → ℕ → ℕ) (before : List ℕ) (q : ℕ) (out : List ℕ) (changed : Bool) : Type 0 where
+  pub worked : Worked M₁ M₂ G S before q out
+  pub changed-is : changed ≡ changedBelow M₁ M₂ G S q
 
-pub round-none : {O : Ops ℕ} {M₁ M₂ : Model ℕ} {S : ℕ → ℕ → ℕ} {out : List ℕ} → RoundSoFar O M₁ M₂ S out 0 out false
-round-none {O} {M₁} {M₂} {S} {out} = record { worked = worked-none O M₁ M₂ S out; changed-is = sym (changed-none O M₁ M₂ S) }
+module _ {M₁ M₂ : Model ℕ} {G : (ℕ → ℕ → ℕ) → ℕ → ℕ → ℕ} {S : ℕ → ℕ → ℕ} {before : List ℕ} where
+  pub round-none : RoundSoFar M₁ M₂ G S before 0 before false
+  round-none = record { worked = worked-none M₁ M₂ G S before; changed-is = sym (changed-none M₁ M₂ G S) }
 
--- one row more: what `row` writes and answers
-pub round-more : {O : Ops ℕ} {M₁ M₂ : Model ℕ} {S : ℕ → ℕ → ℕ} {before : List ℕ} {q : ℕ} {out next : List ℕ} {changed row now : Bool} → RoundSoFar O M₁ M₂ S before q out changed → q < M₁ .states → M₁ .states * M₂ .states ≤ length before → next ≡ rowWritten O M₁ M₂ S q out → row ≡ rowChanged O M₁ M₂ S q → now ≡ (changed || row) → RoundSoFar O M₁ M₂ S before (q + 1) next now
-round-more {O} {M₁} {M₂} {S} {before} {q} {out} u l h e f g =
-    record {
-      worked = rw e (worked-more O M₁ M₂ S before q out l h (u .worked));
-      changed-is = g ∙ ap₂ _||_ (u .changed-is) f ∙ sym (changed-more O M₁ M₂ S q);
-    }
+  -- one row more: what `row` writes and answers
+  pub round-more : {q : ℕ} {out next : List ℕ} {changed row now : Bool} → RoundSoFar M₁ M₂ G S before q out changed → q < M₁ .states → M₁ .states * M₂ .states ≤ length before → next ≡ rowWritten M₁ M₂ G S q out → row ≡ rowChanged M₁ M₂ G S q → now ≡ (changed || row) → RoundSoFar M₁ M₂ G S before (q + 1) next now
+  round-more {q} {out} u l h e f g =
+      record {
+        worked = rw e (worked-more M₁ M₂ G S before q out l h (u .worked));
+        changed-is = g ∙ ap₂ _||_ (u .changed-is) f ∙ sym (changed-more M₁ M₂ G S q);
+      }
 
-pub round-reached : {O : Ops ℕ} {M₁ M₂ : Model ℕ} {S : ℕ → ℕ → ℕ} {before : List ℕ} {q n : ℕ} {out : List ℕ} {changed : Bool} → RoundSoFar O M₁ M₂ S before q out changed → q ≤ n → n ≤ q → RoundSoFar O M₁ M₂ S before n out changed
-round-reached {q = q} {n = n} u a b = let e : q ≡ n = omega arith in rw e at u
+  pub round-reached : {q n : ℕ} {out : List ℕ} {changed : Bool} → RoundSoFar M₁ M₂ G S before q out changed → q ≤ n → n ≤ q → RoundSoFar M₁ M₂ G S before n out changed
+  round-reached {q = q} {n = n} u a b = let e : q ≡ n = omega arith in rw e at u
 
 -- what all rows of a round have made of round r: round r + 1, with nothing changed exactly when the two are equal
-pub record RoundDone (O : Ops ℕ) (M₁ M₂ : Model ℕ) (r : ℕ) (out : List ℕ) (changed : Bool) : Type 0 where
-  pub holds : SameTable O M₁ M₂ (tableOf out (M₂ .states)) (round O M₁ M₂ (suc r))
-  pub unchanged : (changed ≡ false) ↔ SameTable O M₁ M₂ (round O M₁ M₂ (suc r)) (round O M₁ M₂ r)
+pub record RoundDone (O : Ops ℕ) (M₁ M₂ : Model ℕ) (G : (ℕ → ℕ → ℕ) → ℕ → ℕ → ℕ) (r : ℕ) (out : List ℕ) (changed : Bool) : Type 0 where
+  pub holds : SameTable O M₁ M₂ (tableOf out (M₂ .states)) (roundOf O M₁ M₂ G (suc r))
+  pub unchanged : (changed ≡ false) ↔ SameTable O M₁ M₂ (roundOf O M₁ M₂ G (suc r)) (roundOf O M₁ M₂ G r)
 
-pub round-done : {O : Ops ℕ} {M₁ M₂ : Model ℕ} {S : ℕ → ℕ → ℕ} {before out : List ℕ} {changed : Bool} (r : ℕ) → SameTable O M₁ M₂ S (round O M₁ M₂ r) → RoundSoFar O M₁ M₂ S before (M₁ .states) out changed → RoundDone O M₁ M₂ r out changed
-round-done {O} {M₁} {M₂} {S} {before} {out} {changed} r h u =
+pub round-done : (O : Ops ℕ) {M₁ M₂ : Model ℕ} {G : (ℕ → ℕ → ℕ) → ℕ → ℕ → ℕ} {S : ℕ → ℕ → ℕ} {before out : List ℕ} {changed : Bool} → ReadsPairs O M₁ M₂ G → (r : ℕ) → SameTable O M₁ M₂ S (roundOf O M₁ M₂ G r) → RoundSoFar M₁ M₂ G S before (M₁ .states) out changed → RoundDone O M₁ M₂ G r out changed
+round-done O {M₁} {M₂} {G} {S} {before} {out} {changed} cong r h u =
     record {
-      holds = worked-round O M₁ M₂ r S before out h (u .worked);
+      holds = worked-round O M₁ M₂ G cong r S before out h (u .worked);
       unchanged = (
-        λ e. unchanged-round O M₁ M₂ r S h .0 (sym (u .changed-is) ∙ e),
-        λ s. u .changed-is ∙ unchanged-round O M₁ M₂ r S h .1 s,
+        λ e. unchanged-round O M₁ M₂ G cong r S h .0 (sym (u .changed-is) ∙ e),
+        λ s. u .changed-is ∙ unchanged-round O M₁ M₂ G cong r S h .1 s,
       );
     }

@@ -9,7 +9,6 @@ use lib.ListN.{length, getD, set}
 use Rattle.theory.specs.Lattice.{Ops, imp, bigMeet, bigJoin}
 use Rattle.theory.specs.Model.{Model}
 use Rattle.theory.specs.Part.{ModelShape}
-use Rattle.theory.specs.Simulation.{F}
 use Rattle.theory.specs.Test.{allBelow}
 use Rattle.operations.specs.Table.{meetIn, joinIn, complementIn}
 
@@ -37,25 +36,26 @@ pub record Shaped (m₁ m₂ s : List ℕ) : Type 0 where
 abbrev pub matched : Ops ℕ → ℕ → ℕ → (ℕ → ℕ) → (ℕ → ℕ) → (ℕ → ℕ → ℕ) → ℕ
 matched O n₁ n₂ a b S = bigMeet O n₁ (λ q₁. imp O (a q₁) (bigJoin O n₂ (λ q₂. O .meet (b q₂) (S q₁ q₂))))
 
-module _ (O : Ops ℕ) (M₁ M₂ : Model ℕ) where
-  -- the list with row q1 of F S in its place
+-- for any operator G on tables; F is the one that document 01 speaks of
+module _ (M₁ M₂ : Model ℕ) (G : (ℕ → ℕ → ℕ) → ℕ → ℕ → ℕ) where
+  -- the list with row q1 of G S in its place
   abbrev pub rowWritten : (ℕ → ℕ → ℕ) → ℕ → List ℕ → List ℕ
-  rowWritten S q₁ out = written (q₁ * M₂ .states) (M₂ .states) (F O M₁ M₂ S q₁) out
+  rowWritten S q₁ out = written (q₁ * M₂ .states) (M₂ .states) (G S q₁) out
 
-  -- S equals F S at (q1, q2); in row q1
+  -- S equals G S at (q1, q2); in row q1
   abbrev pub entrySame : (ℕ → ℕ → ℕ) → ℕ → ℕ → Bool
-  entrySame S q₁ q₂ = eqb (S q₁ q₂) (F O M₁ M₂ S q₁ q₂)
+  entrySame S q₁ q₂ = eqb (S q₁ q₂) (G S q₁ q₂)
 
   unfoldable pub rowSame : (ℕ → ℕ → ℕ) → ℕ → Bool
   rowSame S q₁ = allBelow (M₂ .states) (entrySame S q₁)
 
-  -- S differs from F S in row q1; in some row below q
+  -- S differs from G S in row q1; in some row below q
   abbrev pub rowChanged : (ℕ → ℕ → ℕ) → ℕ → Bool
   rowChanged S q₁ = not (rowSame S q₁)
 
   unfoldable pub changedBelow : (ℕ → ℕ → ℕ) → ℕ → Bool
   changedBelow S q = not (allBelow q (rowSame S))
 
-  -- 'A table S is a simulation when S = F(S)', as a test
+  -- S = G(S), as a test; with F for G it is 'A table S is a simulation when S = F(S)'
   unfoldable pub simulationTest : (ℕ → ℕ → ℕ) → Bool
   simulationTest S = allBelow (M₁ .states) (rowSame S)

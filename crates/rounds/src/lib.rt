@@ -168,8 +168,8 @@ pub fn row(
     q1: State,
 ) -> bool
     requires { ⌜ Shaped (now m1) (now m2) (now s) × (getD (now m1) 0 0 * getD (now m2) 0 0 ≤ length (now out)) × (q1 .0 < getD (now m1) 0 0) ⌝ }
-    ensures { λ r. ⌜ (now (out .exit) ≡ rowWritten (opsIn (now (t .entry)) l) (modelOf (now (m1 .entry))) (modelOf (now (m2 .entry))) (tableOf (now (s .entry)) (getD (now (m2 .entry)) 0 0)) (q1 .0) (now (out .entry)))
-        × (r ≡ rowChanged (opsIn (now (t .entry)) l) (modelOf (now (m1 .entry))) (modelOf (now (m2 .entry))) (tableOf (now (s .entry)) (getD (now (m2 .entry)) 0 0)) (q1 .0)) ⌝ }
+    ensures { λ r. ⌜ (now (out .exit) ≡ rowWritten (modelOf (now (m1 .entry))) (modelOf (now (m2 .entry))) (F (opsIn (now (t .entry)) l) (modelOf (now (m1 .entry))) (modelOf (now (m2 .entry)))) (tableOf (now (s .entry)) (getD (now (m2 .entry)) 0 0)) (q1 .0) (now (out .entry)))
+        × (r ≡ rowChanged (modelOf (now (m1 .entry))) (modelOf (now (m2 .entry))) (F (opsIn (now (t .entry)) l) (modelOf (now (m1 .entry))) (modelOf (now (m2 .entry)))) (tableOf (now (s .entry)) (getD (now (m2 .entry)) 0 0)) (q1 .0)) ⌝ }
 {
     let n2 = model::states(m2);
     let at = operations::wide(q1.0) * n2;
@@ -185,7 +185,7 @@ pub fn row(
 // Whether row q1 of the table s equals that of F of it: the entries are compared up to the first that differs.
 fn row_same(t: &[u8; 12352], l: Lattice, m1: &[u8], m2: &[u8], s: &[u8], q1: State) -> bool
     requires { ⌜ Shaped (now m1) (now m2) (now s) × (q1 .0 < getD (now m1) 0 0) ⌝ }
-    ensures { λ r. ⌜ r ≡ rowSame (opsIn (now (t .entry)) l) (modelOf (now (m1 .entry))) (modelOf (now (m2 .entry))) (tableOf (now (s .entry)) (getD (now (m2 .entry)) 0 0)) (q1 .0) ⌝ }
+    ensures { λ r. ⌜ r ≡ rowSame (modelOf (now (m1 .entry))) (modelOf (now (m2 .entry))) (F (opsIn (now (t .entry)) l) (modelOf (now (m1 .entry))) (modelOf (now (m2 .entry)))) (tableOf (now (s .entry)) (getD (now (m2 .entry)) 0 0)) (q1 .0) ⌝ }
 {
     let n2 = model::states(m2);
     let at = operations::wide(q1.0) * n2;
@@ -201,7 +201,7 @@ fn row_same(t: &[u8; 12352], l: Lattice, m1: &[u8], m2: &[u8], s: &[u8], q1: Sta
 // Whether the table s is a simulation.
 pub fn is_simulation(t: &[u8; 12352], l: Lattice, m1: &[u8], m2: &[u8], s: &[u8]) -> bool
     requires { ⌜ Shaped (now m1) (now m2) (now s) ⌝ }
-    ensures { λ r. ⌜ r ≡ simulationTest (opsIn (now (t .entry)) l) (modelOf (now (m1 .entry))) (modelOf (now (m2 .entry))) (tableOf (now (s .entry)) (getD (now (m2 .entry)) 0 0)) ⌝ }
+    ensures { λ r. ⌜ r ≡ simulationTest (modelOf (now (m1 .entry))) (modelOf (now (m2 .entry))) (F (opsIn (now (t .entry)) l) (modelOf (now (m1 .entry))) (modelOf (now (m2 .entry)))) (tableOf (now (s .entry)) (getD (now (m2 .entry)) 0 0)) ⌝ }
 {
     let n1 = model::states(m1);
     for q1 in 0..n1 {

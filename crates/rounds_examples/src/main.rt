@@ -10,6 +10,7 @@ ghost use lib.ListN.{length, getD};
 ghost use Rattle.theory.specs.Part.{modelOf, ModelShape};
 ghost use Rattle.operations.specs.Table.{opsIn};
 ghost use Rattle.rounds.specs.Table.{tableOf, Shaped};
+ghost use Rattle.theory.specs.Simulation.{F};
 ghost use Rattle.rounds.specs.Round.{RoundSoFar};
 
 fn order(a: u8, b: u8) -> u8 {
@@ -58,7 +59,7 @@ fn either(a: bool, b: bool) -> bool
 // Works all rows of F of the table s into out; says whether any entry differs from that of s.
 fn work(t: &[u8; 12352], l: Lattice, m1: &[u8], m2: &[u8], s: &[u8], out: &mut [u8]) -> bool
     requires { ⌜ Shaped (now m1) (now m2) (now s) × (getD (now m1) 0 0 * getD (now m2) 0 0 ≤ length (now out)) ⌝ }
-    ensures { λ r. ⌜ RoundSoFar (opsIn (now (t .entry)) l) (modelOf (now (m1 .entry))) (modelOf (now (m2 .entry))) (tableOf (now (s .entry)) (getD (now (m2 .entry)) 0 0)) (now (out .entry)) (getD (now (m1 .entry)) 0 0) (now (out .exit)) r ⌝ }
+    ensures { λ r. ⌜ RoundSoFar (modelOf (now (m1 .entry))) (modelOf (now (m2 .entry))) (F (opsIn (now (t .entry)) l) (modelOf (now (m1 .entry))) (modelOf (now (m2 .entry)))) (tableOf (now (s .entry)) (getD (now (m2 .entry)) 0 0)) (now (out .entry)) (getD (now (m1 .entry)) 0 0) (now (out .exit)) r ⌝ }
 {
     let n1 = model::states(m1);
     let mut changed = false;

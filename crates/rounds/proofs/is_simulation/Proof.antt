@@ -8,6 +8,7 @@ use lib.ListN.{getD}
 use Rattle.theory.specs.Part.{modelOf}
 use Rattle.theory.specs.Test.{all-fails}
 use Rattle.operations.specs.Table.{opsIn}
+use Rattle.theory.specs.Simulation.{F}
 use Rattle.rounds.specs.Table.{tableOf, rowSame, simulationTest}
 use Rattle.rounds.specs.Folded.{Passed, passed-none, passed-more, passed-all}
 use Rattle.rounds.proofs.is_simulation.Statement.{statement}
@@ -15,7 +16,7 @@ use Rattle.rounds.proofs.is_simulation.Tie as tie
 
 abbrev Inv-loop : tie.InvT-loop
 Inv-loop t l m1 m2 s n1 q1₀ q1 =
-    (q1 ≤ n1) × Passed (rowSame (opsIn t l) (modelOf m1) (modelOf m2) (tableOf s (getD m2 0 0))) q1
+    (q1 ≤ n1) × Passed (rowSame (modelOf m1) (modelOf m2) (F (opsIn t l) (modelOf m1) (modelOf m2)) (tableOf s (getD m2 0 0))) q1
 
 abbrev μ-loop : tie.MeasureT-loop
 μ-loop t l m1 m2 s n1 q1₀ q1 = n1 - q1

@@ -5,6 +5,7 @@ use lib.ListN.{getD}
 use Rattle.theory.specs.Part.{modelOf}
 use Rattle.operations.specs.Table.{opsIn}
 use Rattle.rounds.specs.Table.{tableOf}
+use Rattle.theory.specs.Simulation.{F}
 use Rattle.rounds.specs.Round.{RoundSoFar, round-none, round-more, round-reached}
 use borrow.Author.Needs.{needs}
 use Rattle.rounds_examples.proofs.work.Statement.{statement}
@@ -12,7 +13,7 @@ use Rattle.rounds_examples.proofs.work.Tie as tie
 
 abbrev Inv-loop : tie.InvT-loop
 Inv-loop t l m1 m2 s out₀ n1 changed₀ q1₀ out changed q1 =
-    (q1 ≤ n1) × RoundSoFar (opsIn t l) (modelOf m1) (modelOf m2) (tableOf s (getD m2 0 0)) out₀ q1 out changed
+    (q1 ≤ n1) × RoundSoFar (modelOf m1) (modelOf m2) (F (opsIn t l) (modelOf m1) (modelOf m2)) (tableOf s (getD m2 0 0)) out₀ q1 out changed
 
 abbrev μ-loop : tie.MeasureT-loop
 μ-loop t l m1 m2 s out₀ n1 changed₀ q1₀ out changed q1 = n1 - q1
