@@ -27,10 +27,10 @@ part-placed b i t =
     let f =
     all-four (ltb 0 (sizeOf b i)) (leb (directoryEnd b) (startOf b i)) (leb (endBefore b i) (startOf b i)) (leb (endOf b i) (length b)) t in
     record {
-      some = ltb-true _ _ (f .fst);
-      after-directory = leb-true _ _ (f .snd);
-      after-part = leb-true _ _ (f .thd);
-      within = leb-true _ _ (f .fth);
+      some = ltb-true _ _ (f .first);
+      after-directory = leb-true _ _ (f .second);
+      after-part = leb-true _ _ (f .third);
+      within = leb-true _ _ (f .fourth);
     }
 
 pub placed-part : (b : List ℕ) (i : ℕ) → PartPlaced b i → placed b i ≡ true

@@ -21,7 +21,7 @@ use Rattle.lattice.specs.Reading.{LatticeReading, accepted, all2, reflex
 use Rattle.lattice.specs.Answer.{boundsOf, Answered}
 use Rattle.lattice.specs.Bounds.{element-id, boundUpTo}
 use Rattle.lattice.specs.Accepted.{Formed, Ordered, Bounded, formed, top-found, bot-found}
-use Rattle.lattice.specs.Scan.{towards}
+use Rattle.lattice.specs.Scan.{joinOrMeet}
 use Rattle.lattice.specs.Distributive.{distributes, distributePair, distribute-pairs}
 use Rattle.lattice.specs.Tables.{tableOf, tableOps, filled-order, filled-meet, filled-join, filled-neg, filled-ops}
 use Rattle.lattice.specs.Pairs.{allPairs, order-pairs, distributive-pairs, complement-pairs}
@@ -109,14 +109,14 @@ module _ {P : Part} {q n : ℕ} {t : List ℕ} (h : Holds P q n t) where
           ∙ distribute-pairs P o b
 
       -- the join of all is the top, the meet of all the bottom
-      pub top-same : Ordered P → boundUpTo (towards true (joinIn t) (meetIn t)) n ≡ topOf P
+      pub top-same : Ordered P → boundUpTo (joinOrMeet true (joinIn t) (meetIn t)) n ≡ topOf P
       top-same o =
           let jn = filled-join P t q (h .filled) (omega arith) in
           ap₂ boundUpTo jn (h .sizes)
           ∙ bound-cong (P .size) _ _ joins (h .formed .some) (b .join-lt) (P .size) (le-refl _) .0
           ∙ sym (top-found P (h .formed .some) o b)
 
-      pub bot-same : Ordered P → boundUpTo (towards false (joinIn t) (meetIn t)) n ≡ botOf P
+      pub bot-same : Ordered P → boundUpTo (joinOrMeet false (joinIn t) (meetIn t)) n ≡ botOf P
       bot-same o =
           let mt = filled-meet P t q (h .filled) (omega arith) in
           ap₂ boundUpTo mt (h .sizes)

@@ -14,18 +14,23 @@ use Rattle.lattice.specs.Distributive.{distributePair}
 use Rattle.lattice.specs.Accepted.{Ordered, ordered-out, ordered-in}
 use Rattle.lattice.specs.Bounds.{all2-at, all2-in}
 
+-- where b is at or below c, so is a
 abbrev pub stepsTo : (ℕ → ℕ → Bool) → ℕ → ℕ → ℕ → Bool
 stepsTo le a b c = le b c ⇒ le a c
 
+-- what b is at or below, a is at or below
 unfoldable pub above : ℕ → (ℕ → ℕ → Bool) → ℕ → ℕ → Bool
 above n le a b = allBelow n (stepsTo le a b)
 
+-- a and b keep the order's three rules
 unfoldable pub orderPair : ℕ → (ℕ → ℕ → Bool) → ℕ → ℕ → Bool
 orderPair n le a b = le a a && (le a b ⇒ (cond (le b a) (eqb a b) (above n le a b)))
 
+-- a and b keep the two rules of the complement
 unfoldable pub complementPair : (ℕ → ℕ → Bool) → (ℕ → ℕ) → ℕ → ℕ → Bool
 complementPair le neg a b = eqb (neg (neg a)) a && (le a b ⇒ le (neg b) (neg a))
 
+-- a rule at two elements, at one and every other, at every two
 unfoldable pub pairTest : Rule → Ops ℕ → ℕ → ℕ → Bool
 pairTest Order O a b = orderPair (O .size) (O .atMost) a b
 pairTest Distributive O a b = distributePair (O .size) (O .atMost) (O .meet) (O .join) a b

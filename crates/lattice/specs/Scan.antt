@@ -11,15 +11,15 @@ use Rattle.theory.specs.Test.{below-suc, allBelow, _⇒_, and-l, and-r, and-in,
 use Rattle.theory.specs.Part.{Part, isMeet, meetOf}
 use Rattle.lattice.specs.Bounds.{first-only, MeetAt, Antisymmetric, meet-in, meet-out, meet-is, meet-same}
 
--- an order, or the same the other way round
-abbrev pub facing : Bool → (ℕ → ℕ → Bool) → ℕ → ℕ → Bool
-facing true le a b = le b a
-facing false le a b = le a b
+-- the order in which the bound wanted is a meet: the order itself for a meet, the same the other way round for a join (true)
+abbrev pub orderFor : Bool → (ℕ → ℕ → Bool) → ℕ → ℕ → Bool
+orderFor true le a b = le b a
+orderFor false le a b = le a b
 
--- one of two operations
-abbrev pub towards : Bool → (ℕ → ℕ → ℕ) → (ℕ → ℕ → ℕ) → ℕ → ℕ → ℕ
-towards true join meet = join
-towards false join meet = meet
+-- the join for true, else the meet
+abbrev pub joinOrMeet : Bool → (ℕ → ℕ → ℕ) → (ℕ → ℕ → ℕ) → ℕ → ℕ → ℕ
+joinOrMeet true join meet = join
+joinOrMeet false join meet = meet
 
 -- c is at or below a and b
 abbrev pub lower : (ℕ → ℕ → Bool) → ℕ → ℕ → ℕ → Bool

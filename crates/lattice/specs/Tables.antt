@@ -20,7 +20,7 @@ use Rattle.lattice.specs.Bounds.{one-test, element-lt, element-id, eleme
 use Rattle.lattice.specs.Reading.{bounded}
 use Rattle.lattice.specs.Accepted.{Formed, Ordered, Bounded, bounded-out, bounded-in}
 use Rattle.lattice.specs.Agree.{SameOrder, meet-same-order, join-same-order, meet-comm, join-comm, by-number}
-use Rattle.lattice.specs.Scan.{facing, boundFrom, bound-is-meet}
+use Rattle.lattice.specs.Scan.{orderFor, boundFrom, bound-is-meet}
 
 -- What belongs at place k of the tables of a lattice: the order, the meets and the joins, each 64 rows of 64, then the complements.
 -- The operations read any number as an element, so that k / 64 and k stand for the row and the column.
@@ -43,7 +43,7 @@ placeOf n k = k / 4096 * 4096 + (min (element n (k / 64)) (element n k) * 64 + m
 unfoldable pub boundAt : ℕ → List ℕ → ℕ → ℕ
 boundAt n t k =
     cond (ltb (placeOf n k) k) (getD t (placeOf n k) 0)
-    (boundFrom n (facing (leb 8192 k) (atMostIn t)) (element n (k / 64)) (element n k))
+    (boundFrom n (orderFor (leb 8192 k) (atMostIn t)) (element n (k / 64)) (element n k))
 
 -- ---- a place by its region
 
@@ -134,10 +134,10 @@ module _ (P : Part) (w : Formed P) (o : Ordered P) where
   self : (a : ℕ) → a < P .size → padded .order a a ≡ true
   self a l = same-padded .orders a a l l ∙ o .rfl a l
 
-  meet-scanned : (a b : ℕ) → a < P .size → b < P .size → boundFrom (P .size) (facing false (opsOf P .atMost)) a b ≡ meetOf P a b
+  meet-scanned : (a b : ℕ) → a < P .size → b < P .size → boundFrom (P .size) (orderFor false (opsOf P .atMost)) a b ≡ meetOf P a b
   meet-scanned a b l m = bound-is-meet padded anti-padded a b l m (self a l) (self b m) ∙ meet-same-order padded P same-padded a b l m
 
-  join-scanned : (a b : ℕ) → a < P .size → b < P .size → boundFrom (P .size) (facing true (opsOf P .atMost)) a b ≡ joinOf P a b
+  join-scanned : (a b : ℕ) → a < P .size → b < P .size → boundFrom (P .size) (orderFor true (opsOf P .atMost)) a b ≡ joinOf P a b
   join-scanned a b l m =
       bound-is-meet (reversed padded) anti-reversed a b l m (self a l) (self b m) ∙ sym (join-reversed padded a b) ∙ join-same-order padded P same-padded a b l m
 
@@ -176,14 +176,14 @@ module _ (P : Part) (w : Formed P) (o : Ordered P) where
       le : atMostIn t ≡ opsOf P .atMost
       le = filled-order P t k f l
 
-      go : (p : Bool) → ltb (placeOf (P .size) k) k ≡ p → (u : Bool) → leb 8192 k ≡ u → cond p (getD t (placeOf (P .size) k) 0) (boundFrom (P .size) (facing u (atMostIn t)) (element (P .size) (k / 64)) (element (P .size) k)) ≡ tableOf (opsOf P) k
+      go : (p : Bool) → ltb (placeOf (P .size) k) k ≡ p → (u : Bool) → leb 8192 k ≡ u → cond p (getD t (placeOf (P .size) k) 0) (boundFrom (P .size) (orderFor u (atMostIn t)) (element (P .size) (k / 64)) (element (P .size) k)) ≡ tableOf (opsOf P) k
       go true e u v = f .at _ (ltb-true _ _ e) ∙ same-place k l m
       go false e true v =
-          ap (λ h. boundFrom (P .size) (facing true h) (element (P .size) (k / 64)) (element (P .size) k)) le
+          ap (λ h. boundFrom (P .size) (orderFor true h) (element (P .size) (k / 64)) (element (P .size) k)) le
           ∙ join-scanned _ _ (element-lt _ _ (w .some)) (element-lt _ _ (w .some))
           ∙ sym (at-join _ k (leb-true 8192 k v) m)
       go false e false v =
-          ap (λ h. boundFrom (P .size) (facing false h) (element (P .size) (k / 64)) (element (P .size) k)) le
+          ap (λ h. boundFrom (P .size) (orderFor false h) (element (P .size) (k / 64)) (element (P .size) k)) le
           ∙ meet-scanned _ _ (element-lt _ _ (w .some)) (element-lt _ _ (w .some))
           ∙ sym (at-meet _ k l (leb-false 8192 k v))
 

@@ -16,7 +16,7 @@ ghost use Rattle.lattice.specs.Reading.{isPanel, latticePart, latticeFor
 ghost use Rattle.lattice.specs.Check.{rulesReading};
 ghost use Rattle.lattice.specs.Answer.{Answered};
 ghost use Rattle.lattice.specs.Bounds.{boundUpTo};
-ghost use Rattle.lattice.specs.Scan.{facing, towards, lower, better, candidate, under, greatest, scanFrom, boundFrom};
+ghost use Rattle.lattice.specs.Scan.{orderFor, joinOrMeet, lower, better, candidate, under, greatest, scanFrom, boundFrom};
 ghost use Rattle.lattice.specs.Distributive.{distributesAt, distributes, distributePair};
 ghost use Rattle.lattice.specs.Tables.{tableOf, tableOps, boundAt, BoundsFilled};
 ghost use Rattle.lattice.specs.Pairs.{stepsTo, above, orderPair, complementPair, pairTest, rowTest, allPairs};
@@ -868,7 +868,7 @@ fn complement_entry(part: &[u8], a: Element) -> u8
 // ---- meets and joins, found from the order. A join is a meet in the order the other way round: `up` says which is meant
 
 fn below(t: &[u8; 12352], up: bool, a: Element, b: Element) -> bool
-    ensures { λ r. ⌜ r ≡ facing up (atMostIn (now (t .entry))) (a .0) (b .0) ⌝ }
+    ensures { λ r. ⌜ r ≡ orderFor up (atMostIn (now (t .entry))) (a .0) (b .0) ⌝ }
 {
     if up {
         return operations::at_most(t, b, a);
@@ -878,7 +878,7 @@ fn below(t: &[u8; 12352], up: bool, a: Element, b: Element) -> bool
 
 // c is at or below both a and b.
 fn is_lower(t: &[u8; 12352], up: bool, a: Element, b: Element, c: Element) -> bool
-    ensures { λ r. ⌜ r ≡ lower (facing up (atMostIn (now (t .entry)))) (a .0) (b .0) (c .0) ⌝ }
+    ensures { λ r. ⌜ r ≡ lower (orderFor up (atMostIn (now (t .entry)))) (a .0) (b .0) (c .0) ⌝ }
 {
     if below(t, up, c, a) {
         return below(t, up, c, b);
@@ -888,7 +888,7 @@ fn is_lower(t: &[u8; 12352], up: bool, a: Element, b: Element, c: Element) -> bo
 
 // The candidate for the meet after c: c where it is at or below both and the candidate so far (n for none) is none or at or below it.
 fn better_of(t: &[u8; 12352], n: u8, up: bool, a: Element, b: Element, m: u8, c: u8) -> u8
-    ensures { λ r. ⌜ r ≡ better n (facing up (atMostIn (now (t .entry)))) (a .0) (b .0) c m ⌝ }
+    ensures { λ r. ⌜ r ≡ better n (orderFor up (atMostIn (now (t .entry)))) (a .0) (b .0) c m ⌝ }
 {
     if is_lower(t, up, a, b, Element(c)) {
         if m == n {
@@ -903,7 +903,7 @@ fn better_of(t: &[u8; 12352], n: u8, up: bool, a: Element, b: Element, m: u8, c:
 
 // The one element that can be the meet; n for none.
 fn candidate_of(t: &[u8; 12352], n: u8, up: bool, a: Element, b: Element) -> u8
-    ensures { λ r. ⌜ r ≡ candidate n (facing up (atMostIn (now (t .entry)))) (a .0) (b .0) n ⌝ }
+    ensures { λ r. ⌜ r ≡ candidate n (orderFor up (atMostIn (now (t .entry)))) (a .0) (b .0) n ⌝ }
 {
     let mut m = n;
     for c in 0..n {
@@ -914,7 +914,7 @@ fn candidate_of(t: &[u8; 12352], n: u8, up: bool, a: Element, b: Element) -> u8
 
 // Where c is at or below a and b, it is at or below m.
 fn is_under(t: &[u8; 12352], up: bool, a: Element, b: Element, m: Element, c: Element) -> bool
-    ensures { λ r. ⌜ r ≡ under (facing up (atMostIn (now (t .entry)))) (a .0) (b .0) (m .0) (c .0) ⌝ }
+    ensures { λ r. ⌜ r ≡ under (orderFor up (atMostIn (now (t .entry)))) (a .0) (b .0) (m .0) (c .0) ⌝ }
 {
     if is_lower(t, up, a, b, c) {
         return below(t, up, c, m);
@@ -924,7 +924,7 @@ fn is_under(t: &[u8; 12352], up: bool, a: Element, b: Element, m: Element, c: El
 
 // All that are at or below a and b are at or below m.
 fn is_greatest(t: &[u8; 12352], n: u8, up: bool, a: Element, b: Element, m: Element) -> bool
-    ensures { λ r. ⌜ r ≡ greatest n (facing up (atMostIn (now (t .entry)))) (a .0) (b .0) (m .0) ⌝ }
+    ensures { λ r. ⌜ r ≡ greatest n (orderFor up (atMostIn (now (t .entry)))) (a .0) (b .0) (m .0) ⌝ }
 {
     for c in 0..n {
         if !is_under(t, up, a, b, m, Element(c)) {
@@ -936,7 +936,7 @@ fn is_greatest(t: &[u8; 12352], n: u8, up: bool, a: Element, b: Element, m: Elem
 
 // The candidate where it passes; n where there is no meet.
 fn scan(t: &[u8; 12352], n: u8, up: bool, a: Element, b: Element) -> u8
-    ensures { λ r. ⌜ r ≡ scanFrom n (facing up (atMostIn (now (t .entry)))) (a .0) (b .0) ⌝ }
+    ensures { λ r. ⌜ r ≡ scanFrom n (orderFor up (atMostIn (now (t .entry)))) (a .0) (b .0) ⌝ }
 {
     let m = candidate_of(t, n, up, a, b);
     if m < n {
@@ -949,7 +949,7 @@ fn scan(t: &[u8; 12352], n: u8, up: bool, a: Element, b: Element) -> u8
 
 // The meet of a and b; n where there is none. Of two elements in order it is the lower one.
 fn bound(t: &[u8; 12352], n: u8, up: bool, a: Element, b: Element) -> u8
-    ensures { λ r. ⌜ r ≡ boundFrom n (facing up (atMostIn (now (t .entry)))) (a .0) (b .0) ⌝ }
+    ensures { λ r. ⌜ r ≡ boundFrom n (orderFor up (atMostIn (now (t .entry)))) (a .0) (b .0) ⌝ }
 {
     if below(t, up, a, b) {
         return a.0;
@@ -990,7 +990,7 @@ fn bound_at(t: &[u8; 12352], n: u8, k: usize) -> u8
 
 // The join of a and b where `up`, else the meet, from the tables.
 fn bound_in(t: &[u8; 12352], up: bool, a: Element, b: Element) -> Element
-    ensures { λ r. ⌜ r .0 ≡ towards up (joinIn (now (t .entry))) (meetIn (now (t .entry))) (a .0) (b .0) ⌝ }
+    ensures { λ r. ⌜ r .0 ≡ joinOrMeet up (joinIn (now (t .entry))) (meetIn (now (t .entry))) (a .0) (b .0) ⌝ }
 {
     if up {
         return operations::join(t, a, b);
@@ -1000,7 +1000,7 @@ fn bound_in(t: &[u8; 12352], up: bool, a: Element, b: Element) -> Element
 
 // The join of all elements where `up`, else the meet of all.
 fn bound_of_all(t: &[u8; 12352], n: u8, up: bool) -> Element
-    ensures { λ r. ⌜ r .0 ≡ boundUpTo (towards up (joinIn (now (t .entry))) (meetIn (now (t .entry)))) n ⌝ }
+    ensures { λ r. ⌜ r .0 ≡ boundUpTo (joinOrMeet up (joinIn (now (t .entry))) (meetIn (now (t .entry)))) n ⌝ }
 {
     let mut m = Element(0);
     for c in 0..n {

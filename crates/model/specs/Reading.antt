@@ -39,26 +39,26 @@ modelAnswer n b = cond (modelTest n b) (Accepted (getD b 0 0) (getD b 1 0)) Refu
 -- ---- an accepted part has its shape
 
 -- four tests, all passed
-pub record AllFour (a b c d : Bool) : Type 0 where
-  pub fst : a ≡ true
-  pub snd : b ≡ true
-  pub thd : c ≡ true
-  pub fth : d ≡ true
+pub record FourPassed (a b c d : Bool) : Type 0 where
+  pub first : a ≡ true
+  pub second : b ≡ true
+  pub third : c ≡ true
+  pub fourth : d ≡ true
 
-pub all-four : (a b c d : Bool) → (a && b && c && d) ≡ true → AllFour a b c d
+pub all-four : (a b c d : Bool) → (a && b && c && d) ≡ true → FourPassed a b c d
 all-four a b c d t =
     let u = and-l (a && b && c) d t in
     let v = and-l (a && b) c u in
-    record { fst = and-l a b v; snd = and-r a b v; thd = and-r (a && b) c u; fth = and-r (a && b && c) d t }
+    record { first = and-l a b v; second = and-r a b v; third = and-r (a && b) c u; fourth = and-r (a && b && c) d t }
 
 pub shape-of : (b : List ℕ) → sizesTest b ≡ true → ModelShape b
 shape-of b t =
     let f = all-four (ltb 0 (getD b 0 0)) (leb (getD b 0 0) 64) (leb (getD b 1 0) 16) (eqb (length b) (modelLength (getD b 0 0) (getD b 1 0))) t in
     record {
-      some = ltb-true _ _ (f .fst);
-      states-most = leb-true _ _ (f .snd);
-      propositions-most = leb-true _ _ (f .thd);
-      exact = eqb-true _ _ (f .fth);
+      some = ltb-true _ _ (f .first);
+      states-most = leb-true _ _ (f .second);
+      propositions-most = leb-true _ _ (f .third);
+      exact = eqb-true _ _ (f .fourth);
     }
 
 -- each byte after the two sizes of an accepted part is an element

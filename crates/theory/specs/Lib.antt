@@ -1,4 +1,4 @@
--- The mathematics of the desk. Definitions first, then the theorems on them.
+-- The mathematics of the desk. Definitions first, then the theorems on them. A theorem's number is its row in docs/PROOFS.md, unless 000 is named.
 -- ---- what a reader must believe
 pub mod Lattice
 pub mod Model

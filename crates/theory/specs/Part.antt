@@ -38,7 +38,7 @@ module _ (P : Part) where
   botOf = firstBelow (P .size) (λ a. allBelow (P .size) (λ b. P .order a b))
 
 -- Any number reads as an element of a lattice of n: its remainder by 64 where that is one, else element 0. An element reads as
--- itself, where n is at most 64. So a lookup in a table 64 wide is right for every byte, and no bound is carried about.
+-- itself, where n is at most 64. So a lookup in a table 64 wide is right for every byte, and no bound has to be stated.
 unfoldable pub element : ℕ → ℕ → ℕ
 element n a = cond (ltb (a % 64) n) (a % 64) 0
 

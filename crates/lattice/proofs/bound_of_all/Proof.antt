@@ -6,13 +6,13 @@ use native.Mathlib.Omega.{arith}
 use borrow.Author.Needs.{needs}
 use Rattle.theory.specs.Loop.{reached}
 use Rattle.operations.specs.Table.{meetIn, joinIn}
-use Rattle.lattice.specs.Scan.{towards}
+use Rattle.lattice.specs.Scan.{joinOrMeet}
 use Rattle.lattice.specs.Bounds.{boundUpTo, bound-none, bound-more}
 use Rattle.lattice.proofs.bound_of_all.Statement.{statement}
 use Rattle.lattice.proofs.bound_of_all.Tie as tie
 
 abbrev Inv-loop : tie.InvT-loop
-Inv-loop t n up m₀ c₀ m c = (c ≤ n) × (m .0 ≡ boundUpTo (towards up (joinIn t) (meetIn t)) c)
+Inv-loop t n up m₀ c₀ m c = (c ≤ n) × (m .0 ≡ boundUpTo (joinOrMeet up (joinIn t) (meetIn t)) c)
 
 abbrev μ-loop : tie.MeasureT-loop
 μ-loop t n up m₀ c₀ m c = n - c
@@ -30,7 +30,7 @@ loop-less : tie.Need-loop-less Inv-loop μ-loop
 loop-less c = omega arith
 
 loop-again : tie.Need-loop-again Inv-loop μ-loop
-loop-again c = (omega arith, c .bound-in .ensures ∙ ap (λ x. towards (c .before .before .before .args .up) (joinIn (now (c .before .before .before .args .t))) (meetIn (now (c .before .before .before .args .t))) x (c .before .before .loop .c)) (c .before .before .loop .inv .1) ∙ sym (bound-more _ _))
+loop-again c = (omega arith, c .bound-in .ensures ∙ ap (λ x. joinOrMeet (c .before .before .before .args .up) (joinIn (now (c .before .before .before .args .t))) (meetIn (now (c .before .before .before .args .t))) x (c .before .before .loop .c)) (c .before .before .loop .inv .1) ∙ sym (bound-more _ _))
 
 returns : tie.Need-returns Inv-loop μ-loop
 returns c = c .before .loop .inv .1 ∙ reached (boundUpTo _) (c .before .loop .inv .0) (c .loop-test .left)

@@ -5,12 +5,12 @@ use native.Mathlib.Omega.{arith}
 use borrow.Author.Needs.{needs}
 use Rattle.theory.specs.Loop.{reached}
 use Rattle.operations.specs.Table.{atMostIn}
-use Rattle.lattice.specs.Scan.{facing, better, candidate, candidate-none, candidate-more}
+use Rattle.lattice.specs.Scan.{orderFor, better, candidate, candidate-none, candidate-more}
 use Rattle.lattice.proofs.candidate_of.Statement.{statement}
 use Rattle.lattice.proofs.candidate_of.Tie as tie
 
 abbrev Inv-loop : tie.InvT-loop
-Inv-loop t n up a b m₀ c₀ m c = (c ≤ n) × (m ≡ candidate n (facing up (atMostIn t)) (a .0) (b .0) c)
+Inv-loop t n up a b m₀ c₀ m c = (c ≤ n) × (m ≡ candidate n (orderFor up (atMostIn t)) (a .0) (b .0) c)
 
 abbrev μ-loop : tie.MeasureT-loop
 μ-loop t n up a b m₀ c₀ m c = n - c

@@ -7,12 +7,12 @@ use borrow.Author.Needs.{needs}
 use borrow.Author.Tests.{not-true, not-false}
 use Rattle.theory.specs.Test.{allBelow, all-none, all-more, all-fails, all-done}
 use Rattle.operations.specs.Table.{atMostIn}
-use Rattle.lattice.specs.Scan.{facing, under, greatest}
+use Rattle.lattice.specs.Scan.{orderFor, under, greatest}
 use Rattle.lattice.proofs.is_greatest.Statement.{statement}
 use Rattle.lattice.proofs.is_greatest.Tie as tie
 
 abbrev Inv-loop : tie.InvT-loop
-Inv-loop t n up a b m c₀ c = (c ≤ n) × (allBelow c (under (facing up (atMostIn t)) (a .0) (b .0) (m .0)) ≡ true)
+Inv-loop t n up a b m c₀ c = (c ≤ n) × (allBelow c (under (orderFor up (atMostIn t)) (a .0) (b .0) (m .0)) ≡ true)
 
 abbrev μ-loop : tie.MeasureT-loop
 μ-loop t n up a b m c₀ c = n - c
