@@ -12,17 +12,17 @@ use lib.ListN.{length, getD, take, length-append, length-take, length-drop}
 use lib.Seq.{take-append-add}
 use Rattle.theory.specs.Formula.{Formula, bottom}
 use Rattle.theory.specs.Lattice.{All}
-use Rattle.theory.specs.Part.{Part, ModelShape}
+use Rattle.theory.specs.Part.{LatticePart, ModelShape}
 use Rattle.theory.specs.Test.{and-l, and-r}
 use Rattle.refusal.specs.declared.Refusal.{Refusal}
 use Rattle.refusal.specs.declared.Refusal.the-variants.{LatticeForm, BadModel}
-use Rattle.lattice.specs.Reading.{LatticeReading, latticeReading, latticePart, latticeForm, isPanel, explicitForm, partReading, require}
+use Rattle.lattice.specs.Reading.{LatticeReading, latticeReading, latticeOf, latticeForm, isPanel, explicitForm, partReading, require}
 use Rattle.lattice.specs.Accepted.{explicit-out}
 use Rattle.model.specs.Places.{prod-le}
 use Rattle.model.specs.Reading.{modelTest, accepted-shape}
 use Rattle.formula.specs.Bytes.{FormulaReading, formulaReading}
 use Rattle.formula.specs.RoundTrip.{formula-part}
-use Rattle.casefile.specs.Directory.{partCount, sizeOf, partAt, partsFrom, partsOf}
+use Rattle.casefile.specs.Directory.{partCount, partSize, partAt, partsFrom, partsOf}
 use Rattle.casefile.specs.Reading.{Content, contentParts, FormulasReading, readOne, formulasReading, afterFormulas, modelsReading, afterLattice, partsReading, caseReading, storeReading, refused, content, refusedAt, read}
 use Rattle.casefile.specs.Gapless.{joined, gapless}
 use Rattle.casefile.specs.Placed.{Placed, placed-reading, accepted-placed}
@@ -30,11 +30,11 @@ use Rattle.casefile.specs.Laid.{gapless-length, gapless-reading}
 
 -- each part of an accepted content passed its own test
 pub record PartsRead (c : Content) : Type 0 where
-  pub lattice-read : latticeReading (c .latticePart) ≡ LatticeReading.accepted (c .lattice)
-  pub model1-read : modelTest (c .lattice .size) (c .model1Part) ≡ true
-  pub model2-read : modelTest (c .lattice .size) (c .model2Part) ≡ true
-  pub same-propositions : getD (c .model1Part) 1 0 ≡ getD (c .model2Part) 1 0
-  pub formulas-read : formulasReading (getD (c .model1Part) 1 0) 3 (c .formulaParts) ≡ read (c .formulas)
+  pub lattice-read : latticeReading (c .latticeBytes) ≡ LatticeReading.accepted (c .lattice)
+  pub model1-read : modelTest (c .lattice .size) (c .model1Bytes) ≡ true
+  pub model2-read : modelTest (c .lattice .size) (c .model2Bytes) ≡ true
+  pub same-propositions : getD (c .model1Bytes) 1 0 ≡ getD (c .model2Bytes) 1 0
+  pub formulas-read : formulasReading (getD (c .model1Bytes) 1 0) 3 (c .formulaBytes) ≡ read (c .formulas)
 
 -- the content is that of the parts l, m1, m2 and fs
 pub record ContentOf (l m1 m2 : List ℕ) (fs : List (List ℕ)) (c : Content) : Type 0 where
@@ -45,13 +45,13 @@ pub refused-content : {r : Refusal} {c : Content} → refused r ≡ content c �
 refused-content e = let z : _≡_ {A = ℕ} 0 1 = cc in omega arith
 
 module _ (l m1 m2 : List ℕ) (fs : List (List ℕ)) (c : Content) where
-  from-formulas : (P : Part) (x : FormulasReading) → latticeReading l ≡ LatticeReading.accepted P → modelTest (P .size) m1 ≡ true → modelTest (P .size) m2 ≡ true → getD m1 1 0 ≡ getD m2 1 0 → formulasReading (getD m1 1 0) 3 fs ≡ x → afterFormulas l P m1 m2 fs x ≡ content c → ContentOf l m1 m2 fs c
+  from-formulas : (P : LatticePart) (x : FormulasReading) → latticeReading l ≡ LatticeReading.accepted P → modelTest (P .size) m1 ≡ true → modelTest (P .size) m2 ≡ true → getD m1 1 0 ≡ getD m2 1 0 → formulasReading (getD m1 1 0) 3 fs ≡ x → afterFormulas l P m1 m2 fs x ≡ content c → ContentOf l m1 m2 fs c
   from-formulas P (refusedAt i) a s t k f e = absurd (refused-content e)
   from-formulas P (read φs) a s t k f e =
-      let q : _≡_ {A = Content} (record { latticePart = l; model1Part = m1; model2Part = m2; formulaParts = fs; lattice = P; formulas = φs }) c = cc in
+      let q : _≡_ {A = Content} (record { latticeBytes = l; model1Bytes = m1; model2Bytes = m2; formulaBytes = fs; lattice = P; formulas = φs }) c = cc in
       rw (← q) (record { is = refl; reads = record { lattice-read = a; model1-read = s; model2-read = t; same-propositions = k; formulas-read = f } })
 
-  from-models : (P : Part) → latticeReading l ≡ LatticeReading.accepted P → modelsReading l P m1 m2 fs ≡ content c → ContentOf l m1 m2 fs c
+  from-models : (P : LatticePart) → latticeReading l ≡ LatticeReading.accepted P → modelsReading l P m1 m2 fs ≡ content c → ContentOf l m1 m2 fs c
   unfolding modelsReading
   from-models P a e = go (modelTest (P .size) m1) refl (modelTest (P .size) m2 && eqb (getD m1 1 0) (getD m2 1 0)) refl e
     where
@@ -69,7 +69,7 @@ module _ (l m1 m2 : List ℕ) (fs : List (List ℕ)) (c : Content) where
 
 -- ---- the parts of a placed case
 
-pub part-length : (b : List ℕ) → Placed b → (i : ℕ) → i < partCount b → length (partAt b i) ≡ sizeOf b i
+pub part-length : (b : List ℕ) → Placed b → (i : ℕ) → i < partCount b → length (partAt b i) ≡ partSize b i
 part-length b p i l = simp (length-take, length-drop) (omega (arith, p .each i l .within))
 
 pub parts-length : (b : List ℕ) (i n : ℕ) → length (partsFrom b i n) ≡ n
@@ -96,8 +96,8 @@ pub record Accepted (b : List ℕ) (c : Content) : Type 0 where
   pub parts : partsOf b ≡ contentParts c
   pub reads : PartsRead c
   pub some : All (λ p. 0 < length p) (contentParts c)
-  pub few : length (c .formulaParts) ≤ 8
-  pub again : partsReading (c .latticePart) (c .model1Part) (c .model2Part) (c .formulaParts) ≡ content c
+  pub few : length (c .formulaBytes) ≤ 8
+  pub again : partsReading (c .latticeBytes) (c .model1Bytes) (c .model2Bytes) (c .formulaBytes) ≡ content c
 
 pub accepted-case : (b : List ℕ) (c : Content) → caseReading b ≡ content c → Accepted b c
 accepted-case b c e = go (accepted-placed b c e)
@@ -118,7 +118,7 @@ accepted-case b c e = go (accepted-placed b c e)
         }
 
 -- the content of parts that pass their tests
-parts-read : (c : Content) → PartsRead c → partsReading (c .latticePart) (c .model1Part) (c .model2Part) (c .formulaParts) ≡ content c
+parts-read : (c : Content) → PartsRead c → partsReading (c .latticeBytes) (c .model1Bytes) (c .model2Bytes) (c .formulaBytes) ≡ content c
 unfolding modelsReading
 parts-read c r = simp (r .lattice-read, r .model1-read, r .model2-read, eq-eqb _ _ (r .same-propositions), r .formulas-read)
 
@@ -133,11 +133,11 @@ case-exactly b c = (λ e. let a = accepted-case b c e in (a .placed, a .parts, a
 
 -- ---- lengths
 
-form-passes : (l : List ℕ) (P : Part) → latticeReading l ≡ LatticeReading.accepted P → latticeForm l ≡ true
+form-passes : (l : List ℕ) (P : LatticePart) → latticeReading l ≡ LatticeReading.accepted P → latticeForm l ≡ true
 unfolding latticeReading require
 form-passes l P e = go (latticeForm l) e
   where
-    go : (t : Bool) → require t LatticeForm (partReading (latticePart l)) ≡ LatticeReading.accepted P → t ≡ true
+    go : (t : Bool) → require t LatticeForm (partReading (latticeOf l)) ≡ LatticeReading.accepted P → t ≡ true
     go true f = refl
     go false f = absurd (let z : _≡_ {A = ℕ} 0 1 = cc in omega arith)
 
@@ -197,15 +197,15 @@ gapless-most b c e = go (accepted-case b c e)
     go : Accepted b c → length (gapless (contentParts c)) ≤ 16618
     go a =
         let r = a .reads in
-        let s = formulas-read (getD (c .model1Part) 1 0) 3 (c .formulaParts) (c .formulas) (r .formulas-read) .short in
+        let s = formulas-read (getD (c .model1Bytes) 1 0) 3 (c .formulaBytes) (c .formulas) (r .formulas-read) .short in
         omega (
           arith,
           gapless-length (contentParts c),
-          joined-length (c .latticePart) (c .model1Part) (c .model2Part) (c .formulaParts),
-          form-most (c .latticePart) (form-passes (c .latticePart) (c .lattice) (r .lattice-read)),
-          model-most (c .model1Part) (accepted-shape (c .lattice .size) (c .model1Part) (r .model1-read)),
-          model-most (c .model2Part) (accepted-shape (c .lattice .size) (c .model2Part) (r .model2-read)),
-          joined-most (c .formulaParts) s,
+          joined-length (c .latticeBytes) (c .model1Bytes) (c .model2Bytes) (c .formulaBytes),
+          form-most (c .latticeBytes) (form-passes (c .latticeBytes) (c .lattice) (r .lattice-read)),
+          model-most (c .model1Bytes) (accepted-shape (c .lattice .size) (c .model1Bytes) (r .model1-read)),
+          model-most (c .model2Bytes) (accepted-shape (c .lattice .size) (c .model2Bytes) (r .model2-read)),
+          joined-most (c .formulaBytes) s,
           a .few,
         )
 
@@ -214,7 +214,7 @@ pub gapless-reads : (b : List ℕ) (c : Content) → caseReading b ≡ content c
 gapless-reads b c e r l = go (accepted-case b c e)
   where
     go : Accepted b c → caseReading (gapless (contentParts c) ++ r) ≡ content c
-    go a = gapless-reading (c .latticePart) (c .model1Part) (c .model2Part) (c .formulaParts) r (a .some) (a .few) l ∙ a .again
+    go a = gapless-reading (c .latticeBytes) (c .model1Bytes) (c .model2Bytes) (c .formulaBytes) r (a .some) (a .few) l ∙ a .again
 
 -- a store that begins with it does too
 front-past : (n : ℕ) (g r : List ℕ) → length g ≤ n → take n (g ++ r) ≡ g ++ take (n - length g) r

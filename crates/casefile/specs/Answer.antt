@@ -16,18 +16,18 @@ abbrev pub sizesOf : Content → Sizes
 sizesOf c =
     record {
       lattice = boundsOf (c .lattice);
-      states1 = getD (c .model1Part) 0 0;
-      states2 = getD (c .model2Part) 0 0;
-      propositions = getD (c .model1Part) 1 0;
+      states1 = getD (c .model1Bytes) 0 0;
+      states2 = getD (c .model2Bytes) 0 0;
+      propositions = getD (c .model1Bytes) 1 0;
       formulas = length (c .formulas);
     }
 
-abbrev pub answerOf : CaseReading → CaseCheck
-answerOf (refused r) = Refused r
-answerOf (content c) = Accepted (sizesOf c)
+abbrev pub caseAnswer : CaseReading → CaseCheck
+caseAnswer (refused r) = Refused r
+caseAnswer (content c) = Accepted (sizesOf c)
 
 -- The answer r is that of the case b, and where b is accepted, the tables t hold the operations of its lattice. After a refusal the
 -- tables are free.
 pub record CaseAnswered (b : List ℕ) (r : CaseCheck) (t : List ℕ) : Type 0 where
-  pub answer : r ≡ answerOf (caseReading b)
+  pub answer : r ≡ caseAnswer (caseReading b)
   pub tables : (c : Content) → caseReading b ≡ content c → opsIn t (boundsOf (c .lattice)) ≡ opsOf (c .lattice)

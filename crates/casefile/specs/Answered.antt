@@ -6,20 +6,20 @@ use mathlib.Core.List.{List}
 use borrow.Author.Tests.{eq-eqb, ne-eqb}
 use lib.Dec.{ltb, eqb}
 use lib.ListN.{length, getD}
-use Rattle.theory.specs.Part.{Part, opsOf}
+use Rattle.theory.specs.Part.{LatticePart, opsOf}
 use Rattle.operations.specs.Table.{opsIn}
 use Rattle.operations.specs.declared.Lattice.{Lattice}
 use Rattle.refusal.specs.declared.Refusal.{Refusal}
 use Rattle.refusal.specs.declared.Refusal.the-variants.{CaseSize, Directory, PartPlace, BadModel}
 use Rattle.lattice.specs.Reading.{LatticeReading, latticeReading}
-use Rattle.lattice.specs.Answer.{boundsOf, answerOf as latticeAnswer}
+use Rattle.lattice.specs.Answer.{boundsOf, latticeAnswer}
 use Rattle.model.specs.Reading.{modelTest, modelAnswer}
 use Rattle.model.specs.declared.ModelCheck.{ModelCheck}
 use Rattle.casefile.specs.declared.CaseCheck.{CaseCheck}
 use Rattle.casefile.specs.declared.CaseCheck.the-variants.{Refused}
 use Rattle.casefile.specs.Directory.{partCount, sizeTest, directoryTest, misplaced, partAt, partsFrom}
 use Rattle.casefile.specs.Reading.{Content, CaseReading, FormulasReading, formulasReading, afterFormulas, modelsReading, afterLattice, caseReading, refused, refusedAt, read}
-use Rattle.casefile.specs.Answer.{answerOf, CaseAnswered}
+use Rattle.casefile.specs.Answer.{caseAnswer, CaseAnswered}
 use Rattle.casefile.specs.Placed.{Placed, placed-reading}
 use Rattle.casefile.specs.Accepted.{formulas-read, ContentOf, refused-content, content-of, parts-length}
 use Rattle.casefile.specs.Steps.{formulasAnswer, restOf, restAnswer, afterSecond, secondAnswer, afterFirst, modelsAnswer, afterChecked, PartsAnswered}
@@ -35,34 +35,34 @@ module _ (b : List ℕ) where
   abbrev fs : List (List ℕ)
   fs = partsFrom b 3 (partCount b - 3)
 
-  rest-same : (P : Part) (x : FormulasReading) → formulasReading (getD (partAt b 1) 1 0) 3 fs ≡ x → restOf b (boundsOf P) (getD (partAt b 1) 0 0) (getD (partAt b 2) 0 0) (getD (partAt b 1) 1 0) (formulasAnswer x) ≡ answerOf (afterFormulas (partAt b 0) P (partAt b 1) (partAt b 2) fs x)
+  rest-same : (P : LatticePart) (x : FormulasReading) → formulasReading (getD (partAt b 1) 1 0) 3 fs ≡ x → restOf b (boundsOf P) (getD (partAt b 1) 0 0) (getD (partAt b 2) 0 0) (getD (partAt b 1) 1 0) (formulasAnswer x) ≡ caseAnswer (afterFormulas (partAt b 0) P (partAt b 1) (partAt b 2) fs x)
   rest-same P (refusedAt i) e = refl
   rest-same P (read φs) e =
       let n : length φs ≡ partCount b - 3 = formulas-read _ 3 fs φs e .as-many ∙ parts-length b 3 (partCount b - 3) in
       rw n refl
 
   -- what model 2 and the formulas are read as
-  abbrev secondReading : Part → Bool → CaseReading
+  abbrev secondReading : LatticePart → Bool → CaseReading
   secondReading P t = cond t (afterFormulas (partAt b 0) P (partAt b 1) (partAt b 2) fs (formulasReading (getD (partAt b 1) 1 0) 3 fs)) (refused (BadModel 2))
 
-  second-same : (P : Part) → secondAnswer b (boundsOf P) (getD (partAt b 1) 0 0) (getD (partAt b 1) 1 0) ≡ answerOf (secondReading P (modelTest (P .size) (partAt b 2) && eqb (getD (partAt b 1) 1 0) (getD (partAt b 2) 1 0)))
+  second-same : (P : LatticePart) → secondAnswer b (boundsOf P) (getD (partAt b 1) 0 0) (getD (partAt b 1) 1 0) ≡ caseAnswer (secondReading P (modelTest (P .size) (partAt b 2) && eqb (getD (partAt b 1) 1 0) (getD (partAt b 2) 1 0)))
   unfolding modelAnswer
   second-same P = go (modelTest (P .size) (partAt b 2)) (eqb (getD (partAt b 1) 1 0) (getD (partAt b 2) 1 0)) refl
     where
-      go : (t u : Bool) → eqb (getD (partAt b 1) 1 0) (getD (partAt b 2) 1 0) ≡ u → afterSecond b (boundsOf P) (getD (partAt b 1) 0 0) (getD (partAt b 1) 1 0) (cond t (ModelCheck.Accepted (getD (partAt b 2) 0 0) (getD (partAt b 2) 1 0)) ModelCheck.Refused) ≡ answerOf (secondReading P (t && u))
+      go : (t u : Bool) → eqb (getD (partAt b 1) 1 0) (getD (partAt b 2) 1 0) ≡ u → afterSecond b (boundsOf P) (getD (partAt b 1) 0 0) (getD (partAt b 1) 1 0) (cond t (ModelCheck.Accepted (getD (partAt b 2) 0 0) (getD (partAt b 2) 1 0)) ModelCheck.Refused) ≡ caseAnswer (secondReading P (t && u))
       go false u e = refl
       go true true e = rw e (rest-same P (formulasReading (getD (partAt b 1) 1 0) 3 fs) refl)
       go true false e = rw e refl
 
-  models-same : (P : Part) → modelsAnswer b (boundsOf P) ≡ answerOf (modelsReading (partAt b 0) P (partAt b 1) (partAt b 2) fs)
+  models-same : (P : LatticePart) → modelsAnswer b (boundsOf P) ≡ caseAnswer (modelsReading (partAt b 0) P (partAt b 1) (partAt b 2) fs)
   unfolding modelsReading modelAnswer
   models-same P = go (modelTest (P .size) (partAt b 1))
     where
-      go : (s : Bool) → afterFirst b (boundsOf P) (cond s (ModelCheck.Accepted (getD (partAt b 1) 0 0) (getD (partAt b 1) 1 0)) ModelCheck.Refused) ≡ answerOf (cond s (secondReading P (modelTest (P .size) (partAt b 2) && eqb (getD (partAt b 1) 1 0) (getD (partAt b 2) 1 0))) (refused (BadModel 1)))
+      go : (s : Bool) → afterFirst b (boundsOf P) (cond s (ModelCheck.Accepted (getD (partAt b 1) 0 0) (getD (partAt b 1) 1 0)) ModelCheck.Refused) ≡ caseAnswer (cond s (secondReading P (modelTest (P .size) (partAt b 2) && eqb (getD (partAt b 1) 1 0) (getD (partAt b 2) 1 0))) (refused (BadModel 1)))
       go false = refl
       go true = second-same P
 
-  parts-same : (x : LatticeReading) → afterChecked b (latticeAnswer x) ≡ answerOf (afterLattice (partAt b 0) x (partAt b 1) (partAt b 2) fs)
+  parts-same : (x : LatticeReading) → afterChecked b (latticeAnswer x) ≡ caseAnswer (afterLattice (partAt b 0) x (partAt b 1) (partAt b 2) fs)
   parts-same (LatticeReading.refused f) = refl
   parts-same (LatticeReading.accepted P) = models-same P
 
@@ -87,9 +87,9 @@ module _ (b : List ℕ) where
   parts-answered r t p h =
       let q = placed-reading b p in
       record {
-        answer = h .answer ∙ parts-same (latticeReading (partAt b 0)) ∙ ap answerOf (sym q);
+        answer = h .answer ∙ parts-same (latticeReading (partAt b 0)) ∙ ap caseAnswer (sym q);
         tables = λ c e. go c (content-of (partAt b 0) (partAt b 1) (partAt b 2) fs c (sym q ∙ e));
       }
     where
       go : (c : Content) → ContentOf (partAt b 0) (partAt b 1) (partAt b 2) fs c → opsIn t (boundsOf (c .lattice)) ≡ opsOf (c .lattice)
-      go c k = h .tables (c .lattice) (let e : partAt b 0 ≡ c .latticePart = cc (k .is) in rw e (k .reads .lattice-read))
+      go c k = h .tables (c .lattice) (let e : partAt b 0 ≡ c .latticeBytes = cc (k .is) in rw e (k .reads .lattice-read))

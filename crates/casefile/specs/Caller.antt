@@ -14,10 +14,10 @@ use Rattle.casefile.specs.declared.CaseCheck.the-variants.{Refused, Acce
 use Rattle.casefile.specs.Directory.{partsOf}
 use Rattle.casefile.specs.Reading.{Content, CaseReading, refused, content, caseReading}
 use Rattle.casefile.specs.Gapless.{gapless}
-use Rattle.casefile.specs.Answer.{sizesOf, answerOf, CaseAnswered}
+use Rattle.casefile.specs.Answer.{sizesOf, caseAnswer, CaseAnswered}
 use Rattle.casefile.specs.Placed.{Placed, accepted-placed}
 use Rattle.casefile.specs.Accepted.{written-most}
-use Rattle.casefile.specs.Content.{Sound, sound}
+use Rattle.casefile.specs.Content.{ContentSound, content-sound}
 
 -- after the answer that the case b is accepted with the sizes s, and the tables t
 pub record AcceptedCase (b : List ℕ) (s : Sizes) (t : List ℕ) : Type 0 where
@@ -26,14 +26,14 @@ pub record AcceptedCase (b : List ℕ) (s : Sizes) (t : List ℕ) : Type 0 where
   pub sizes : s ≡ sizesOf holds
   pub tables : opsIn t (s .lattice) ≡ opsOf (holds .lattice)
   pub laws : Laws (opsIn t (s .lattice))
-  pub sound : Sound holds
+  pub sound : ContentSound holds
   pub placed : Placed b
   pub short : length (gapless (partsOf b)) ≤ 16618
 
 pub when-accepted : (b : List ℕ) (r : CaseCheck) (s : Sizes) (t : List ℕ) → CaseAnswered b r t → r ≡ Accepted s → AcceptedCase b s t
 when-accepted b r s t w k = go (caseReading b) refl (sym k ∙ w .answer)
   where
-    go : (x : CaseReading) → caseReading b ≡ x → Accepted s ≡ answerOf x → AcceptedCase b s t
+    go : (x : CaseReading) → caseReading b ≡ x → Accepted s ≡ caseAnswer x → AcceptedCase b s t
     go (refused f) e h = absurd (let z : _≡_ {A = ℕ} 0 1 = cc in omega arith)
     go (content c) e h =
         let q : s ≡ sizesOf c = cc in
@@ -43,8 +43,8 @@ when-accepted b r s t w k = go (caseReading b) refl (sym k ∙ w .answer)
           reads = e;
           sizes = q;
           tables = p;
-          laws = rw p (sound b c e .laws);
-          sound = sound b c e;
+          laws = rw p (content-sound b c e .laws);
+          sound = content-sound b c e;
           placed = accepted-placed b c e;
           short = written-most b c e;
         }
@@ -53,6 +53,6 @@ when-accepted b r s t w k = go (caseReading b) refl (sym k ∙ w .answer)
 pub when-refused : (b : List ℕ) (r : CaseCheck) (f : Refusal) (t : List ℕ) → CaseAnswered b r t → r ≡ Refused f → caseReading b ≡ refused f
 when-refused b r f t w k = go (caseReading b) (sym k ∙ w .answer)
   where
-    go : (x : CaseReading) → Refused f ≡ answerOf x → x ≡ refused f
+    go : (x : CaseReading) → Refused f ≡ caseAnswer x → x ≡ refused f
     go (refused g) h = cc
     go (content c) h = absurd (let z : _≡_ {A = ℕ} 0 1 = cc in omega arith)

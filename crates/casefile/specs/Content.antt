@@ -14,28 +14,28 @@ use Rattle.casefile.specs.Directory.{partCount, partAt, partsFrom}
 use Rattle.casefile.specs.Reading.{Content, contentParts, caseReading, content}
 use Rattle.casefile.specs.Accepted.{PartsRead, formulas-read, parts-length, accepted-case, FormulasRead}
 
-pub record Sound (c : Content) : Type 0 where
+pub record ContentSound (c : Content) : Type 0 where
   pub laws : Laws (opsOf (c .lattice))
-  pub shape1 : ModelShape (c .model1Part)
-  pub shape2 : ModelShape (c .model2Part)
-  pub valued1 : Valued (opsOf (c .lattice)) (modelOf (c .model1Part))
-  pub valued2 : Valued (opsOf (c .lattice)) (modelOf (c .model2Part))
-  pub same-propositions : getD (c .model1Part) 1 0 ≡ getD (c .model2Part) 1 0
-  pub formulas : FormulasRead (getD (c .model1Part) 1 0) (c .formulaParts) (c .formulas)
+  pub shape1 : ModelShape (c .model1Bytes)
+  pub shape2 : ModelShape (c .model2Bytes)
+  pub valued1 : Valued (opsOf (c .lattice)) (modelOf (c .model1Bytes))
+  pub valued2 : Valued (opsOf (c .lattice)) (modelOf (c .model2Bytes))
+  pub same-propositions : getD (c .model1Bytes) 1 0 ≡ getD (c .model2Bytes) 1 0
+  pub formulas : FormulasRead (getD (c .model1Bytes) 1 0) (c .formulaBytes) (c .formulas)
 
-pub sound : (b : List ℕ) (c : Content) → caseReading b ≡ content c → Sound c
-sound b c e = go (accepted-case b c e .reads)
+pub content-sound : (b : List ℕ) (c : Content) → caseReading b ≡ content c → ContentSound c
+content-sound b c e = go (accepted-case b c e .reads)
   where
-    go : PartsRead c → Sound c
+    go : PartsRead c → ContentSound c
     go r =
         record {
-          laws = accepted-is-lattice (c .latticePart) (c .lattice) (r .lattice-read);
-          shape1 = accepted-shape (c .lattice .size) (c .model1Part) (r .model1-read);
-          shape2 = accepted-shape (c .lattice .size) (c .model2Part) (r .model2-read);
-          valued1 = accepted-valued (c .lattice) (c .model1Part) (r .model1-read);
-          valued2 = accepted-valued (c .lattice) (c .model2Part) (r .model2-read);
+          laws = accepted-is-lattice (c .latticeBytes) (c .lattice) (r .lattice-read);
+          shape1 = accepted-shape (c .lattice .size) (c .model1Bytes) (r .model1-read);
+          shape2 = accepted-shape (c .lattice .size) (c .model2Bytes) (r .model2-read);
+          valued1 = accepted-valued (c .lattice) (c .model1Bytes) (r .model1-read);
+          valued2 = accepted-valued (c .lattice) (c .model2Bytes) (r .model2-read);
           same-propositions = r .same-propositions;
-          formulas = formulas-read (getD (c .model1Part) 1 0) 3 (c .formulaParts) (c .formulas) (r .formulas-read);
+          formulas = formulas-read (getD (c .model1Bytes) 1 0) 3 (c .formulaBytes) (c .formulas) (r .formulas-read);
         }
 
 -- the parts of a case, by their numbers
@@ -57,5 +57,5 @@ count-is b c e =
       arith,
       ap length (accepted-case b c e .parts),
       parts-length b 0 (partCount b),
-      formulas-read (getD (c .model1Part) 1 0) 3 (c .formulaParts) (c .formulas) (accepted-case b c e .reads .formulas-read) .as-many,
+      formulas-read (getD (c .model1Bytes) 1 0) 3 (c .formulaBytes) (c .formulas) (accepted-case b c e .reads .formulas-read) .as-many,
     )

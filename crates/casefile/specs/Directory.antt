@@ -17,26 +17,26 @@ directoryEnd b = 1 + 4 * partCount b
 abbrev pub wordAt : List ℕ → ℕ → ℕ
 wordAt b at = getD b at 0 + 256 * getD b (at + 1) 0
 
-unfoldable pub startOf : List ℕ → ℕ → ℕ
-startOf b i = wordAt b (1 + 4 * i)
+unfoldable pub partStart : List ℕ → ℕ → ℕ
+partStart b i = wordAt b (1 + 4 * i)
 
-unfoldable pub sizeOf : List ℕ → ℕ → ℕ
-sizeOf b i = wordAt b (3 + 4 * i)
+unfoldable pub partSize : List ℕ → ℕ → ℕ
+partSize b i = wordAt b (3 + 4 * i)
 
 -- the sum is a number of any size: it is not wrapped at 16 bits
-abbrev pub endOf : List ℕ → ℕ → ℕ
-endOf b i = startOf b i + sizeOf b i
+abbrev pub partEnd : List ℕ → ℕ → ℕ
+partEnd b i = partStart b i + partSize b i
 
 -- the end of the part before part i; nothing stands before part 0
 abbrev pub endBefore : List ℕ → ℕ → ℕ
 endBefore b zero = 0
-endBefore b (suc i) = endOf b i
+endBefore b (suc i) = partEnd b i
 
 -- 'A part starts at or after the directory's end and at or after the end of the part before it, and ends within the case', and
 -- its length is not 0
 unfoldable pub placed : List ℕ → ℕ → Bool
 placed b i =
-    ltb 0 (sizeOf b i) && leb (directoryEnd b) (startOf b i) && leb (endBefore b i) (startOf b i) && leb (endOf b i) (length b)
+    ltb 0 (partSize b i) && leb (directoryEnd b) (partStart b i) && leb (endBefore b i) (partStart b i) && leb (partEnd b i) (length b)
 
 -- 'the case is empty or over 32,768 bytes'
 abbrev pub sizeTest : List ℕ → Bool
@@ -52,7 +52,7 @@ misplaced b = firstBelow (partCount b) (λ i. not (placed b i))
 
 -- the bytes of part i, and of the n parts from part i on
 abbrev pub partAt : List ℕ → ℕ → List ℕ
-partAt b i = take (sizeOf b i) (drop (startOf b i) b)
+partAt b i = take (partSize b i) (drop (partStart b i) b)
 
 unfoldable pub partsFrom : List ℕ → ℕ → ℕ → List (List ℕ)
 partsFrom b i zero = []

@@ -8,15 +8,15 @@ use native.Mathlib.Omega.{arith}
 use lib.ListN.{length, getD, take, drop, length-append}
 use lib.Seq.{getD-append-add, take-at, drop-at}
 use Rattle.theory.specs.Lattice.{All}
-use Rattle.casefile.specs.Directory.{partCount, directoryEnd, startOf, sizeOf, endBefore, partAt, partsFrom}
+use Rattle.casefile.specs.Directory.{partCount, directoryEnd, partStart, partSize, endBefore, partAt, partsFrom}
 use Rattle.casefile.specs.Reading.{partsReading, caseReading}
 use Rattle.casefile.specs.Gapless.{word, pairs, joined, directory, gapless}
 use Rattle.casefile.specs.Placed.{PartPlaced, Placed, placed-reading}
 
 -- part i of b is p and stands at `at`
 pub record LaidOne (b : List ℕ) (i at : ℕ) (p : List ℕ) : Type 0 where
-  pub starts : startOf b i ≡ at
-  pub sized : sizeOf b i ≡ length p
+  pub starts : partStart b i ≡ at
+  pub sized : partSize b i ≡ length p
   pub bytes : take (length p) (drop at b) ≡ p
   pub within : at + length p ≤ length b
 
@@ -31,14 +31,14 @@ byte-past b pre ys n k at e l f = rw (e, f, ← l) (getD-append-add pre ys k 0)
 
 module _ (b : List ℕ) where
   -- the pair of a part, where the pairs from part i on stand past a front of 1 + 4·i bytes
-  start-read : (i x : ℕ) (pre ys : List ℕ) → b ≡ pre ++ word x ys → length pre ≡ 1 + 4 * i → startOf b i ≡ x
-  unfolding startOf
+  start-read : (i x : ℕ) (pre ys : List ℕ) → b ≡ pre ++ word x ys → length pre ≡ 1 + 4 * i → partStart b i ≡ x
+  unfolding partStart
   start-read i x pre ys e l =
       rw (byte-past b pre (word x ys) (1 + 4 * i) 0 (1 + 4 * i) e l (omega arith), byte-past b pre (word x ys) (1 + 4 * i) 1 (1 + 4 * i + 1) e l (omega arith))
       (omega arith)
 
-  size-read : (i x y : ℕ) (pre ys : List ℕ) → b ≡ pre ++ word x (word y ys) → length pre ≡ 1 + 4 * i → sizeOf b i ≡ y
-  unfolding sizeOf
+  size-read : (i x y : ℕ) (pre ys : List ℕ) → b ≡ pre ++ word x (word y ys) → length pre ≡ 1 + 4 * i → partSize b i ≡ y
+  unfolding partSize
   size-read i x y pre ys e l =
       rw (byte-past b pre (word x (word y ys)) (1 + 4 * i) 2 (3 + 4 * i) e l (omega arith), byte-past b pre (word x (word y ys)) (1 + 4 * i) 3 (3 + 4 * i + 1) e l (omega arith))
       (omega arith)

@@ -10,7 +10,7 @@ use borrow.Author.Tests.{ltb-true, leb-true, lt-ltb, le-leb}
 use lib.Dec.{ltb, leb}
 use lib.ListN.{length}
 use Rattle.theory.specs.Test.{below-suc, and-l, and-r, bool-same, first-unique}
-use Rattle.casefile.specs.Directory.{partCount, directoryEnd, startOf, sizeOf, endOf, endBefore, placed, misplaced}
+use Rattle.casefile.specs.Directory.{partCount, directoryEnd, partStart, partSize, partEnd, endBefore, placed, misplaced}
 use Rattle.casefile.specs.Placed.{PartPlaced, part-placed, placed-part}
 use Rattle.casefile.specs.Steps.{wellPlaced}
 
@@ -23,24 +23,24 @@ pub well-is-placed : (b : List ℕ) (i from : ℕ) → PlacedUpto b i from → w
 well-is-placed b i from h =
     bool-same (wellPlaced b i from) (placed b i)
     (λ t.
-    let u = and-l (ltb 0 (sizeOf b i) && leb from (startOf b i)) (leb (endOf b i) (length b)) t in
-    let l = leb-true from (startOf b i) (and-r (ltb 0 (sizeOf b i)) (leb from (startOf b i)) u) in
+    let u = and-l (ltb 0 (partSize b i) && leb from (partStart b i)) (leb (partEnd b i) (length b)) t in
+    let l = leb-true from (partStart b i) (and-r (ltb 0 (partSize b i)) (leb from (partStart b i)) u) in
     placed-part b i
     (record {
-      some = ltb-true _ _ (and-l (ltb 0 (sizeOf b i)) (leb from (startOf b i)) u);
+      some = ltb-true _ _ (and-l (ltb 0 (partSize b i)) (leb from (partStart b i)) u);
       after-directory = omega (arith, h .from-is);
       after-part = omega (arith, h .from-is);
-      within = leb-true _ _ (and-r (ltb 0 (sizeOf b i) && leb from (startOf b i)) (leb (endOf b i) (length b)) t);
+      within = leb-true _ _ (and-r (ltb 0 (partSize b i) && leb from (partStart b i)) (leb (partEnd b i) (length b)) t);
     }))
     (λ t. go (part-placed b i t))
   where
     go : PartPlaced b i → wellPlaced b i from ≡ true
-    go p = simp (lt-ltb _ _ (p .some), le-leb from (startOf b i) (omega (arith, h .from-is, p .after-directory, p .after-part)), le-leb _ _ (p .within))
+    go p = simp (lt-ltb _ _ (p .some), le-leb from (partStart b i) (omega (arith, h .from-is, p .after-directory, p .after-part)), le-leb _ _ (p .within))
 
 pub upto-none : (b : List ℕ) (from : ℕ) → from ≡ directoryEnd b → PlacedUpto b 0 from
 upto-none b from e = record { from-is = omega arith; before = λ j l. absurd (omega arith) }
 
-pub upto-more : (b : List ℕ) (i from next : ℕ) → PlacedUpto b i from → wellPlaced b i from ≡ true → next ≡ endOf b i → PlacedUpto b (i + 1) next
+pub upto-more : (b : List ℕ) (i from next : ℕ) → PlacedUpto b i from → wellPlaced b i from ≡ true → next ≡ partEnd b i → PlacedUpto b (i + 1) next
 upto-more b i from next h t e = rw add-one (go (sym (well-is-placed b i from h) ∙ t))
   where
     go : placed b i ≡ true → PlacedUpto b (suc i) next

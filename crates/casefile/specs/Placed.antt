@@ -11,21 +11,21 @@ use lib.ListN.{length}
 use Rattle.theory.specs.Test.{and-l, and-r, first-is, first-unique}
 use Rattle.model.specs.Reading.{all-four}
 use Rattle.refusal.specs.declared.Refusal.the-variants.{CaseSize, Directory, PartPlace}
-use Rattle.casefile.specs.Directory.{partCount, directoryEnd, startOf, sizeOf, endOf, endBefore, placed, sizeTest, directoryTest, misplaced, partAt, partsFrom}
+use Rattle.casefile.specs.Directory.{partCount, directoryEnd, partStart, partSize, partEnd, endBefore, placed, sizeTest, directoryTest, misplaced, partAt, partsFrom}
 use Rattle.casefile.specs.Reading.{Content, CaseReading, partsReading, caseReading, refused, content}
 
 -- part i stands where it may
 pub record PartPlaced (b : List ℕ) (i : ℕ) : Type 0 where
-  pub some : 0 < sizeOf b i
-  pub after-directory : directoryEnd b ≤ startOf b i
-  pub after-part : endBefore b i ≤ startOf b i
-  pub within : endOf b i ≤ length b
+  pub some : 0 < partSize b i
+  pub after-directory : directoryEnd b ≤ partStart b i
+  pub after-part : endBefore b i ≤ partStart b i
+  pub within : partEnd b i ≤ length b
 
 pub part-placed : (b : List ℕ) (i : ℕ) → placed b i ≡ true → PartPlaced b i
 unfolding placed
 part-placed b i t =
     let f =
-    all-four (ltb 0 (sizeOf b i)) (leb (directoryEnd b) (startOf b i)) (leb (endBefore b i) (startOf b i)) (leb (endOf b i) (length b)) t in
+    all-four (ltb 0 (partSize b i)) (leb (directoryEnd b) (partStart b i)) (leb (endBefore b i) (partStart b i)) (leb (partEnd b i) (length b)) t in
     record {
       some = ltb-true _ _ (f .first);
       after-directory = leb-true _ _ (f .second);

@@ -5,7 +5,7 @@ use mathlib.Core.List.{List, [], _∷_}
 use lib.Dec.{ltb, eqb}
 use lib.ListN.{getD, take}
 use Rattle.theory.specs.Formula.{Formula}
-use Rattle.theory.specs.Part.{Part}
+use Rattle.theory.specs.Part.{LatticePart}
 use Rattle.refusal.specs.declared.Refusal.{Refusal}
 use Rattle.refusal.specs.declared.Refusal.the-variants.{CaseSize, Directory, PartPlace, BadModel, BadFormula}
 use Rattle.lattice.specs.Reading.{LatticeReading, latticeReading}
@@ -16,16 +16,16 @@ use Rattle.casefile.specs.Directory.{partCount, sizeTest, directoryTest,
 -- What an accepted case holds: the bytes of its parts, the lattice that part 0 gives, and the formulas that parts 3, 4, .. give.
 -- 'Part 0 is the lattice, part 1 model 1, part 2 model 2, the rest formulas numbered from 0.' A model part b gives modelOf b.
 pub record Content : Type 0 where
-  pub latticePart : List ℕ
-  pub model1Part : List ℕ
-  pub model2Part : List ℕ
-  pub formulaParts : List (List ℕ)
-  pub lattice : Part
+  pub latticeBytes : List ℕ
+  pub model1Bytes : List ℕ
+  pub model2Bytes : List ℕ
+  pub formulaBytes : List (List ℕ)
+  pub lattice : LatticePart
   pub formulas : List Formula
 
 -- the parts of a content, in order
 abbrev pub contentParts : Content → List (List ℕ)
-contentParts c = c .latticePart ∷ c .model1Part ∷ c .model2Part ∷ c .formulaParts
+contentParts c = c .latticeBytes ∷ c .model1Bytes ∷ c .model2Bytes ∷ c .formulaBytes
 
 pub data CaseReading : Type 0 where
   refused : Refusal → CaseReading
@@ -47,12 +47,12 @@ formulasReading k i [] = read []
 formulasReading k i (p ∷ ps) = readOne i (formulaReading k p) (formulasReading k (suc i) ps)
 
 -- after the models m1 and m2: the formulas fs, refused with 10
-abbrev pub afterFormulas : List ℕ → Part → List ℕ → List ℕ → List (List ℕ) → FormulasReading → CaseReading
+abbrev pub afterFormulas : List ℕ → LatticePart → List ℕ → List ℕ → List (List ℕ) → FormulasReading → CaseReading
 afterFormulas l P m1 m2 fs (refusedAt i) = refused (BadFormula i)
-afterFormulas l P m1 m2 fs (read φs) = content (record { latticePart = l; model1Part = m1; model2Part = m2; formulaParts = fs; lattice = P; formulas = φs })
+afterFormulas l P m1 m2 fs (read φs) = content (record { latticeBytes = l; model1Bytes = m1; model2Bytes = m2; formulaBytes = fs; lattice = P; formulas = φs })
 
 -- after the lattice P: the models, refused with 9. 'Both models have the same k': where k differs, part 2 is refused
-unfoldable pub modelsReading : List ℕ → Part → List ℕ → List ℕ → List (List ℕ) → CaseReading
+unfoldable pub modelsReading : List ℕ → LatticePart → List ℕ → List ℕ → List (List ℕ) → CaseReading
 unfolding formulasReading
 modelsReading l P m1 m2 fs =
     cond (modelTest (P .size) m1)

@@ -5,7 +5,7 @@ use mathlib.Core.Bool.{Bool, true, false, cond, _&&_}
 use mathlib.Core.List.{List, _++_}
 use lib.Dec.{ltb, leb, eqb}
 use lib.ListN.{length, take, drop, set}
-use Rattle.theory.specs.Part.{Part, opsOf}
+use Rattle.theory.specs.Part.{LatticePart, opsOf}
 use Rattle.operations.specs.Table.{opsIn}
 use Rattle.operations.specs.declared.Lattice.{Lattice}
 use Rattle.casefile.specs.declared.CaseCheck.{CaseCheck}
@@ -14,21 +14,21 @@ use Rattle.casefile.specs.declared.FormulasCheck.{FormulasCheck}
 use Rattle.casefile.specs.declared.FormulasCheck.the-variants.{RefusedAt, Read}
 use Rattle.refusal.specs.declared.Refusal.the-variants.{BadModel, BadFormula}
 use Rattle.lattice.specs.Reading.{accepted, latticeReading}
-use Rattle.lattice.specs.Answer.{boundsOf, answerOf as latticeAnswer}
+use Rattle.lattice.specs.Answer.{boundsOf, latticeAnswer}
 use Rattle.lattice.specs.declared.LatticeCheck.{LatticeCheck}
 use Rattle.model.specs.declared.ModelCheck.{ModelCheck}
 use Rattle.model.specs.Reading.{modelAnswer}
 use Rattle.formula.specs.Bytes.{FormulaReading}
 use Rattle.formula.specs.Check.{checked}
 use Rattle.formula.specs.declared.FormulaCheck.{FormulaCheck}
-use Rattle.casefile.specs.Directory.{partCount, startOf, sizeOf, endOf, partAt, partsFrom}
+use Rattle.casefile.specs.Directory.{partCount, partStart, partSize, partEnd, partAt, partsFrom}
 use Rattle.casefile.specs.Reading.{FormulasReading, formulasReading, refusedAt, read}
 
 -- ---- the check
 
 -- part i is not empty, starts at `from` or later, and ends within the case
 abbrev pub wellPlaced : List ℕ → ℕ → ℕ → Bool
-wellPlaced b i from = ltb 0 (sizeOf b i) && leb from (startOf b i) && leb (endOf b i) (length b)
+wellPlaced b i from = ltb 0 (partSize b i) && leb from (partStart b i) && leb (partEnd b i) (length b)
 
 abbrev pub isAccepted : FormulaCheck → Bool
 isAccepted FormulaCheck.Accepted = true
@@ -77,7 +77,7 @@ partsAnswer b = afterChecked b (latticeAnswer (latticeReading (partAt b 0)))
 -- the answer r and the tables t that the check of the parts gives
 pub record PartsAnswered (b : List ℕ) (r : CaseCheck) (t : List ℕ) : Type 0 where
   pub answer : r ≡ partsAnswer b
-  pub tables : (P : Part) → latticeReading (partAt b 0) ≡ accepted P → opsIn t (boundsOf P) ≡ opsOf P
+  pub tables : (P : LatticePart) → latticeReading (partAt b 0) ≡ accepted P → opsIn t (boundsOf P) ≡ opsOf P
 
 -- ---- the writer
 

@@ -6,7 +6,7 @@ use native.Mathlib.Numerals.{add-one}
 use native.Mathlib.Omega.{arith}
 use lib.ListN.{length, getD, take, drop, set, length-append, length-drop, take-append-drop}
 use lib.Seq.{length-take-le, take-length, take-at, drop-cons, drop-append-add, drop-drop, set-at, paste}
-use Rattle.casefile.specs.Directory.{partCount, startOf, sizeOf, partAt, partsFrom, partsOf}
+use Rattle.casefile.specs.Directory.{partCount, partStart, partSize, partAt, partsFrom, partsOf}
 use Rattle.casefile.specs.Gapless.{word, pairs, joined, gapless}
 use Rattle.casefile.specs.Placed.{Placed}
 use Rattle.casefile.specs.Laid.{pairs-length, gapless-length}
@@ -81,13 +81,13 @@ written-word {d} {out} {rest} {whole} {at} x w l =
 
 -- ---- a placed case is at least as long as its gapless form
 
-joined-fits : (b : List ℕ) → Placed b → (n i at : ℕ) → i + n ≡ partCount b → at ≤ length b → (0 < n → at ≤ startOf b i) → at + length (joined (partsFrom b i n)) ≤ length b
+joined-fits : (b : List ℕ) → Placed b → (n i at : ℕ) → i + n ≡ partCount b → at ≤ length b → (0 < n → at ≤ partStart b i) → at + length (joined (partsFrom b i n)) ≤ length b
 unfolding joined partsFrom
 joined-fits b p zero i at e l s = omega arith
 joined-fits b p (suc n) i at e l s =
     let q = p .each i (omega arith) in
     let m = part-length b p i (omega arith) in
-    let f : at ≤ startOf b i = s (omega arith) in
+    let f : at ≤ partStart b i = s (omega arith) in
     omega (
       arith,
       length-append (partAt b i) (joined (partsFrom b (suc i) n)),
@@ -130,7 +130,7 @@ pub record PairsWritten (b d out : List ℕ) (i at : ℕ) : Type 0 where
 -- there is room for the pair of part i, and its offset is of 16 bits
 pub record PairRoom (b out : List ℕ) (i at : ℕ) : Type 0 where
   pub offset-small : at < 65536
-  pub next-small : at + sizeOf b i < 65536
+  pub next-small : at + partSize b i < 65536
   pub room : 4 + 4 * i < length out
 
 -- there is room for part i
@@ -151,7 +151,7 @@ module _ (b d : List ℕ) (p : Placed b) (fits : length (gapless (partsOf b)) �
         offset = rw e (omega (arith, gapless-length (partsOf b), parts-length b 0 (partCount b)));
       }
 
-  pub pairs-turn : (out next : List ℕ) (i at size : ℕ) → PairsWritten b d out i at → i < partCount b → size ≡ sizeOf b i → next ≡ withPair out i at size → PairsWritten b d next (i + 1) (at + size)
+  pub pairs-turn : (out next : List ℕ) (i at size : ℕ) → PairsWritten b d out i at → i < partCount b → size ≡ partSize b i → next ≡ withPair out i at size → PairsWritten b d next (i + 1) (at + size)
   unfolding pairs joined
   pairs-turn out next i at size h l e f =
       let n = parts-next b i l in

@@ -9,7 +9,7 @@ ghost use mathlib.Core.List.{_++_};
 ghost use Prim.Native.Nat.{_+_, _*_, _-_, _≤_, _<_};
 ghost use lib.ListN.{length, drop};
 ghost use Rattle.formula.specs.Bytes.{formulaReading};
-ghost use Rattle.casefile.specs.Directory.{partCount, wordAt, startOf, sizeOf, endOf, sizeTest, directoryTest, misplaced, partAt, partsFrom, partsOf};
+ghost use Rattle.casefile.specs.Directory.{partCount, wordAt, partStart, partSize, partEnd, sizeTest, directoryTest, misplaced, partAt, partsFrom, partsOf};
 ghost use Rattle.casefile.specs.Reading.{formulasReading};
 ghost use Rattle.casefile.specs.Gapless.{pairs, joined, gapless};
 ghost use Rattle.casefile.specs.Answer.{CaseAnswered};
@@ -43,29 +43,29 @@ fn word(bytes: &[u8], at: usize) -> usize
     requires { ⌜ at + 1 < length (now bytes) ⌝ }
     ensures { λ r. ⌜ (r ≡ wordAt (now (bytes .entry)) at) × (r < 65536) ⌝ }
 {
-    operations::wide(bytes[at]) + 256 * operations::wide(bytes[at + 1])
+    operations::index(bytes[at]) + 256 * operations::index(bytes[at + 1])
 }
 
 // Where part i starts.
 pub fn part_start(bytes: &[u8], i: u8) -> usize
     requires { ⌜ HasDirectory (now bytes) × (i < partCount (now bytes)) ⌝ }
-    ensures { λ r. ⌜ (r ≡ startOf (now (bytes .entry)) i) × (r < 65536) ⌝ }
+    ensures { λ r. ⌜ (r ≡ partStart (now (bytes .entry)) i) × (r < 65536) ⌝ }
 {
-    word(bytes, 1 + 4 * operations::wide(i))
+    word(bytes, 1 + 4 * operations::index(i))
 }
 
 // How many bytes part i has.
 pub fn part_size(bytes: &[u8], i: u8) -> usize
     requires { ⌜ HasDirectory (now bytes) × (i < partCount (now bytes)) ⌝ }
-    ensures { λ r. ⌜ (r ≡ sizeOf (now (bytes .entry)) i) × (r < 65536) ⌝ }
+    ensures { λ r. ⌜ (r ≡ partSize (now (bytes .entry)) i) × (r < 65536) ⌝ }
 {
-    word(bytes, 3 + 4 * operations::wide(i))
+    word(bytes, 3 + 4 * operations::index(i))
 }
 
 // Where part i ends: a sum that may be past 16 bits.
 pub fn part_end(bytes: &[u8], i: u8) -> usize
     requires { ⌜ HasDirectory (now bytes) × (i < partCount (now bytes)) ⌝ }
-    ensures { λ r. ⌜ r ≡ endOf (now (bytes .entry)) i ⌝ }
+    ensures { λ r. ⌜ r ≡ partEnd (now (bytes .entry)) i ⌝ }
 {
     part_start(bytes, i) + part_size(bytes, i)
 }
@@ -100,7 +100,7 @@ fn right_directory(bytes: &[u8]) -> bool
     if 11 < count {
         return false;
     }
-    1 + 4 * operations::wide(count) <= bytes.len()
+    1 + 4 * operations::index(count) <= bytes.len()
 }
 
 // Part i is not empty, starts at `from` or later, and ends within the case.
@@ -123,7 +123,7 @@ fn first_misplaced(bytes: &[u8]) -> u8
     ensures { λ r. ⌜ r ≡ misplaced (now (bytes .entry)) ⌝ }
 {
     let count = bytes[0];
-    let mut from = 1 + 4 * operations::wide(count);
+    let mut from = 1 + 4 * operations::index(count);
     for i in 0..count {
         if !well_placed(bytes, i, from) {
             return i;
@@ -262,8 +262,8 @@ fn put_pair(out: &mut [u8], i: u8, start: usize, size: usize)
     requires { ⌜ (4 + 4 * i < length (now out)) × (start < 65536) × (size < 65536) ⌝ }
     ensures { λ _. ⌜ now (out .exit) ≡ withPair (now (out .entry)) i start size ⌝ }
 {
-    put_word(out, 1 + 4 * operations::wide(i), start);
-    put_word(out, 3 + 4 * operations::wide(i), size);
+    put_word(out, 1 + 4 * operations::index(i), start);
+    put_word(out, 3 + 4 * operations::index(i), size);
 }
 
 // Writes the pairs of offset and length, for parts without gaps.
@@ -272,7 +272,7 @@ fn write_pairs(bytes: &[u8], out: &mut [u8])
     ensures { λ _. ⌜ now (out .exit) ≡ overlaid (now (out .entry)) 1 (pairs (1 + 4 * partCount (now (bytes .entry))) (partsOf (now (bytes .entry)))) ⌝ }
 {
     let count = bytes[0];
-    let mut at = 1 + 4 * operations::wide(count);
+    let mut at = 1 + 4 * operations::index(count);
     for i in 0..count {
         let size = part_size(bytes, i);
         put_pair(out, i, at, size);
@@ -286,7 +286,7 @@ fn write_parts(bytes: &[u8], out: &mut [u8]) -> usize
     ensures { λ r. ⌜ (r ≡ length (gapless (partsOf (now (bytes .entry))))) × (now (out .exit) ≡ overlaid (now (out .entry)) (1 + 4 * partCount (now (bytes .entry))) (joined (partsOf (now (bytes .entry))))) ⌝ }
 {
     let count = bytes[0];
-    let mut at = 1 + 4 * operations::wide(count);
+    let mut at = 1 + 4 * operations::index(count);
     for i in 0..count {
         let p = part(bytes, i);
         copy(p, out, at);

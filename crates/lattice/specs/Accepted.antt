@@ -12,28 +12,28 @@ use lib.ListN.{length, getD}
 use Rattle.theory.specs.Test.{below-suc, allBelow, and-l, and-r, and-in, ⇒-elim, ⇒-in, all-at, all-in}
 use Rattle.theory.specs.Lattice.{Ops, Laws}
 use Rattle.theory.specs.Descent.{all-map}
-use Rattle.theory.specs.Part.{Part, meetOf, joinOf, topOf, botOf, element, opsOf, explicitPart}
+use Rattle.theory.specs.Part.{LatticePart, meetOf, joinOf, topOf, botOf, element, opsOf, explicitPart}
 use Rattle.refusal.specs.declared.Refusal.{Refusal}
 use Rattle.lattice.specs.Panel.{panelPart}
-use Rattle.lattice.specs.Reading.{LatticeReading, accepted, isPanel, latticePart, explicitForm, latticeForm, reflexive, antisymmetric, transitive, partialOrder, bounded, distributive, complementRules, require, partReading, latticeReading}
+use Rattle.lattice.specs.Reading.{LatticeReading, accepted, isPanel, latticeOf, explicitForm, latticeForm, reflexive, antisymmetric, transitive, partialOrder, bounded, distributive, complementRules, require, partReading, latticeReading}
 use Rattle.theory.specs.Height.{distinct-le}
 use Rattle.lattice.specs.Bounds.{element-lt, element-id, all2-at, all2-in, all3-at, all3-in, reversed, join-reversed, meet-reversed, bot-reversed, MeetAt, Antisymmetric, meet-is, meet-some, meet-same, TopAt, top-only, boundUpTo}
 
 -- ---- the tests as facts
 
 -- a part of the right form has 1 to 64 elements, and its complements are elements
-pub record Formed (P : Part) : Type 0 where
+pub record Formed (P : LatticePart) : Type 0 where
   pub some : 0 < P .size
   pub most : P .size ≤ 64
   pub inside : (a : ℕ) → a < P .size → P .complement a < P .size
 
 -- a partial order
-pub record Ordered (P : Part) : Type 0 where
+pub record Ordered (P : LatticePart) : Type 0 where
   pub rfl : (a : ℕ) → a < P .size → P .order a a ≡ true
   pub anti : Antisymmetric P
   pub trans : (a b c : ℕ) → a < P .size → b < P .size → c < P .size → P .order a b ≡ true → P .order b c ≡ true → P .order a c ≡ true
 
-pub ordered-out : (P : Part) → partialOrder (P .size) (P .order) ≡ true → Ordered P
+pub ordered-out : (P : LatticePart) → partialOrder (P .size) (P .order) ≡ true → Ordered P
 unfolding partialOrder reflexive antisymmetric transitive
 ordered-out P t =
     let ra : (reflexive (P .size) (P .order) && antisymmetric (P .size) (P .order)) ≡ true = and-l (reflexive (P .size) (P .order) && antisymmetric (P .size) (P .order)) _ t in
@@ -43,7 +43,7 @@ ordered-out P t =
       trans = λ a b c l m k p q. ⇒-elim (P .order b c) _ (⇒-elim (P .order a b) _ (all3-at (P .size) _ (and-r (reflexive (P .size) (P .order) && antisymmetric (P .size) (P .order)) _ t) a b c l m k) p) q;
     }
 
-pub ordered-in : (P : Part) → Ordered P → partialOrder (P .size) (P .order) ≡ true
+pub ordered-in : (P : LatticePart) → Ordered P → partialOrder (P .size) (P .order) ≡ true
 unfolding partialOrder reflexive antisymmetric transitive
 ordered-in P w =
     and-in _ _
@@ -51,11 +51,11 @@ ordered-in P w =
     (all3-in (P .size) _ (λ a b c l m k. ⇒-in (P .order a b) _ (λ p. ⇒-in (P .order b c) _ (w .trans a b c l m k p))))
 
 -- every two elements have a meet and a join
-pub record Bounded (P : Part) : Type 0 where
+pub record Bounded (P : LatticePart) : Type 0 where
   pub meet-lt : (a b : ℕ) → a < P .size → b < P .size → meetOf P a b < P .size
   pub join-lt : (a b : ℕ) → a < P .size → b < P .size → joinOf P a b < P .size
 
-pub bounded-out : (P : Part) → bounded P ≡ true → Bounded P
+pub bounded-out : (P : LatticePart) → bounded P ≡ true → Bounded P
 unfolding bounded
 bounded-out P t =
     record {
@@ -63,13 +63,13 @@ bounded-out P t =
       join-lt = λ a b l m. ltb-true _ _ (and-r (ltb (meetOf P a b) (P .size)) _ (all2-at (P .size) _ t a b l m));
     }
 
-pub bounded-in : (P : Part) → Bounded P → bounded P ≡ true
+pub bounded-in : (P : LatticePart) → Bounded P → bounded P ≡ true
 unfolding bounded
 bounded-in P w = all2-in (P .size) _ (λ a b l m. and-in _ _ (lt-ltb _ _ (w .meet-lt a b l m)) (lt-ltb _ _ (w .join-lt a b l m)))
 
 -- ---- the other way round
 
-ordered-reversed : (P : Part) → Ordered P → Ordered (reversed P)
+ordered-reversed : (P : LatticePart) → Ordered P → Ordered (reversed P)
 ordered-reversed P w =
     record {
       rfl = w .rfl;
@@ -77,7 +77,7 @@ ordered-reversed P w =
       trans = λ a b c l m k p q. w .trans c b a k m l q p;
     }
 
-bounded-reversed : (P : Part) → Bounded P → Bounded (reversed P)
+bounded-reversed : (P : LatticePart) → Bounded P → Bounded (reversed P)
 bounded-reversed P w =
     record {
       meet-lt = λ a b l m. rw (← join-reversed) (w .join-lt a b l m);
@@ -85,20 +85,20 @@ bounded-reversed P w =
     }
 
 -- what the meet and the join of two elements are
-pub meet-at : (P : Part) → Bounded P → (a b : ℕ) → a < P .size → b < P .size → MeetAt P a b (meetOf P a b)
+pub meet-at : (P : LatticePart) → Bounded P → (a b : ℕ) → a < P .size → b < P .size → MeetAt P a b (meetOf P a b)
 meet-at P w a b l m = meet-is P a b (w .meet-lt a b l m)
 
-pub join-at : (P : Part) → Bounded P → (a b : ℕ) → a < P .size → b < P .size → MeetAt (reversed P) a b (joinOf P a b)
+pub join-at : (P : LatticePart) → Bounded P → (a b : ℕ) → a < P .size → b < P .size → MeetAt (reversed P) a b (joinOf P a b)
 join-at P w a b l m = rw join-reversed (meet-at (reversed P) (bounded-reversed P w) a b l m)
 
 -- ---- there is a top: the join of all
 
 -- m is an element at or above the first k
-record AboveUpTo (P : Part) (k m : ℕ) : Type 0 where
+record AboveUpTo (P : LatticePart) (k m : ℕ) : Type 0 where
   inside : m < P .size
   above : (c : ℕ) → c < k → P .order c m ≡ true
 
-above-up-to : (P : Part) → 0 < P .size → Ordered P → Bounded P → (k : ℕ) → k ≤ P .size → AboveUpTo P k (boundUpTo (joinOf P) k)
+above-up-to : (P : LatticePart) → 0 < P .size → Ordered P → Bounded P → (k : ℕ) → k ≤ P .size → AboveUpTo P k (boundUpTo (joinOf P) k)
 unfolding boundUpTo
 above-up-to P s o w zero l = record { inside = s; above = λ c h. absurd (not-suc-le-zero h) }
 above-up-to P s o w (suc k) l = go (above-up-to P s o w k (omega arith))
@@ -113,28 +113,28 @@ above-up-to P s o w (suc k) l = go (above-up-to P s o w k (omega arith))
               (λ c h. o .trans c _ _ (omega arith) (v .inside) i (v .above c h) (j .left)) (j .right);
         }
 
-pub top-is : (P : Part) → 0 < P .size → Ordered P → Bounded P → TopAt P (boundUpTo (joinOf P) (P .size))
+pub top-is : (P : LatticePart) → 0 < P .size → Ordered P → Bounded P → TopAt P (boundUpTo (joinOf P) (P .size))
 top-is P s o w = let v = above-up-to P s o w (P .size) (le-refl _) in record { inside = v .inside; above = v .above }
 
 -- top and bottom are the join and the meet of all
-pub top-found : (P : Part) → 0 < P .size → Ordered P → Bounded P → topOf P ≡ boundUpTo (joinOf P) (P .size)
+pub top-found : (P : LatticePart) → 0 < P .size → Ordered P → Bounded P → topOf P ≡ boundUpTo (joinOf P) (P .size)
 top-found P s o w = top-only P _ (o .anti) (top-is P s o w)
 
-pub bot-found : (P : Part) → 0 < P .size → Ordered P → Bounded P → botOf P ≡ boundUpTo (meetOf P) (P .size)
+pub bot-found : (P : LatticePart) → 0 < P .size → Ordered P → Bounded P → botOf P ≡ boundUpTo (meetOf P) (P .size)
 unfolding joinOf meetOf Rattle.theory.specs.Part.isJoin Rattle.theory.specs.Part.isMeet
 bot-found P s o w = bot-reversed P ∙ top-found (reversed P) s (ordered-reversed P o) (bounded-reversed P w)
 
 -- ---- the laws
 
 -- a part to which none of the refusals applies
-pub record Sound (P : Part) : Type 0 where
+pub record LatticeSound (P : LatticePart) : Type 0 where
   pub formed : Formed P
   pub ordered : Ordered P
   pub bounds : Bounded P
   pub distributes : distributive (P .size) (meetOf P) (joinOf P) ≡ true
   pub complements : complementRules (P .size) (P .order) (P .complement) ≡ true
 
-module _ (P : Part) (s : Sound P) where
+module _ (P : LatticePart) (s : LatticeSound P) where
   -- a number as an element
   abbrev e : ℕ → ℕ
   e = element (P .size)
@@ -233,15 +233,15 @@ explicit-out n b t4 =
       orders = λ i l. ltb-true _ _ (all-at (n * n) _ (and-r (leb 1 n && leb n 64 && eqb (length b) (1 + n + n * n) && allBelow n (λ i. ltb (getD b (1 + i) 0) n)) _ t4) i l);
     }
 
-pub formed : (b : List ℕ) → latticeForm b ≡ true → Formed (latticePart b)
-unfolding latticeForm latticePart
+pub formed : (b : List ℕ) → latticeForm b ≡ true → Formed (latticeOf b)
+unfolding latticeForm latticeOf
 formed b t = go (isPanel b) t
   where
     go : (p : Bool) → (p || explicitForm (getD b 0 0) b) ≡ true → Formed (cond p panelPart (explicitPart b))
     go true f = record { some = omega arith; most = omega arith; inside = λ a l. omega arith }
     go false f = let w = explicit-out _ b f in record { some = w .some; most = w .most; inside = w .complements }
 
-require-out : (t : Bool) (f : Refusal) (next : LatticeReading) (P : Part) → require t f next ≡ accepted P → (t ≡ true) × (next ≡ accepted P)
+require-out : (t : Bool) (f : Refusal) (next : LatticeReading) (P : LatticePart) → require t f next ≡ accepted P → (t ≡ true) × (next ≡ accepted P)
 unfolding require
 require-out true f next P h = (refl, h)
 require-out false f next P h = absurd (let z : _≡_ {A = ℕ} 0 1 = cc in omega arith)
@@ -249,25 +249,25 @@ require-out false f next P h = absurd (let z : _≡_ {A = ℕ} 0 1 = cc in omega
 -- ---- the theorems
 
 -- The part that is accepted is the one that the bytes give, and no refusal applies to it.
-pub accepted-sound : (b : List ℕ) (P : Part) → latticeReading b ≡ accepted P → (P ≡ latticePart b) × Sound (latticePart b)
+pub accepted-sound : (b : List ℕ) (P : LatticePart) → latticeReading b ≡ accepted P → (P ≡ latticeOf b) × LatticeSound (latticeOf b)
 unfolding latticeReading partReading
 accepted-sound b P h =
     let f = require-out (latticeForm b) _ _ P h in
-    let o = require-out (partialOrder (latticePart b .size) (latticePart b .order)) _ _ P (f .1) in
-    let w = require-out (bounded (latticePart b)) _ _ P (o .1) in
-    let d = require-out (distributive (latticePart b .size) (meetOf (latticePart b)) (joinOf (latticePart b))) _ _ P (w .1) in
-    let n = require-out (complementRules (latticePart b .size) (latticePart b .order) (latticePart b .complement)) _ _ P (d .1) in
-    let q : latticePart b ≡ P = cc (n .1) in
+    let o = require-out (partialOrder (latticeOf b .size) (latticeOf b .order)) _ _ P (f .1) in
+    let w = require-out (bounded (latticeOf b)) _ _ P (o .1) in
+    let d = require-out (distributive (latticeOf b .size) (meetOf (latticeOf b)) (joinOf (latticeOf b))) _ _ P (w .1) in
+    let n = require-out (complementRules (latticeOf b .size) (latticeOf b .order) (latticeOf b .complement)) _ _ P (d .1) in
+    let q : latticeOf b ≡ P = cc (n .1) in
     (sym q, record { formed = formed b (f .0); ordered = ordered-out _ (o .0); bounds = bounded-out _ (w .0); distributes = d .0; complements = n .0 })
 
 -- Where no refusal applies, the operations read from the part obey the laws of a distributive De Morgan lattice.
-pub accepted-is-lattice : (b : List ℕ) (P : Part) → latticeReading b ≡ accepted P → Laws (opsOf P)
-accepted-is-lattice b P h = let w = accepted-sound b P h in rw (w .0) (lawsOf (latticePart b) (w .1))
+pub accepted-is-lattice : (b : List ℕ) (P : LatticePart) → latticeReading b ≡ accepted P → Laws (opsOf P)
+accepted-is-lattice b P h = let w = accepted-sound b P h in rw (w .0) (lawsOf (latticeOf b) (w .1))
 
 -- ---- exactly the distributive De Morgan lattices
 
 -- The order and the complement of P are those of a distributive De Morgan lattice on the numbers below n, with some meet and join.
-pub record DeMorganLattice (P : Part) : Type 0 where
+pub record DeMorganLattice (P : LatticePart) : Type 0 where
   pub rfl : (a : ℕ) → a < P .size → P .order a a ≡ true
   pub antisym : (a b : ℕ) → a < P .size → b < P .size → P .order a b ≡ true → P .order b a ≡ true → a ≡ b
   pub trans : (a b c : ℕ) → a < P .size → b < P .size → c < P .size → P .order a b ≡ true → P .order b c ≡ true → P .order a c ≡ true
@@ -282,7 +282,7 @@ pub record DeMorganLattice (P : Part) : Type 0 where
   pub involution : (a : ℕ) → a < P .size → P .complement (P .complement a) ≡ a
   pub antitone : (a b : ℕ) → a < P .size → b < P .size → P .order a b ≡ true → P .order (P .complement b) (P .complement a) ≡ true
 
-module _ (P : Part) (D : DeMorganLattice P) where
+module _ (P : LatticePart) (D : DeMorganLattice P) where
   lattice-ordered : Ordered P
   lattice-ordered = record { rfl = D .rfl; anti = record { same = D .antisym }; trans = D .trans }
 
@@ -319,13 +319,13 @@ module _ (P : Part) (D : DeMorganLattice P) where
       (all2-in (P .size) _ (λ a b l m. ⇒-in (P .order a b) _ (D .antitone a b l m)))
 
 -- A part of the right form whose order and complement are those of a distributive De Morgan lattice on its n elements is accepted.
-pub lattice-is-accepted : (b : List ℕ) → latticeForm b ≡ true → DeMorganLattice (latticePart b) → latticeReading b ≡ accepted (latticePart b)
+pub lattice-is-accepted : (b : List ℕ) → latticeForm b ≡ true → DeMorganLattice (latticeOf b) → latticeReading b ≡ accepted (latticeOf b)
 unfolding latticeReading partReading require
 lattice-is-accepted b f D =
     rw (f, ordered-in _ (lattice-ordered _ D), bounded-in _ (lattice-bounded _ D), lattice-distributive _ D, lattice-complements _ D)
 
 -- what the tests say of the elements themselves
-sound-lattice : (P : Part) → Sound P → DeMorganLattice P
+sound-lattice : (P : LatticePart) → LatticeSound P → DeMorganLattice P
 sound-lattice P s =
     record {
       rfl = s .ordered .rfl;
@@ -344,9 +344,9 @@ sound-lattice P s =
     }
 
 -- Accepted are exactly the parts of the right form whose order and complement are those of a distributive De Morgan lattice.
-pub accepted-exactly : (b : List ℕ) → (latticeReading b ≡ accepted (latticePart b)) ↔ ((latticeForm b ≡ true) × DeMorganLattice (latticePart b))
+pub lattice-exactly : (b : List ℕ) → (latticeReading b ≡ accepted (latticeOf b)) ↔ ((latticeForm b ≡ true) × DeMorganLattice (latticeOf b))
 unfolding latticeReading
-accepted-exactly b = (
+lattice-exactly b = (
   λ e. (require-out (latticeForm b) _ _ _ e .0, sound-lattice _ (accepted-sound b _ e .1)),
   λ w. lattice-is-accepted b (w .0) (w .1),
 )
@@ -354,12 +354,12 @@ accepted-exactly b = (
 -- ---- from operations that obey the laws for all numbers
 
 -- The elements of O are the numbers below n, and its order and complement on them are those of the part.
-pub record SameLattice (P : Part) (O : Ops ℕ) : Type 0 where
+pub record SameLattice (P : LatticePart) (O : Ops ℕ) : Type 0 where
   pub elements : (a : ℕ) → O .isElement a ≡ ltb a (P .size)
   pub orders : (a b : ℕ) → a < P .size → b < P .size → O .atMost a b ≡ P .order a b
   pub complements : (a : ℕ) → a < P .size → O .neg a ≡ P .complement a
 
-module _ (P : Part) (O : Ops ℕ) (L : Laws O) (w : SameLattice P O) where
+module _ (P : LatticePart) (O : Ops ℕ) (L : Laws O) (w : SameLattice P O) where
   open Laws L using (rfl, trans, antisym, meet-l, meet-r, meet-glb, join-l, join-r, join-lub, dist, neg-anti, neg-in, neg-out, meet-element, join-element, neg-element)
 
   is-element : (a : ℕ) → a < P .size → O .isElement a ≡ true

@@ -6,7 +6,7 @@ use native.Mathlib.Nat.{le-refl}
 use native.Mathlib.Omega.{arith}
 use borrow.Author.Tests.{leb-true, leb-false}
 use lib.Dec.{ltb, leb}
-use Rattle.theory.specs.Part.{Part, isMeet, meetOf, joinOf, topOf, botOf, element, opsOf}
+use Rattle.theory.specs.Part.{LatticePart, isMeet, meetOf, joinOf, topOf, botOf, element, opsOf}
 use Rattle.theory.specs.Test.{allBelow, firstBelow, _⇒_, bool-same, all-cong}
 use Rattle.lattice.specs.Bounds.{element-lt, reversed, join-reversed, bot-reversed, MeetAt, meet-in, meet-out}
 
@@ -16,14 +16,14 @@ first-cong zero f g h = refl
 first-cong (suc n) f g h = rw (first-cong n f g (λ i l. h i (omega arith)), h n (le-refl _))
 
 -- the same elements, in the same order
-pub record SameOrder (P Q : Part) : Type 0 where
+pub record SameOrder (P Q : LatticePart) : Type 0 where
   pub sizes : P .size ≡ Q .size
   pub orders : (a b : ℕ) → a < P .size → b < P .size → P .order a b ≡ Q .order a b
 
-pub same-reversed : (P Q : Part) → SameOrder P Q → SameOrder (reversed P) (reversed Q)
+pub same-reversed : (P Q : LatticePart) → SameOrder P Q → SameOrder (reversed P) (reversed Q)
 same-reversed P Q w = record { sizes = w .sizes; orders = λ a b l m. w .orders b a m l }
 
-module _ (P Q : Part) (w : SameOrder P Q) where
+module _ (P Q : LatticePart) (w : SameOrder P Q) where
   is-meet-same : (a b m : ℕ) → a < P .size → b < P .size → m < P .size → isMeet P a b m ≡ isMeet Q a b m
   unfolding isMeet
   is-meet-same a b m l k j =
@@ -41,22 +41,22 @@ module _ (P Q : Part) (w : SameOrder P Q) where
       first-cong (P .size) _ _ (λ a l. all-cong (P .size) _ _ (λ b k. w .orders b a k l) ∙ ap (λ n. allBelow n (λ b. Q .order b a)) (w .sizes))
       ∙ ap (λ n. firstBelow n (λ a. allBelow (Q .size) (λ b. Q .order b a))) (w .sizes)
 
-pub join-same-order : (P Q : Part) → SameOrder P Q → (a b : ℕ) → a < P .size → b < P .size → joinOf P a b ≡ joinOf Q a b
+pub join-same-order : (P Q : LatticePart) → SameOrder P Q → (a b : ℕ) → a < P .size → b < P .size → joinOf P a b ≡ joinOf Q a b
 join-same-order P Q w a b l k = join-reversed P a b ∙ meet-same-order (reversed P) (reversed Q) (same-reversed P Q w) a b l k ∙ sym (join-reversed Q a b)
 
-pub bot-same-order : (P Q : Part) → SameOrder P Q → botOf P ≡ botOf Q
+pub bot-same-order : (P Q : LatticePart) → SameOrder P Q → botOf P ≡ botOf Q
 bot-same-order P Q w = bot-reversed P ∙ top-same-order (reversed P) (reversed Q) (same-reversed P Q w) ∙ sym (bot-reversed Q)
 
 -- ---- the order of the two elements does not matter
 
-pub meet-comm : (P : Part) (a b : ℕ) → meetOf P a b ≡ meetOf P b a
+pub meet-comm : (P : LatticePart) (a b : ℕ) → meetOf P a b ≡ meetOf P b a
 unfolding meetOf
 meet-comm P a b = first-cong (P .size) _ _ (λ m l. bool-same _ _ (λ t. meet-in P b a m (swap a b m (meet-out P a b m t))) (λ t. meet-in P a b m (swap b a m (meet-out P b a m t))))
   where
     swap : (a b m : ℕ) → MeetAt P a b m → MeetAt P b a m
     swap a b m v = record { left = v .right; right = v .left; greatest = λ c l p q. v .greatest c l q p }
 
-pub join-comm : (P : Part) (a b : ℕ) → joinOf P a b ≡ joinOf P b a
+pub join-comm : (P : LatticePart) (a b : ℕ) → joinOf P a b ≡ joinOf P b a
 join-comm P a b = join-reversed P a b ∙ meet-comm (reversed P) a b ∙ sym (join-reversed P b a)
 
 -- an operation that does not care gives the same for the lesser and the greater number
@@ -78,7 +78,7 @@ by-number f h a b = go (leb a b) refl
 -- ---- the operations
 
 -- Parts of the same size, order and complement have the same operations.
-pub ops-same : (P Q : Part) → 0 < P .size → SameOrder P Q → ((a : ℕ) → a < P .size → P .complement a ≡ Q .complement a) → opsOf P ≡ opsOf Q
+pub ops-same : (P Q : LatticePart) → 0 < P .size → SameOrder P Q → ((a : ℕ) → a < P .size → P .complement a ≡ Q .complement a) → opsOf P ≡ opsOf Q
 ops-same P Q s w h =
     let lt : (a : ℕ) → element (P .size) a < P .size = λ a. element-lt (P .size) a s in
     let e : (a : ℕ) → element (P .size) a ≡ element (Q .size) a = λ a. ap (λ n. element n a) (w .sizes) in

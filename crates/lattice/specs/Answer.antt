@@ -2,7 +2,7 @@
 use mathlib.Core.Path.{_≡_}
 use mathlib.Core.List.{List}
 use Prim.Native.Nat.{ℕ}
-use Rattle.theory.specs.Part.{Part, topOf, botOf, opsOf}
+use Rattle.theory.specs.Part.{LatticePart, topOf, botOf, opsOf}
 use Rattle.operations.specs.Table.{opsIn}
 use Rattle.operations.specs.declared.Lattice.{Lattice}
 use Rattle.lattice.specs.Reading.{LatticeReading, refused, accepted}
@@ -10,16 +10,16 @@ use Rattle.lattice.specs.declared.LatticeCheck.{LatticeCheck}
 use Rattle.lattice.specs.declared.LatticeCheck.the-variants.{Refused, Accepted}
 
 -- n, top and bottom of a part
-abbrev pub boundsOf : Part → Lattice
+abbrev pub boundsOf : LatticePart → Lattice
 boundsOf P = record { size = P .size; top = record { 0 = topOf P }; bottom = record { 0 = botOf P } }
 
 -- the answer for a reading
-abbrev pub answerOf : LatticeReading → LatticeCheck
-answerOf (refused f) = Refused f
-answerOf (accepted P) = Accepted (boundsOf P)
+abbrev pub latticeAnswer : LatticeReading → LatticeCheck
+latticeAnswer (refused f) = Refused f
+latticeAnswer (accepted P) = Accepted (boundsOf P)
 
 -- The answer r is the reading's, and where the part P is accepted, the tables t hold the operations of P. After a refusal the tables are
 -- free.
 pub record Answered (reading : LatticeReading) (r : LatticeCheck) (t : List ℕ) : Type 0 where
-  pub answer : r ≡ answerOf reading
-  pub tables : (P : Part) → reading ≡ accepted P → opsIn t (boundsOf P) ≡ opsOf P
+  pub answer : r ≡ latticeAnswer reading
+  pub tables : (P : LatticePart) → reading ≡ accepted P → opsIn t (boundsOf P) ≡ opsOf P

@@ -7,7 +7,7 @@ use native.Mathlib.Omega.{arith}
 use borrow.Author.Tests.{ltb-true, lt-ltb}
 use lib.Dec.{ltb, eqb}
 use Rattle.theory.specs.Simulation.{one}
-use Rattle.theory.specs.Part.{Part, isMeet, isJoin, meetOf, joinOf, topOf, botOf, element}
+use Rattle.theory.specs.Part.{LatticePart, isMeet, isJoin, meetOf, joinOf, topOf, botOf, element}
 use Rattle.theory.specs.Test.{allBelow, firstBelow, and-l, and-r, and-in, ⇒-elim, ⇒-in, not-passed, false-true, all-at, all-in, first-is, first-unique}
 use Rattle.lattice.specs.Reading.{all2, all3}
 
@@ -65,34 +65,34 @@ first-some n f m l p = let x : ¬ (m < firstBelow n f) = λ k. false-true (first
 -- ---- one order and the other way round
 
 -- the part with its order the other way round: its meets are the joins, and its top is the bottom
-abbrev pub reversed : Part → Part
+abbrev pub reversed : LatticePart → LatticePart
 reversed P = record { size = P .size; complement = P .complement; order = λ a b. P .order b a }
 
-pub join-reversed : (P : Part) (a b : ℕ) → joinOf P a b ≡ meetOf (reversed P) a b
+pub join-reversed : (P : LatticePart) (a b : ℕ) → joinOf P a b ≡ meetOf (reversed P) a b
 unfolding joinOf meetOf isJoin isMeet
 join-reversed P a b = refl
 
-pub meet-reversed : (P : Part) (a b : ℕ) → meetOf P a b ≡ joinOf (reversed P) a b
+pub meet-reversed : (P : LatticePart) (a b : ℕ) → meetOf P a b ≡ joinOf (reversed P) a b
 unfolding joinOf meetOf isJoin isMeet
 meet-reversed P a b = refl
 
-pub bot-reversed : (P : Part) → botOf P ≡ topOf (reversed P)
+pub bot-reversed : (P : LatticePart) → botOf P ≡ topOf (reversed P)
 unfolding botOf topOf
 bot-reversed P = refl
 
 -- ---- meets
 
 -- m is the meet of a and b
-pub record MeetAt (P : Part) (a b m : ℕ) : Type 0 where
+pub record MeetAt (P : LatticePart) (a b m : ℕ) : Type 0 where
   pub left : P .order m a ≡ true
   pub right : P .order m b ≡ true
   pub greatest : (c : ℕ) → c < P .size → P .order c a ≡ true → P .order c b ≡ true → P .order c m ≡ true
 
 -- two elements at or below one another are the same
-pub record Antisymmetric (P : Part) : Type 0 where
+pub record Antisymmetric (P : LatticePart) : Type 0 where
   pub same : (a b : ℕ) → a < P .size → b < P .size → P .order a b ≡ true → P .order b a ≡ true → a ≡ b
 
-module _ (P : Part) (a b m : ℕ) where
+module _ (P : LatticePart) (a b m : ℕ) where
   pub meet-out : isMeet P a b m ≡ true → MeetAt P a b m
   unfolding isMeet
   meet-out t =
@@ -109,24 +109,24 @@ module _ (P : Part) (a b m : ℕ) where
       and-in _ _ (and-in _ _ (w .left) (w .right)) (all-in (P .size) _ (λ c l. ⇒-in (P .order c a) _ (λ p. ⇒-in (P .order c b) _ (w .greatest c l p))))
 
 -- where there is a meet, it is found
-pub meet-is : (P : Part) (a b : ℕ) → meetOf P a b < P .size → MeetAt P a b (meetOf P a b)
+pub meet-is : (P : LatticePart) (a b : ℕ) → meetOf P a b < P .size → MeetAt P a b (meetOf P a b)
 unfolding meetOf
 meet-is P a b l = meet-out P a b _ (first-is (P .size) (isMeet P a b) .passes l)
 
-pub meet-some : (P : Part) (a b m : ℕ) → m < P .size → MeetAt P a b m → meetOf P a b < P .size
+pub meet-some : (P : LatticePart) (a b m : ℕ) → m < P .size → MeetAt P a b m → meetOf P a b < P .size
 unfolding meetOf
 meet-some P a b m l w = first-some (P .size) (isMeet P a b) m l (meet-in P a b m w)
 
-pub meet-same : (P : Part) (a b m k : ℕ) → Antisymmetric P → m < P .size → k < P .size → MeetAt P a b m → MeetAt P a b k → k ≡ m
+pub meet-same : (P : LatticePart) (a b m k : ℕ) → Antisymmetric P → m < P .size → k < P .size → MeetAt P a b m → MeetAt P a b k → k ≡ m
 meet-same P a b m k s l j w v = s .same k m j l (w .greatest k j (v .left) (v .right)) (v .greatest m l (w .left) (w .right))
 
 -- ---- the top
 
-pub record TopAt (P : Part) (m : ℕ) : Type 0 where
+pub record TopAt (P : LatticePart) (m : ℕ) : Type 0 where
   pub inside : m < P .size
   pub above : (c : ℕ) → c < P .size → P .order c m ≡ true
 
-pub top-only : (P : Part) (m : ℕ) → Antisymmetric P → TopAt P m → topOf P ≡ m
+pub top-only : (P : LatticePart) (m : ℕ) → Antisymmetric P → TopAt P m → topOf P ≡ m
 unfolding topOf
 top-only P m s w =
     first-only (P .size) _ m (w .inside) (all-in (P .size) _ (w .above))

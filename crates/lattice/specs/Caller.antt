@@ -9,16 +9,16 @@ use Rattle.operations.specs.Table.{opsIn}
 use Rattle.operations.specs.declared.Lattice.{Lattice}
 use Rattle.refusal.specs.declared.Refusal.{Refusal}
 use Rattle.lattice.specs.declared.LatticeCheck.the-variants.{Refused, Accepted}
-use Rattle.lattice.specs.Reading.{LatticeReading, refused, accepted, latticePart, latticeReading}
+use Rattle.lattice.specs.Reading.{LatticeReading, refused, accepted, latticeOf, latticeReading}
 use Rattle.lattice.specs.Answer.{boundsOf, Answered}
-use Rattle.lattice.specs.Accepted.{Sound, accepted-sound, lawsOf}
+use Rattle.lattice.specs.Accepted.{LatticeSound, accepted-sound, lawsOf}
 
 -- after the answer that the part b is accepted with the numbers l
 pub record AcceptedPart (b : List ℕ) (l : Lattice) (t : List ℕ) : Type 0 where
-  pub reading : latticeReading b ≡ accepted (latticePart b)
-  pub bounds : l ≡ boundsOf (latticePart b)
-  pub tables : opsIn t l ≡ opsOf (latticePart b)
-  pub sound : Sound (latticePart b)
+  pub reading : latticeReading b ≡ accepted (latticeOf b)
+  pub bounds : l ≡ boundsOf (latticeOf b)
+  pub tables : opsIn t l ≡ opsOf (latticeOf b)
+  pub sound : LatticeSound (latticeOf b)
   pub laws : Laws (opsIn t l)
 
 pub when-accepted : (b : List ℕ) (l : Lattice) (t : List ℕ) → Answered (latticeReading b) (Accepted l) t → AcceptedPart b l t
@@ -36,7 +36,7 @@ when-accepted b l t w = go (latticeReading b) refl w
           bounds = rw (← s .0) q;
           tables = rw (← s .0) p;
           sound = s .1;
-          laws = rw (p, s .0) (lawsOf (latticePart b) (s .1));
+          laws = rw (p, s .0) (lawsOf (latticeOf b) (s .1));
         }
 
 -- after the answer that it is refused

@@ -8,7 +8,7 @@ use native.Mathlib.Nat.{le-refl}
 use native.Mathlib.Omega.{arith}
 use lib.Dec.{leb, eqb}
 use Rattle.theory.specs.Loop.{Filled}
-use Rattle.theory.specs.Part.{Part, meetOf, joinOf, topOf, botOf, element, opsOf}
+use Rattle.theory.specs.Part.{LatticePart, meetOf, joinOf, topOf, botOf, element, opsOf}
 use Rattle.theory.specs.Test.{_⇒_, all-cong}
 use Rattle.operations.specs.Table.{atMostIn, meetIn, joinIn, complementIn}
 use Rattle.operations.specs.declared.Lattice.{Lattice}
@@ -17,13 +17,13 @@ use Rattle.refusal.specs.declared.Refusal.the-variants.{NotDistributive, BadCom
 use Rattle.lattice.specs.declared.Rule.the-variants.{Order, Distributive, Complement}
 use Rattle.lattice.specs.declared.LatticeCheck.{LatticeCheck}
 use Rattle.lattice.specs.declared.LatticeCheck.the-variants.{Refused, Accepted}
-use Rattle.lattice.specs.Reading.{LatticeReading, accepted, all2, reflexive, antisymmetric, transitive, partialOrder, distributive, complementRules, require, latticeForm, latticePart}
+use Rattle.lattice.specs.Reading.{LatticeReading, accepted, all2, reflexive, antisymmetric, transitive, partialOrder, distributive, complementRules, require, latticeForm, latticeOf}
 use Rattle.lattice.specs.Answer.{boundsOf, Answered}
 use Rattle.lattice.specs.Bounds.{element-id, boundUpTo}
 use Rattle.lattice.specs.Accepted.{Formed, Ordered, Bounded, formed, top-found, bot-found}
 use Rattle.lattice.specs.Scan.{joinOrMeet}
 use Rattle.lattice.specs.Distributive.{distributes, distributePair, distribute-pairs}
-use Rattle.lattice.specs.Tables.{tableOf, tableOps, filled-order, filled-meet, filled-join, filled-neg, filled-ops}
+use Rattle.lattice.specs.Tables.{tableEntry, tableOps, filled-order, filled-meet, filled-join, filled-neg, filled-ops}
 use Rattle.lattice.specs.Pairs.{allPairs, order-pairs, distributive-pairs, complement-pairs}
 
 -- ---- tests of functions that agree below n
@@ -65,12 +65,12 @@ module _ (n : ℕ) where
 -- ---- the tests on the tables are those of the part
 
 -- the first q places of the tables t hold what belongs there, and n is the part's size
-pub record Holds (P : Part) (q n : ℕ) (t : List ℕ) : Type 0 where
+pub record TablesHold (P : LatticePart) (q n : ℕ) (t : List ℕ) : Type 0 where
   pub formed : Formed P
   pub sizes : n ≡ P .size
-  pub filled : Filled (tableOf (opsOf P)) q t
+  pub filled : Filled (tableEntry (opsOf P)) q t
 
-module _ {P : Part} {q n : ℕ} {t : List ℕ} (h : Holds P q n t) where
+module _ {P : LatticePart} {q n : ℕ} {t : List ℕ} (h : TablesHold P q n t) where
   id : (a : ℕ) → a < P .size → element (P .size) a ≡ a
   id a l = element-id (P .size) a (h .formed .most) l
 
@@ -124,13 +124,13 @@ module _ {P : Part} {q n : ℕ} {t : List ℕ} (h : Holds P q n t) where
           ∙ sym (bot-found P (h .formed .some) o b)
 
 -- the tables of the part that some bytes of the right form give
-pub holds : (b : List ℕ) {q n : ℕ} {t : List ℕ} → latticeForm b ≡ true → n ≡ latticePart b .size → Filled (tableOf (opsOf (latticePart b))) q t → Holds (latticePart b) q n t
-holds b f e w = record { formed = formed b f; sizes = e; filled = w }
+pub tables-hold : (b : List ℕ) {q n : ℕ} {t : List ℕ} → latticeForm b ≡ true → n ≡ latticeOf b .size → Filled (tableEntry (opsOf (latticeOf b))) q t → TablesHold (latticeOf b) q n t
+tables-hold b f e w = record { formed = formed b f; sizes = e; filled = w }
 
 -- ---- the answer after each test
 
 -- what is read of a part after refusals 4 to 6
-abbrev pub rulesReading : Part → LatticeReading
+abbrev pub rulesReading : LatticePart → LatticeReading
 rulesReading P =
     require (distributive (P .size) (meetOf P) (joinOf P)) NotDistributive
     (require (complementRules (P .size) (P .order) (P .complement)) BadComplement
@@ -146,7 +146,7 @@ unfolding require
 answered-next true f next r t e w = w
 answered-next false f next r t e w = absurd (let z : _≡_ {A = ℕ} 0 1 = cc in omega arith)
 
-pub answered-accepted : {P : Part} {n : ℕ} {t : List ℕ} (l : Lattice) → Holds P 12352 n t → l .size ≡ n → l .top .0 ≡ topOf P → l .bottom .0 ≡ botOf P → Answered (accepted P) (Accepted l) t
+pub answered-accepted : {P : LatticePart} {n : ℕ} {t : List ℕ} (l : Lattice) → TablesHold P 12352 n t → l .size ≡ n → l .top .0 ≡ topOf P → l .bottom .0 ≡ botOf P → Answered (accepted P) (Accepted l) t
 answered-accepted {P} {n} {t} l h s u d =
     let m = s ∙ h .sizes in
     let e : l ≡ boundsOf P = λ i. record { size = m i; top = record { 0 = u i }; bottom = record { 0 = d i } } in

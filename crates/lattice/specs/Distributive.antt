@@ -1,4 +1,4 @@
--- Distributivity is tested for each two elements that are not in order, once: for the others it holds in every lattice. Rests on theory's
+-- Distributivity is tested for each two elements that are not in order, once: for the others it tables-hold in every lattice. Rests on theory's
 -- Part and Test, Reading, Bounds, Accepted, Agree.
 use Prim.Native.Nat.{ℕ, _≤_, _<_}
 use mathlib.Core.Path.{_≡_, refl, sym, ap, ap₂, _∙_}
@@ -6,7 +6,7 @@ use mathlib.Core.Bool.{Bool, true, false, cond}
 use native.Mathlib.Omega.{arith}
 use borrow.Author.Tests.{leb-true, leb-false, le-leb, lt-leb, eqb-true, eq-eqb}
 use lib.Dec.{leb, eqb}
-use Rattle.theory.specs.Part.{Part, meetOf, joinOf}
+use Rattle.theory.specs.Part.{LatticePart, meetOf, joinOf}
 use Rattle.theory.specs.Test.{allBelow, bool-same, all-at, all-in}
 use Rattle.lattice.specs.Reading.{all2, distributive}
 use Rattle.lattice.specs.Bounds.{all2-at, all2-in, all3-at, all3-in, reversed, MeetAt, meet-same}
@@ -24,7 +24,7 @@ distributes n meet join b c = allBelow n (distributesAt meet join b c (join b c)
 unfoldable pub distributePair : ℕ → (ℕ → ℕ → Bool) → (ℕ → ℕ → ℕ) → (ℕ → ℕ → ℕ) → ℕ → ℕ → Bool
 distributePair n le meet join b c = cond (leb b c) true (cond (le b c) true (cond (le c b) true (distributes n meet join b c)))
 
-module _ (P : Part) (o : Ordered P) (w : Bounded P) where
+module _ (P : LatticePart) (o : Ordered P) (w : Bounded P) where
   abbrev Even : ℕ → ℕ → ℕ → Type 0
   Even a b c = meetOf P a (joinOf P b c) ≡ joinOf P (meetOf P a b) (meetOf P a c)
 

@@ -8,11 +8,11 @@ use native.Mathlib.Omega.{arith}
 use borrow.Author.Tests.{eqb-true, lt-ltb, le-leb, eq-eqb}
 use lib.Dec.{ltb, eqb}
 use lib.ListN.{length, getD}
-use Rattle.theory.specs.Part.{Part, explicitPart}
+use Rattle.theory.specs.Part.{LatticePart, explicitPart}
 use Rattle.theory.specs.Simulation.{one}
 use Rattle.theory.specs.Test.{allBelow, and-l, not-passed, false-true, all-in}
 use Rattle.lattice.specs.Panel.{panelOrder, panelPart}
-use Rattle.lattice.specs.Reading.{isPanel, latticePart, explicitForm, latticeForm}
+use Rattle.lattice.specs.Reading.{isPanel, latticeOf, explicitForm, latticeForm}
 use Rattle.lattice.specs.Accepted.{ExplicitForm, explicit-out}
 
 -- n² for n up to 64
@@ -24,12 +24,12 @@ unfolding isPanel
 panel-length b p = eqb-true _ _ (and-l (eqb (length b) 1) _ p)
 
 module _ (b : List ℕ) where
-  pub part-panel : isPanel b ≡ true → latticePart b ≡ panelPart
-  unfolding latticePart
+  pub part-panel : isPanel b ≡ true → latticeOf b ≡ panelPart
+  unfolding latticeOf
   part-panel p = rw p
 
-  pub part-explicit : isPanel b ≡ false → latticePart b ≡ explicitPart b
-  unfolding latticePart
+  pub part-explicit : isPanel b ≡ false → latticeOf b ≡ explicitPart b
+  unfolding latticeOf
   part-explicit p = rw p
 
   pub form-explicit : latticeForm b ≡ true → isPanel b ≡ false → ExplicitForm (getD b 0 0) b
@@ -73,9 +73,9 @@ bit (suc (suc x)) l = absurd (omega arith)
 pub record OrderEntry (b : List ℕ) (n i j : ℕ) : Type 0 where
   pub product : i * n ≤ 4096
   pub inside : 1 + n + (i * n + j) < length b
-  pub value : getD b (1 + n + (i * n + j)) 0 ≡ one (latticePart b .order i j)
+  pub value : getD b (1 + n + (i * n + j)) 0 ≡ one (latticeOf b .order i j)
 
-pub order-at : (b : List ℕ) (n i j : ℕ) → latticeForm b ≡ true → isPanel b ≡ false → n ≡ getD b 0 0 → i < latticePart b .size → j < latticePart b .size → OrderEntry b n i j
+pub order-at : (b : List ℕ) (n i j : ℕ) → latticeForm b ≡ true → isPanel b ≡ false → n ≡ getD b 0 0 → i < latticeOf b .size → j < latticeOf b .size → OrderEntry b n i j
 order-at b n i j f p e l m =
     let w : ExplicitForm n b = rw e (form-explicit b f p) in
     let q = part-explicit b p in
@@ -83,7 +83,7 @@ order-at b n i j f p e l m =
     let m2 : j < n = rw (e, ← ap (λ P. P .size) q) m in
     let s = square-le n (w .most) in
     let c : i * n + j < n * n = omega (arith, suc-mul i n, mul-le-mul-right n l2) in
-    let v : eqb (getD b (1 + n + (i * n + j)) 0) 1 ≡ latticePart b .order i j = rw (q, ← e) in
+    let v : eqb (getD b (1 + n + (i * n + j)) 0) 1 ≡ latticeOf b .order i j = rw (q, ← e) in
     record {
       product = omega arith;
       inside = omega (arith, w .exact);
@@ -94,7 +94,7 @@ order-at b n i j f p e l m =
 abbrev pub panelEntry : ℕ → ℕ
 panelEntry k = one (panelOrder (k / 27) (k % 27))
 
-pub panel-at : (b : List ℕ) (i j : ℕ) → isPanel b ≡ true → i < latticePart b .size → j < latticePart b .size → (i * 27 + j < 729) × (panelEntry (i * 27 + j) ≡ one (latticePart b .order i j))
+pub panel-at : (b : List ℕ) (i j : ℕ) → isPanel b ≡ true → i < latticeOf b .size → j < latticeOf b .size → (i * 27 + j < 729) × (panelEntry (i * 27 + j) ≡ one (latticeOf b .order i j))
 panel-at b i j p l m =
     let q = part-panel b p in
     let l2 : i < 27 = rw (← ap (λ P. P .size) q) l in
@@ -105,13 +105,13 @@ panel-at b i j p l m =
 
 -- ---- one complement
 
-pub panel-complement : (b : List ℕ) (a : ℕ) → isPanel b ≡ true → a < latticePart b .size → (a ≤ 26) × (26 - a ≡ latticePart b .complement a)
+pub panel-complement : (b : List ℕ) (a : ℕ) → isPanel b ≡ true → a < latticeOf b .size → (a ≤ 26) × (26 - a ≡ latticeOf b .complement a)
 panel-complement b a p l =
     let q = part-panel b p in
     let l2 : a < 27 = rw (← ap (λ P. P .size) q) l in
     (omega arith, rw q)
 
-pub explicit-complement : (b : List ℕ) (a : ℕ) → latticeForm b ≡ true → isPanel b ≡ false → a < latticePart b .size → (1 + a < length b) × (getD b (1 + a) 0 ≡ latticePart b .complement a)
+pub explicit-complement : (b : List ℕ) (a : ℕ) → latticeForm b ≡ true → isPanel b ≡ false → a < latticeOf b .size → (1 + a < length b) × (getD b (1 + a) 0 ≡ latticeOf b .complement a)
 explicit-complement b a f p l =
     let q = part-explicit b p in
     let l2 : a < getD b 0 0 = rw (← ap (λ P. P .size) q) l in

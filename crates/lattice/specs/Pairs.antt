@@ -5,7 +5,7 @@ use mathlib.Core.Bool.{Bool, true, false, cond, _&&_}
 use borrow.Author.Tests.{eqb-true, eq-eqb}
 use lib.Dec.{eqb}
 use Rattle.theory.specs.Lattice.{Ops}
-use Rattle.theory.specs.Part.{Part}
+use Rattle.theory.specs.Part.{LatticePart}
 use Rattle.theory.specs.Test.{allBelow, _⇒_, and-l, and-r, and-in, ⇒-elim, ⇒-in, bool-same, all-at, all-in}
 use Rattle.lattice.specs.declared.Rule.{Rule}
 use Rattle.lattice.specs.declared.Rule.the-variants.{Order, Distributive, Complement}
@@ -44,7 +44,7 @@ allPairs rule O = allBelow (O .size) (rowTest rule O)
 
 -- ---- the three rules
 
-module _ (P : Part) where
+module _ (P : LatticePart) where
   order-there : all2 (P .size) (orderPair (P .size) (P .order)) ≡ true → Ordered P
   unfolding orderPair above
   order-there t =
@@ -75,7 +75,7 @@ module _ (P : Part) where
 pub order-pairs : (O : Ops ℕ) → allPairs Order O ≡ partialOrder (O .size) (O .atMost)
 unfolding allPairs rowTest pairTest
 order-pairs O =
-    let P : Part = record { size = O .size; complement = O .neg; order = O .atMost } in
+    let P : LatticePart = record { size = O .size; complement = O .neg; order = O .atMost } in
     bool-same _ _ (λ t. ordered-in P (order-there P t)) (λ t. order-back P (ordered-out P t))
 
 pub distributive-pairs : (O : Ops ℕ) → allPairs Distributive O ≡ all2 (O .size) (distributePair (O .size) (O .atMost) (O .meet) (O .join))

@@ -16,7 +16,7 @@ use Rattle.theory.specs.Simulation.{one}
 use Rattle.theory.specs.Part.{opsOf, explicitPart}
 use Rattle.theory.specs.Test.{and-l, and-r, and-in, all-in}
 use Rattle.lattice.specs.Panel.{panelOrder, panelPart}
-use Rattle.lattice.specs.Reading.{isPanel, latticePart, latticeForm, accepted, latticeReading}
+use Rattle.lattice.specs.Reading.{isPanel, latticeOf, latticeForm, accepted, latticeReading}
 use Rattle.lattice.specs.Bounds.{one-test}
 use Rattle.theory.specs.Height.{distinct-le}
 use Rattle.lattice.specs.Accepted.{lattice-is-accepted, ops-lattice}
@@ -167,8 +167,8 @@ panel-complements a l = let x : a % 27 ≡ a = omega arith in ap (λ k. 26 - k) 
 -- ---- the theorems
 
 -- the one byte 0 reads as the panel lattice
-pub panel-read : latticePart (0 ∷ []) ≡ panelPart
-unfolding latticePart isPanel
+pub panel-read : latticeOf (0 ∷ []) ≡ panelPart
+unfolding latticeOf isPanel
 panel-read = refl
 
 -- The panel lattice is accepted like any other.
@@ -196,7 +196,7 @@ module _ (b : List ℕ) (w : PanelBytes b) where
   unfolding isPanel
   not-panel = rw (w .exact)
 
-  explicit : latticePart b ≡ explicitPart b
+  explicit : latticeOf b ≡ explicitPart b
   explicit = part-explicit b not-panel
 
   one-below : (t : Bool) → ltb (one t) 2 ≡ true
@@ -215,14 +215,14 @@ module _ (b : List ℕ) (w : PanelBytes b) where
       ap (λ x. ltb x 2) (rw e at (w .orders (k / 27) (k % 27) (omega arith) (omega arith))) ∙ one-below (panelOrder (k / 27) (k % 27)))
 
   -- An explicit part with the panel's 27 elements has the panel's operations, and is accepted too.
-  pub panel-bytes-same : opsOf (latticePart b) ≡ opsOf panelPart
+  pub panel-bytes-same : opsOf (latticeOf b) ≡ opsOf panelPart
   panel-bytes-same =
       ap opsOf explicit
       ∙ ops-same (explicitPart b) panelPart (rw (w .size) (omega arith))
       (record { sizes = w .size; orders = λ i j l m. same-orders i j (rw (w .size) at l) (rw (w .size) at m) })
       (λ a l. w .complements a (rw (w .size) at l))
 
-  pub panel-bytes-accepted : latticeReading b ≡ accepted (latticePart b)
+  pub panel-bytes-accepted : latticeReading b ≡ accepted (latticeOf b)
   panel-bytes-accepted =
       lattice-is-accepted b has-form
       (ops-lattice _ panelOps panelLaws

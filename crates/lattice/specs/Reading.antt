@@ -4,7 +4,7 @@ use mathlib.Core.Bool.{Bool, true, false, cond, _&&_, _||_}
 use mathlib.Core.List.{List}
 use lib.Dec.{ltb, leb, eqb}
 use lib.ListN.{length, getD}
-use Rattle.theory.specs.Part.{Part, meetOf, joinOf, explicitPart}
+use Rattle.theory.specs.Part.{LatticePart, meetOf, joinOf, explicitPart}
 use Rattle.theory.specs.Test.{allBelow, _⇒_}
 use Rattle.refusal.specs.declared.Refusal.{Refusal}
 use Rattle.refusal.specs.declared.Refusal.the-variants.{LatticeForm, NoPartialOrder, NoMeetOrJoin, NotDistributive, BadComplement}
@@ -16,8 +16,8 @@ use Rattle.lattice.specs.Panel.{panelPart}
 unfoldable pub isPanel : List ℕ → Bool
 isPanel b = eqb (length b) 1 && eqb (getD b 0 0) 0
 
-unfoldable pub latticePart : List ℕ → Part
-latticePart b = cond (isPanel b) panelPart (explicitPart b)
+unfoldable pub latticeOf : List ℕ → LatticePart
+latticeOf b = cond (isPanel b) panelPart (explicitPart b)
 
 -- ---- refusal 4: 'n over 64, a wrong length, a complement not below n, an order byte not 0 or 1'
 
@@ -55,7 +55,7 @@ partialOrder n le = reflexive n le && antisymmetric n le && transitive n le
 
 -- ---- refusal 6: 'a meet or join is missing'. 'Every two elements have a meet and a join.' n stands for none
 
-unfoldable pub bounded : Part → Bool
+unfoldable pub bounded : LatticePart → Bool
 bounded P = all2 (P .size) (λ a b. ltb (meetOf P a b) (P .size) && ltb (joinOf P a b) (P .size))
 
 -- ---- refusal 7: 'not distributive'. 'Meet distributes over join.'
@@ -72,7 +72,7 @@ complementRules n le neg = allBelow n (λ a. eqb (neg (neg a)) a) && all2 n (λ 
 
 pub data LatticeReading : Type 0 where
   refused : Refusal → LatticeReading
-  accepted : Part → LatticeReading
+  accepted : LatticePart → LatticeReading
 
 -- the refusal where its test fails, else what is found next
 unfoldable pub require : Bool → Refusal → LatticeReading → LatticeReading
@@ -80,7 +80,7 @@ require true f next = next
 require false f next = refused f
 
 -- 'The first that applies is given, in this order'
-unfoldable pub partReading : Part → LatticeReading
+unfoldable pub partReading : LatticePart → LatticeReading
 partReading P =
     require (partialOrder (P .size) (P .order)) NoPartialOrder
     (require (bounded P) NoMeetOrJoin
@@ -90,4 +90,4 @@ partReading P =
 
 -- An empty part is refused by the case's directory, with refusal 3, and never gets here; this definition gives it refusal 4.
 unfoldable pub latticeReading : List ℕ → LatticeReading
-latticeReading b = require (latticeForm b) LatticeForm (partReading (latticePart b))
+latticeReading b = require (latticeForm b) LatticeForm (partReading (latticeOf b))

@@ -8,7 +8,7 @@ use native.Mathlib.Omega.{arith}
 use borrow.Author.Tests.{ltb-true, lt-ltb, eqb-true, eqb-false}
 use lib.Dec.{ltb, eqb}
 use Rattle.theory.specs.Test.{below-suc, allBelow, _⇒_, and-l, and-r, and-in, ⇒-elim, ⇒-in, false-true, all-at, all-in, first-is}
-use Rattle.theory.specs.Part.{Part, isMeet, meetOf}
+use Rattle.theory.specs.Part.{LatticePart, isMeet, meetOf}
 use Rattle.lattice.specs.Bounds.{first-only, MeetAt, Antisymmetric, meet-in, meet-out, meet-is, meet-same}
 
 -- the order in which the bound wanted is a meet: the order itself for a meet, the same the other way round for a join (true)
@@ -61,7 +61,7 @@ candidate-more n le a b k = rw add-one
 
 -- ---- what the scans find
 
-module _ (P : Part) (s : Antisymmetric P) (a b : ℕ) where
+module _ (P : LatticePart) (s : Antisymmetric P) (a b : ℕ) where
   -- m is none or at or below a and b; a meet among the first k numbers is m
   record Candidate (k m : ℕ) : Type 0 where
     most : m ≤ P .size

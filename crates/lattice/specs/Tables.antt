@@ -13,7 +13,7 @@ use Rattle.theory.specs.Lattice.{Ops}
 use Rattle.theory.specs.Simulation.{one}
 use Rattle.theory.specs.Loop.{Filled, filled-more}
 use Rattle.theory.specs.Test.{below-suc, not-passed}
-use Rattle.theory.specs.Part.{Part, meetOf, joinOf, topOf, botOf, element, opsOf}
+use Rattle.theory.specs.Part.{LatticePart, meetOf, joinOf, topOf, botOf, element, opsOf}
 use Rattle.operations.specs.Table.{cell, atMostIn, meetIn, joinIn, complementIn, opsIn}
 use Rattle.operations.specs.declared.Lattice.{Lattice}
 use Rattle.lattice.specs.Bounds.{one-test, element-lt, element-id, element-same, reversed, join-reversed, Antisymmetric}
@@ -24,8 +24,8 @@ use Rattle.lattice.specs.Scan.{orderFor, boundFrom, bound-is-meet}
 
 -- What belongs at place k of the tables of a lattice: the order, the meets and the joins, each 64 rows of 64, then the complements.
 -- The operations read any number as an element, so that k / 64 and k stand for the row and the column.
-unfoldable pub tableOf : Ops ℕ → ℕ → ℕ
-tableOf O k =
+unfoldable pub tableEntry : Ops ℕ → ℕ → ℕ
+tableEntry O k =
     cond (ltb k 4096) (one (O .atMost (k / 64) k))
     (cond (ltb k 8192) (O .meet (k / 64) k)
     (cond (ltb k 12288) (O .join (k / 64) k)
@@ -48,20 +48,20 @@ boundAt n t k =
 -- ---- a place by its region
 
 module _ (O : Ops ℕ) (k : ℕ) where
-  pub at-order : k < 4096 → tableOf O k ≡ one (O .atMost (k / 64) k)
-  unfolding tableOf
+  pub at-order : k < 4096 → tableEntry O k ≡ one (O .atMost (k / 64) k)
+  unfolding tableEntry
   at-order l = rw (lt-ltb k 4096 l)
 
-  pub at-meet : 4096 ≤ k → k < 8192 → tableOf O k ≡ O .meet (k / 64) k
-  unfolding tableOf
+  pub at-meet : 4096 ≤ k → k < 8192 → tableEntry O k ≡ O .meet (k / 64) k
+  unfolding tableEntry
   at-meet l m = rw (le-ltb k 4096 l, lt-ltb k 8192 m)
 
-  pub at-join : 8192 ≤ k → k < 12288 → tableOf O k ≡ O .join (k / 64) k
-  unfolding tableOf
+  pub at-join : 8192 ≤ k → k < 12288 → tableEntry O k ≡ O .join (k / 64) k
+  unfolding tableEntry
   at-join l m = rw (le-ltb k 4096 (omega arith), le-ltb k 8192 l, lt-ltb k 12288 m)
 
-  pub at-neg : 12288 ≤ k → tableOf O k ≡ O .neg k
-  unfolding tableOf
+  pub at-neg : 12288 ≤ k → tableEntry O k ≡ O .neg k
+  unfolding tableEntry
   at-neg l = rw (le-ltb k 4096 (omega arith), le-ltb k 8192 (omega arith), le-ltb k 12288 l)
 
 -- the row and the column of a place
@@ -73,7 +73,7 @@ column-of c i j l m = omega arith
 
 -- ---- what filled tables say
 
-module _ (P : Part) (t : List ℕ) (q : ℕ) (f : Filled (tableOf (opsOf P)) q t) where
+module _ (P : LatticePart) (t : List ℕ) (q : ℕ) (f : Filled (tableEntry (opsOf P)) q t) where
   pub filled-order : 4096 ≤ q → atMostIn t ≡ opsOf P .atMost
   filled-order l =
       let h : (a b : ℕ) → atMostIn t a b ≡ opsOf P .atMost a b = λ a b.
@@ -114,9 +114,9 @@ module _ (P : Part) (t : List ℕ) (q : ℕ) (f : Filled (tableOf (opsOf P)) q t
 
 -- ---- the step that fills the meets and the joins
 
-module _ (P : Part) (w : Formed P) (o : Ordered P) where
+module _ (P : LatticePart) (w : Formed P) (o : Ordered P) where
   -- the part's order, read by any number
-  abbrev padded : Part
+  abbrev padded : LatticePart
   padded = record { size = P .size; complement = P .complement; order = opsOf P .atMost }
 
   id : (a : ℕ) → a < P .size → element (P .size) a ≡ a
@@ -142,7 +142,7 @@ module _ (P : Part) (w : Formed P) (o : Ordered P) where
       bound-is-meet (reversed padded) anti-reversed a b l m (self a l) (self b m) ∙ sym (join-reversed padded a b) ∙ join-same-order padded P same-padded a b l m
 
   -- a place and the place of its elements hold the same
-  same-place : (k : ℕ) → 4096 ≤ k → k < 12288 → tableOf (opsOf P) (placeOf (P .size) k) ≡ tableOf (opsOf P) k
+  same-place : (k : ℕ) → 4096 ≤ k → k < 12288 → tableEntry (opsOf P) (placeOf (P .size) k) ≡ tableEntry (opsOf P) k
   same-place k l m = go (ltb k 8192) refl
     where
       x : element (P .size) (k / 64) < P .size
@@ -160,7 +160,7 @@ module _ (P : Part) (w : Formed P) (o : Ordered P) where
       column : element (P .size) (placeOf (P .size) k) ≡ max (element (P .size) (k / 64)) (element (P .size) k)
       column = element-same (P .size) _ (max (element (P .size) (k / 64)) (element (P .size) k)) (column-of (k / 4096) _ _ (omega (arith, x, y, z)) (omega (arith, x, y, z))) ∙ id _ (omega (arith, x, y))
 
-      go : (t : Bool) → ltb k 8192 ≡ t → tableOf (opsOf P) (placeOf (P .size) k) ≡ tableOf (opsOf P) k
+      go : (t : Bool) → ltb k 8192 ≡ t → tableEntry (opsOf P) (placeOf (P .size) k) ≡ tableEntry (opsOf P) k
       go true e =
           let h = ltb-true k 8192 e in
           at-meet _ _ (omega (arith, x, y, z)) (omega (arith, x, y, z)) ∙ ap₂ (meetOf P) row column ∙ by-number (meetOf P) (meet-comm P) _ _ ∙ sym (at-meet _ k l h)
@@ -169,14 +169,14 @@ module _ (P : Part) (w : Formed P) (o : Ordered P) where
           at-join _ _ (omega (arith, x, y, z)) (omega (arith, x, y, z)) ∙ ap₂ (joinOf P) row column ∙ by-number (joinOf P) (join-comm P) _ _ ∙ sym (at-join _ k h m)
 
   -- what is found at a place, or copied, is what belongs there
-  pub bound-at : (t : List ℕ) (k : ℕ) → 4096 ≤ k → k < 12288 → Filled (tableOf (opsOf P)) k t → boundAt (P .size) t k ≡ tableOf (opsOf P) k
+  pub bound-at : (t : List ℕ) (k : ℕ) → 4096 ≤ k → k < 12288 → Filled (tableEntry (opsOf P)) k t → boundAt (P .size) t k ≡ tableEntry (opsOf P) k
   unfolding boundAt
   bound-at t k l m f = go (ltb (placeOf (P .size) k) k) refl (leb 8192 k) refl
     where
       le : atMostIn t ≡ opsOf P .atMost
       le = filled-order P t k f l
 
-      go : (p : Bool) → ltb (placeOf (P .size) k) k ≡ p → (u : Bool) → leb 8192 k ≡ u → cond p (getD t (placeOf (P .size) k) 0) (boundFrom (P .size) (orderFor u (atMostIn t)) (element (P .size) (k / 64)) (element (P .size) k)) ≡ tableOf (opsOf P) k
+      go : (p : Bool) → ltb (placeOf (P .size) k) k ≡ p → (u : Bool) → leb 8192 k ≡ u → cond p (getD t (placeOf (P .size) k) 0) (boundFrom (P .size) (orderFor u (atMostIn t)) (element (P .size) (k / 64)) (element (P .size) k)) ≡ tableEntry (opsOf P) k
       go true e u v = f .at _ (ltb-true _ _ e) ∙ same-place k l m
       go false e true v =
           ap (λ h. boundFrom (P .size) (orderFor true h) (element (P .size) (k / 64)) (element (P .size) k)) le
@@ -190,54 +190,54 @@ module _ (P : Part) (w : Formed P) (o : Ordered P) where
 -- ---- the loop that fills the meets and the joins
 
 -- what it leaves: whether every two elements have both, and where they do, the tables so far
-pub record BoundsFilled (P : Part) (r : Bool) (t : List ℕ) : Type 0 where
+pub record BoundsFilled (P : LatticePart) (r : Bool) (t : List ℕ) : Type 0 where
   pub says : r ≡ bounded P
-  pub filled : r ≡ true → Filled (tableOf (opsOf P)) 12288 t
+  pub filled : r ≡ true → Filled (tableEntry (opsOf P)) 12288 t
 
 -- where it stands at place k
-pub record BoundsUpTo (P : Part) (k : ℕ) (t : List ℕ) : Type 0 where
-  pub filled : Filled (tableOf (opsOf P)) k t
-  pub inside : (j : ℕ) → 4096 ≤ j → j < k → tableOf (opsOf P) j < P .size
+pub record BoundsUpTo (P : LatticePart) (k : ℕ) (t : List ℕ) : Type 0 where
+  pub filled : Filled (tableEntry (opsOf P)) k t
+  pub inside : (j : ℕ) → 4096 ≤ j → j < k → tableEntry (opsOf P) j < P .size
 
-pub bounds-none : (P : Part) (t : List ℕ) → Filled (tableOf (opsOf P)) 4096 t → BoundsUpTo P 4096 t
+pub bounds-none : (P : LatticePart) (t : List ℕ) → Filled (tableEntry (opsOf P)) 4096 t → BoundsUpTo P 4096 t
 bounds-none P t f = record { filled = f; inside = λ j l m. absurd (omega arith) }
 
 -- n is the part's size, and v is what the code found at place k
-module _ (P : Part) (w : Formed P) (o : Ordered P) (t : List ℕ) (n k v : ℕ) (l : 4096 ≤ k) (m : k < 12288) (u : BoundsUpTo P k t) (s : n ≡ P .size) (e : v ≡ boundAt n t k) where
-  right : v ≡ tableOf (opsOf P) k
+module _ (P : LatticePart) (w : Formed P) (o : Ordered P) (t : List ℕ) (n k v : ℕ) (l : 4096 ≤ k) (m : k < 12288) (u : BoundsUpTo P k t) (s : n ≡ P .size) (e : v ≡ boundAt n t k) where
+  right : v ≡ tableEntry (opsOf P) k
   right = e ∙ ap (λ n. boundAt n t k) s ∙ bound-at P w o t k l m (u .filled)
 
   pub bounds-more : v < n → k < length t → BoundsUpTo P (k + 1) (set t k v)
   bounds-more h b =
       record {
         filled = filled-more (u .filled) b right;
-        inside = λ j x y. below-suc {P = λ j. 4096 ≤ j → tableOf (opsOf P) j < P .size} (λ j z x. u .inside j x z) (λ x. rw (right, s) at h) j (rw add-one at y) x;
+        inside = λ j x y. below-suc {P = λ j. 4096 ≤ j → tableEntry (opsOf P) j < P .size} (λ j z x. u .inside j x z) (λ x. rw (right, s) at h) j (rw add-one at y) x;
       }
 
   pub bounds-fail : n ≤ v → false ≡ bounded P
   bounds-fail h = sym (not-passed _ (λ x. go (bounded-out P x) (ltb k 8192) refl))
     where
-      q : v ≡ tableOf (opsOf P) k
+      q : v ≡ tableEntry (opsOf P) k
       q = right
 
       go : Bounded P → (b : Bool) → ltb k 8192 ≡ b → ⊥
       go d true c = let z = d .meet-lt _ _ (element-lt (P .size) (k / 64) (w .some)) (element-lt (P .size) k (w .some)) in omega (arith, q ∙ at-meet _ k l (ltb-true _ _ c))
       go d false c = let z = d .join-lt _ _ (element-lt (P .size) (k / 64) (w .some)) (element-lt (P .size) k (w .some)) in omega (arith, q ∙ at-join _ k (ltb-false _ _ c) m)
 
-pub bounds-done : (P : Part) (w : Formed P) (t : List ℕ) (k : ℕ) → 12288 ≤ k → BoundsUpTo P k t → true ≡ bounded P
+pub bounds-done : (P : LatticePart) (w : Formed P) (t : List ℕ) (k : ℕ) → 12288 ≤ k → BoundsUpTo P k t → true ≡ bounded P
 bounds-done P w t k l u =
     sym (bounded-in P (record {
       meet-lt = λ a b x y.
           let z = w .most in
           let e : element (P .size) ((4096 + (a * 64 + b)) / 64) ≡ a = element-same (P .size) _ a (omega arith) ∙ element-id (P .size) a z x in
           let d : element (P .size) (4096 + (a * 64 + b)) ≡ b = element-same (P .size) _ b (omega arith) ∙ element-id (P .size) b z y in
-          let q : tableOf (opsOf P) (4096 + (a * 64 + b)) ≡ meetOf P a b = at-meet _ _ (omega arith) (omega arith) ∙ ap₂ (meetOf P) e d in
+          let q : tableEntry (opsOf P) (4096 + (a * 64 + b)) ≡ meetOf P a b = at-meet _ _ (omega arith) (omega arith) ∙ ap₂ (meetOf P) e d in
           rw q at (u .inside (4096 + (a * 64 + b)) (omega arith) (omega arith));
       join-lt = λ a b x y.
           let z = w .most in
           let e : element (P .size) ((8192 + (a * 64 + b)) / 64) ≡ a = element-same (P .size) _ a (omega arith) ∙ element-id (P .size) a z x in
           let d : element (P .size) (8192 + (a * 64 + b)) ≡ b = element-same (P .size) _ b (omega arith) ∙ element-id (P .size) b z y in
-          let q : tableOf (opsOf P) (8192 + (a * 64 + b)) ≡ joinOf P a b = at-join _ _ (omega arith) (omega arith) ∙ ap₂ (joinOf P) e d in
+          let q : tableEntry (opsOf P) (8192 + (a * 64 + b)) ≡ joinOf P a b = at-join _ _ (omega arith) (omega arith) ∙ ap₂ (joinOf P) e d in
           rw q at (u .inside (8192 + (a * 64 + b)) (omega arith) (omega arith));
     }))
 
@@ -246,12 +246,12 @@ bounds-done P w t k l u =
 pub filled-reached : {f : ℕ → ℕ} {q k : ℕ} {t : List ℕ} → Filled f k t → q ≤ k → Filled f q t
 filled-reached w l = record { at = λ i j. w .at i (omega arith) }
 
-module _ (P : Part) (n k : ℕ) where
-  pub order-fill : {a b v : ℕ} → k < 4096 → n ≡ P .size → a ≡ element n (k / 64) → b ≡ element n k → v ≡ one (P .order a b) → v ≡ tableOf (opsOf P) k
+module _ (P : LatticePart) (n k : ℕ) where
+  pub order-fill : {a b v : ℕ} → k < 4096 → n ≡ P .size → a ≡ element n (k / 64) → b ≡ element n k → v ≡ one (P .order a b) → v ≡ tableEntry (opsOf P) k
   order-fill {a} {b} {v} l e x y h =
       h
       ∙ ap one (ap₂ (P .order) (x ∙ ap (λ m. element m (k / 64)) e) (y ∙ ap (λ m. element m k) e))
       ∙ sym (at-order (opsOf P) k l)
 
-  pub complement-fill : {a v : ℕ} → 12288 ≤ k → n ≡ P .size → a ≡ element n k → v ≡ P .complement a → v ≡ tableOf (opsOf P) k
+  pub complement-fill : {a v : ℕ} → 12288 ≤ k → n ≡ P .size → a ≡ element n k → v ≡ P .complement a → v ≡ tableEntry (opsOf P) k
   complement-fill {a} {v} l e x h = h ∙ ap (P .complement) (x ∙ ap (λ m. element m k) e) ∙ sym (at-neg (opsOf P) k l)

@@ -12,13 +12,13 @@ ghost use Rattle.theory.specs.Simulation.{one};
 ghost use Rattle.theory.specs.Loop.{Filled};
 ghost use Rattle.theory.specs.Part.{element, opsOf};
 ghost use Rattle.operations.specs.Table.{atMostIn, meetIn, joinIn, complementIn};
-ghost use Rattle.lattice.specs.Reading.{isPanel, latticePart, latticeForm, latticeReading, partialOrder, bounded};
+ghost use Rattle.lattice.specs.Reading.{isPanel, latticeOf, latticeForm, latticeReading, partialOrder, bounded};
 ghost use Rattle.lattice.specs.Check.{rulesReading};
 ghost use Rattle.lattice.specs.Answer.{Answered};
 ghost use Rattle.lattice.specs.Bounds.{boundUpTo};
 ghost use Rattle.lattice.specs.Scan.{orderFor, joinOrMeet, lower, better, candidate, under, greatest, scanFrom, boundFrom};
 ghost use Rattle.lattice.specs.Distributive.{distributesAt, distributes, distributePair};
-ghost use Rattle.lattice.specs.Tables.{tableOf, tableOps, boundAt, BoundsFilled};
+ghost use Rattle.lattice.specs.Tables.{tableEntry, tableOps, boundAt, BoundsFilled};
 ghost use Rattle.lattice.specs.Pairs.{stepsTo, above, orderPair, complementPair, pairTest, rowTest, allPairs};
 
 // The panel lattice's order: entry 27 i + j is 1 where i is at or below j.
@@ -781,7 +781,7 @@ fn is_panel(part: &[u8]) -> bool
 // n, the number of elements.
 fn size(part: &[u8]) -> u8
     requires { ⌜ latticeForm (now part) ≡ true ⌝ }
-    ensures { λ r. ⌜ r ≡ latticePart (now (part .entry)) .size ⌝ }
+    ensures { λ r. ⌜ r ≡ latticeOf (now (part .entry)) .size ⌝ }
 {
     if is_panel(part) {
         return 27;
@@ -813,7 +813,7 @@ fn has_form(part: &[u8]) -> bool
         return true;
     }
     let limit = part[0];
-    let n = operations::wide(limit);
+    let n = operations::index(limit);
     if n < 1 {
         return false;
     }
@@ -842,26 +842,26 @@ fn element_of(n: u8, k: usize) -> Element
 
 // 1 where a is at or below b in the part, else 0.
 fn order_entry(part: &[u8], a: Element, b: Element) -> u8
-    requires { ⌜ (latticeForm (now part) ≡ true) × (a .0 < latticePart (now part) .size) × (b .0 < latticePart (now part) .size) ⌝ }
-    ensures { λ r. ⌜ r ≡ one (latticePart (now (part .entry)) .order (a .0) (b .0)) ⌝ }
+    requires { ⌜ (latticeForm (now part) ≡ true) × (a .0 < latticeOf (now part) .size) × (b .0 < latticeOf (now part) .size) ⌝ }
+    ensures { λ r. ⌜ r ≡ one (latticeOf (now (part .entry)) .order (a .0) (b .0)) ⌝ }
 {
-    let i = operations::wide(a.0);
-    let j = operations::wide(b.0);
+    let i = operations::index(a.0);
+    let j = operations::index(b.0);
     if is_panel(part) {
         return PANEL_ORDER[i * 27 + j];
     }
-    let n = operations::wide(part[0]);
+    let n = operations::index(part[0]);
     part[1 + n + (i * n + j)]
 }
 
 fn complement_entry(part: &[u8], a: Element) -> u8
-    requires { ⌜ (latticeForm (now part) ≡ true) × (a .0 < latticePart (now part) .size) ⌝ }
-    ensures { λ r. ⌜ r ≡ latticePart (now (part .entry)) .complement (a .0) ⌝ }
+    requires { ⌜ (latticeForm (now part) ≡ true) × (a .0 < latticeOf (now part) .size) ⌝ }
+    ensures { λ r. ⌜ r ≡ latticeOf (now (part .entry)) .complement (a .0) ⌝ }
 {
     if is_panel(part) {
         return 26 - a.0;
     }
-    let i = operations::wide(a.0);
+    let i = operations::index(a.0);
     part[1 + i]
 }
 
@@ -979,8 +979,8 @@ fn bound_at(t: &[u8; 12352], n: u8, k: usize) -> u8
 {
     let a = element_of(n, k / 64);
     let b = element_of(n, k);
-    let i = operations::wide(a.0);
-    let j = operations::wide(b.0);
+    let i = operations::index(a.0);
+    let j = operations::index(b.0);
     let place = k / 4096 * 4096 + (lesser(i, j) * 64 + greater(i, j));
     if place < k {
         return t[place];
@@ -1019,7 +1019,7 @@ fn entries(t: &[u8]) -> usize
 
 fn fill_order(part: &[u8], t: &mut [u8; 12352])
     requires { ⌜ latticeForm (now part) ≡ true ⌝ }
-    ensures { λ _. ⌜ Filled (tableOf (opsOf (latticePart (now (part .entry))))) 4096 (now (t .exit)) ⌝ }
+    ensures { λ _. ⌜ Filled (tableEntry (opsOf (latticeOf (now (part .entry))))) 4096 (now (t .exit)) ⌝ }
 {
     let _ = entries(t);
     let n = size(part);
@@ -1030,8 +1030,8 @@ fn fill_order(part: &[u8], t: &mut [u8; 12352])
 
 // Fills the meets and the joins, and says whether each two elements have both.
 fn fill_bounds(part: &[u8], t: &mut [u8; 12352]) -> bool
-    requires { ⌜ (latticeForm (now part) ≡ true) × (partialOrder (latticePart (now part) .size) (latticePart (now part) .order) ≡ true) × Filled (tableOf (opsOf (latticePart (now part)))) 4096 (now t) ⌝ }
-    ensures { λ r. ⌜ BoundsFilled (latticePart (now (part .entry))) r (now (t .exit)) ⌝ }
+    requires { ⌜ (latticeForm (now part) ≡ true) × (partialOrder (latticeOf (now part) .size) (latticeOf (now part) .order) ≡ true) × Filled (tableEntry (opsOf (latticeOf (now part)))) 4096 (now t) ⌝ }
+    ensures { λ r. ⌜ BoundsFilled (latticeOf (now (part .entry))) r (now (t .exit)) ⌝ }
 {
     let _ = entries(t);
     let n = size(part);
@@ -1046,8 +1046,8 @@ fn fill_bounds(part: &[u8], t: &mut [u8; 12352]) -> bool
 }
 
 fn fill_complements(part: &[u8], t: &mut [u8; 12352])
-    requires { ⌜ (latticeForm (now part) ≡ true) × Filled (tableOf (opsOf (latticePart (now part)))) 12288 (now t) ⌝ }
-    ensures { λ _. ⌜ Filled (tableOf (opsOf (latticePart (now (part .entry))))) 12352 (now (t .exit)) ⌝ }
+    requires { ⌜ (latticeForm (now part) ≡ true) × Filled (tableEntry (opsOf (latticeOf (now part)))) 12288 (now t) ⌝ }
+    ensures { λ _. ⌜ Filled (tableEntry (opsOf (latticeOf (now (part .entry))))) 12352 (now (t .exit)) ⌝ }
 {
     let _ = entries(t);
     let n = size(part);
@@ -1117,7 +1117,7 @@ fn does_distribute(t: &[u8; 12352], n: u8, b: Element, c: Element) -> bool
     true
 }
 
-// The same, tested once for two elements, and not where they are in order: there it holds in every lattice.
+// The same, tested once for two elements, and not where they are in order: there it tables-hold in every lattice.
 fn is_distributive(t: &[u8; 12352], n: u8, b: Element, c: Element) -> bool
     ensures { λ r. ⌜ r ≡ distributePair n (atMostIn (now (t .entry))) (meetIn (now (t .entry))) (joinIn (now (t .entry))) (b .0) (c .0) ⌝ }
 {
@@ -1169,7 +1169,7 @@ fn row_passes(t: &[u8; 12352], n: u8, rule: Rule, a: Element) -> bool
     true
 }
 
-// A rule holds for every two elements.
+// A rule tables-hold for every two elements.
 fn passes(t: &[u8; 12352], n: u8, rule: Rule) -> bool
     ensures { λ r. ⌜ r ≡ allPairs rule (tableOps n (now (t .entry))) ⌝ }
 {
@@ -1185,8 +1185,8 @@ fn passes(t: &[u8; 12352], n: u8, rule: Rule) -> bool
 
 // What is left to test of a part whose meets and joins are in the tables: refusals 7 and 8, or n, top and bottom.
 fn check_rules(part: &[u8], t: &mut [u8; 12352]) -> LatticeCheck
-    requires { ⌜ (latticeForm (now part) ≡ true) × (partialOrder (latticePart (now part) .size) (latticePart (now part) .order) ≡ true) × (bounded (latticePart (now part)) ≡ true) × Filled (tableOf (opsOf (latticePart (now part)))) 12288 (now t) ⌝ }
-    ensures { λ r. ⌜ Answered (rulesReading (latticePart (now (part .entry)))) r (now (t .exit)) ⌝ }
+    requires { ⌜ (latticeForm (now part) ≡ true) × (partialOrder (latticeOf (now part) .size) (latticeOf (now part) .order) ≡ true) × (bounded (latticeOf (now part)) ≡ true) × Filled (tableEntry (opsOf (latticeOf (now part)))) 12288 (now t) ⌝ }
+    ensures { λ r. ⌜ Answered (rulesReading (latticeOf (now (part .entry)))) r (now (t .exit)) ⌝ }
 {
     fill_complements(part, t);
     let n = size(part);

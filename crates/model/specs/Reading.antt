@@ -10,7 +10,7 @@ use borrow.Author.Tests.{ltb-true, ltb-false, leb-true, eqb-true, lt-ltb, le-leb
 use lib.Dec.{ltb, leb, eqb}
 use lib.ListN.{length, getD}
 use Rattle.theory.specs.Model.{Valued}
-use Rattle.theory.specs.Part.{Part, opsOf, modelOf, modelLength, ModelShape}
+use Rattle.theory.specs.Part.{LatticePart, opsOf, modelOf, modelLength, ModelShape}
 use Rattle.theory.specs.Test.{allBelow, and-l, and-r, and-in, all-at, all-in, not-passed}
 use Rattle.model.specs.Places.{row-le}
 use Rattle.model.specs.declared.ModelCheck.{ModelCheck}
@@ -87,7 +87,7 @@ test-in n b s v =
     and-in (sizesTest b) (elementsOnly n b) p v
 
 -- an accepted part is a model whose values are elements
-pub accepted-valued : (P : Part) (b : List ℕ) → modelTest (P .size) b ≡ true → Valued (opsOf P) (modelOf b)
+pub accepted-valued : (P : LatticePart) (b : List ℕ) → modelTest (P .size) b ≡ true → Valued (opsOf P) (modelOf b)
 accepted-valued P b t =
     let s = accepted-shape (P .size) b t in
     let v = value-element (P .size) b (values-pass (P .size) b t) in
@@ -125,7 +125,7 @@ cell j n (suc w) l =
       is = div-add-mod' j (suc w);
     }
 
-module _ (P : Part) (b : List ℕ) (s : ModelShape b) (v : Valued (opsOf P) (modelOf b)) where
+module _ (P : LatticePart) (b : List ℕ) (s : ModelShape b) (v : Valued (opsOf P) (modelOf b)) where
   initial-at : (i : ℕ) → i < getD b 0 0 → ltb (getD b (2 + i) 0) (P .size) ≡ true
   initial-at i l = v .initial-element i l
 
@@ -151,8 +151,8 @@ module _ (P : Part) (b : List ℕ) (s : ModelShape b) (v : Valued (opsOf P) (mod
       (at-or-before (getD b 0 0 + getD b 0 0 * getD b 1 0) i))
 
 -- A part is accepted exactly when it has its sizes and its length, and every value is an element.
-pub accepted-exactly : (P : Part) (b : List ℕ) → (modelTest (P .size) b ≡ true) ↔ (ModelShape b × Valued (opsOf P) (modelOf b))
-accepted-exactly P b = (λ t. (accepted-shape (P .size) b t, accepted-valued P b t), λ h. test-in (P .size) b (h .0) (all-elements P b (h .0) (h .1)))
+pub model-exactly : (P : LatticePart) (b : List ℕ) → (modelTest (P .size) b ≡ true) ↔ (ModelShape b × Valued (opsOf P) (modelOf b))
+model-exactly P b = (λ t. (accepted-shape (P .size) b t, accepted-valued P b t), λ h. test-in (P .size) b (h .0) (all-elements P b (h .0) (h .1)))
 
 -- ---- what the code answers
 

@@ -25,7 +25,7 @@ pub fn states(m: &[u8]) -> usize
     requires { ⌜ ModelShape (now m) ⌝ }
     ensures { λ r. ⌜ r ≡ modelOf (now (m .entry)) .states ⌝ }
 {
-    operations::wide(m[0])
+    operations::index(m[0])
 }
 
 // k, the number of propositions.
@@ -33,7 +33,7 @@ pub fn propositions(m: &[u8]) -> usize
     requires { ⌜ ModelShape (now m) ⌝ }
     ensures { λ r. ⌜ r ≡ modelOf (now (m .entry)) .propositions ⌝ }
 {
-    operations::wide(m[1])
+    operations::index(m[1])
 }
 
 // The initial value of a state.
@@ -41,7 +41,7 @@ pub fn initial(m: &[u8], q: State) -> Element
     requires { ⌜ ModelShape (now m) × (q .0 < getD (now m) 0 0) ⌝ }
     ensures { λ r. ⌜ r .0 ≡ modelOf (now (m .entry)) .initial (q .0) ⌝ }
 {
-    Element(m[2 + operations::wide(q.0)])
+    Element(m[2 + operations::index(q.0)])
 }
 
 // Where the proposition values of a state begin; there are k of them.
@@ -49,9 +49,9 @@ pub fn label_row(m: &[u8], q: State) -> usize
     requires { ⌜ ModelShape (now m) × (q .0 < getD (now m) 0 0) ⌝ }
     ensures { λ r. ⌜ (r ≡ labelRow (now (m .entry)) (q .0)) × (r + getD (now (m .entry)) 1 0 ≤ length (now (m .entry))) ⌝ }
 {
-    let n = operations::wide(m[0]);
-    let k = operations::wide(m[1]);
-    let s = operations::wide(q.0);
+    let n = operations::index(m[0]);
+    let k = operations::index(m[1]);
+    let s = operations::index(q.0);
     2 + n + s * k
 }
 
@@ -60,9 +60,9 @@ pub fn transition_row(m: &[u8], q: State) -> usize
     requires { ⌜ ModelShape (now m) × (q .0 < getD (now m) 0 0) ⌝ }
     ensures { λ r. ⌜ (r ≡ transitionRow (now (m .entry)) (q .0)) × (r + getD (now (m .entry)) 0 0 ≤ length (now (m .entry))) ⌝ }
 {
-    let n = operations::wide(m[0]);
-    let k = operations::wide(m[1]);
-    let s = operations::wide(q.0);
+    let n = operations::index(m[0]);
+    let k = operations::index(m[1]);
+    let s = operations::index(q.0);
     2 + n + n * k + s * n
 }
 
@@ -98,8 +98,8 @@ pub fn check(part: &[u8], n: u8) -> ModelCheck
     if 16 < propositions {
         return ModelCheck::Refused;
     }
-    let w = operations::wide(states);
-    let k = operations::wide(propositions);
+    let w = operations::index(states);
+    let k = operations::index(propositions);
     if part.len() != 2 + w + w * k + w * w {
         return ModelCheck::Refused;
     }

@@ -15,7 +15,7 @@ pub struct Lattice {
 }
 
 // A byte as an index.
-pub fn wide(x: u8) -> usize
+pub fn index(x: u8) -> usize
     ensures { λ r. ⌜ (r ≡ x) × (r < 256) ⌝ }
 {
     x as usize

@@ -40,14 +40,14 @@ pub data Example : Type 0 where
   -- the share of a table's entries at or above an element
   shareIs : (lattice table : List ℕ) (l share : ℕ) → Example
 
-abbrev pub Holds : Example → Type 0
-Holds (roundIs l m₁ m₂ r t) = entries (round (opsOf (explicitPart l)) (modelOf m₁) (modelOf m₂) r) (modelOf m₁ .states) (modelOf m₂ .states) ≡ t
-Holds (settlesAt l m₁ m₂ T) = FirstUnchanged (opsOf (explicitPart l)) (modelOf m₁) (modelOf m₂) T
-Holds (valueIs l m φ q v) = valueAt (opsOf (explicitPart l)) (modelOf m) φ q ≡ v
-Holds (exceeds l m₁ m₂ r φ q₁ q₂) = opsOf (explicitPart l) .atMost (round (opsOf (explicitPart l)) (modelOf m₁) (modelOf m₂) r q₁ q₂) (imp (opsOf (explicitPart l)) (valueAt (opsOf (explicitPart l)) (modelOf m₂) φ q₂) (valueAt (opsOf (explicitPart l)) (modelOf m₁) φ q₁)) ≡ false
-Holds (wholeIs l m φ v) = wholeValue (opsOf (explicitPart l)) (modelOf m) φ ≡ v
-Holds (scoreIs l m₁ m₂ r v) = score (opsOf (explicitPart l)) (modelOf m₁) (modelOf m₂) (round (opsOf (explicitPart l)) (modelOf m₁) (modelOf m₂) r) ≡ v
-Holds (shareIs l t a s) = share (opsOf (explicitPart l)) (length t) (λ i. getD t i 0) a ≡ s
+abbrev pub ExampleHolds : Example → Type 0
+ExampleHolds (roundIs l m₁ m₂ r t) = entries (round (opsOf (explicitPart l)) (modelOf m₁) (modelOf m₂) r) (modelOf m₁ .states) (modelOf m₂ .states) ≡ t
+ExampleHolds (settlesAt l m₁ m₂ T) = FirstUnchanged (opsOf (explicitPart l)) (modelOf m₁) (modelOf m₂) T
+ExampleHolds (valueIs l m φ q v) = valueAt (opsOf (explicitPart l)) (modelOf m) φ q ≡ v
+ExampleHolds (exceeds l m₁ m₂ r φ q₁ q₂) = opsOf (explicitPart l) .atMost (round (opsOf (explicitPart l)) (modelOf m₁) (modelOf m₂) r q₁ q₂) (imp (opsOf (explicitPart l)) (valueAt (opsOf (explicitPart l)) (modelOf m₂) φ q₂) (valueAt (opsOf (explicitPart l)) (modelOf m₁) φ q₁)) ≡ false
+ExampleHolds (wholeIs l m φ v) = wholeValue (opsOf (explicitPart l)) (modelOf m) φ ≡ v
+ExampleHolds (scoreIs l m₁ m₂ r v) = score (opsOf (explicitPart l)) (modelOf m₁) (modelOf m₂) (round (opsOf (explicitPart l)) (modelOf m₁) (modelOf m₂) r) ≡ v
+ExampleHolds (shareIs l t a s) = share (opsOf (explicitPart l)) (length t) (λ i. getD t i 0) a ≡ s
 
 -- ---- the lattices: 'L2 is 0 below 1; L3 is 0 below 1 below 2 with not-1 = 1', one element, and the subsets of {a, b, c}
 
@@ -191,7 +191,7 @@ abbrev _&_ : {P Q : Type 0} → P → Q → P × Q
 _&_ p q = (p, q)
 
 infixr 10 _&_
-pub examples-hold : All Holds examples
+pub examples-hold : All ExampleHolds examples
 unfolding unchangedTest roundOf F propositionPart successorPart allNext someNext eval iterate bind valueAt wholeValue score bigMeet bigJoin imp iff meetOf joinOf topOf botOf isMeet isJoin element allBelow firstBelow count share tab
 examples-hold =
     refl & settles-by-test _ _ _ 2 refl refl

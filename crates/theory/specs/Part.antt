@@ -10,12 +10,12 @@ use Rattle.theory.specs.Model.{Model}
 use Rattle.theory.specs.Test.{allBelow, firstBelow, _⇒_}
 
 -- what a lattice part says: n elements, numbered from 0; the complement of each; whether element i is at or below element j
-pub record Part : Type 0 where
+pub record LatticePart : Type 0 where
   pub size : ℕ
   pub complement : ℕ → ℕ
   pub order : ℕ → ℕ → Bool
 
-module _ (P : Part) where
+module _ (P : LatticePart) where
   -- m is at or below a and b, and at or above every element that is
   unfoldable pub isMeet : ℕ → ℕ → ℕ → Bool
   isMeet a b m = P .order m a && P .order m b && allBelow (P .size) (λ c. P .order c a ⇒ P .order c b ⇒ P .order c m)
@@ -43,7 +43,7 @@ unfoldable pub element : ℕ → ℕ → ℕ
 element n a = cond (ltb (a % 64) n) (a % 64) 0
 
 -- the lattice of a part
-abbrev pub opsOf : Part → Ops ℕ
+abbrev pub opsOf : LatticePart → Ops ℕ
 opsOf P =
     record {
       size = P .size;
@@ -58,7 +58,7 @@ opsOf P =
 
 -- 'A lattice part is n (1 to 64), then n complement bytes, then n·n order bytes. Byte i·n + j of the order is 1 if element i is
 -- at or below element j, else 0.'
-abbrev pub explicitPart : List ℕ → Part
+abbrev pub explicitPart : List ℕ → LatticePart
 explicitPart b =
     record {
       size = getD b 0 0;

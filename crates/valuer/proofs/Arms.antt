@@ -18,10 +18,10 @@ use Rattle.theory.specs.Value.{eval, valueAt, wholeValue}
 use Rattle.operations.specs.Table.{opsIn, meetIn, joinIn}
 use Rattle.operations.specs.declared.Lattice.{Lattice}
 use Rattle.formula.specs.Bytes.{bytesOf}
-use Rattle.valuer.specs.declared.Valued.{Valued}
+use Rattle.valuer.specs.declared.NodeValues.{NodeValues}
 use Rattle.valuer.specs.Values.{Reads, fromInitial, Values, WholeValue}
 use Rattle.valuer.specs.Code.{literal, combine, nextOf, startOf}
-use Rattle.valuer.specs.Node.{Spelled, Here, Holds, slotOf, Answer, Node, Iterated}
+use Rattle.valuer.specs.Node.{Spelled, Here, SlotsHold, slotOf, Answer, Node, Iterated}
 use Rattle.valuer.proofs.Loops.{filled-as}
 use Rattle.valuer.proofs.Places.{build, Parts, Numbered, inside, code-small, by-code, of-prop, of-negated, of-var, of-or, of-and, of-AX, of-EX, of-mu, of-nu, read-spelled}
 
@@ -83,7 +83,7 @@ module _ {f : List ℕ} {at k : ℕ} where
       (λ e. known 10 e _ (λ d p g h s. here (of-nu g s)) x) c
 
 -- the maps that the three lists hold
-pub held : (n : ℕ) (near mid far : List ℕ) (d : ℕ) → Holds n near mid far d (λ v q. getD (slotOf near mid far v) q 0)
+pub held : (n : ℕ) (near mid far : List ℕ) (d : ℕ) → SlotsHold n near mid far d (λ v q. getD (slotOf near mid far v) q 0)
 held n near mid far d = record { at = λ v l. record { at = λ q b. refl } }
 
 -- the second part: it begins where the answer of the first says
@@ -92,12 +92,12 @@ pub record Second (f : List ℕ) (at k next : ℕ) : Type 0 where
   pub stands : Here f next k
 
 module _ {t : List ℕ} {l : Lattice} {m f : List ℕ} {at K : ℕ} {near mid far : List ℕ} where
-  second : {x : Valued} {d : ℕ} {g h : Formula} → Parts f at d (getD m 1 0) g h → Node t l m f (at + 1) K near mid far x → Second f at (getD m 1 0) (x .next)
+  second : {x : NodeValues} {d : ℕ} {g h : Formula} → Parts f at d (getD m 1 0) g h → Node t l m f (at + 1) K near mid far x → Second f at (getD m 1 0) (x .next)
   second {x} {d} {g} {h} p n =
       let a = n .is d g _ (p .first) (held _ near mid far d) in
       record { further = omega (arith, a .next); stands = subst (λ (i : ℕ). Here f i (getD m 1 0)) (sym (a .next)) (here (p .second)) }
 
-  pub here-second : {x : Valued} → (getD f at 0 ≡ 5) ⊎ (getD f at 0 ≡ 6) → Here f at (getD m 1 0) → Node t l m f (at + 1) K near mid far x → Second f at (getD m 1 0) (x .next)
+  pub here-second : {x : NodeValues} → (getD f at 0 ≡ 5) ⊎ (getD f at 0 ≡ 6) → Here f at (getD m 1 0) → Node t l m f (at + 1) K near mid far x → Second f at (getD m 1 0) (x .next)
   here-second c y n =
       ⊎-elim
       (λ e. known 5 e _ (λ d p g h s. second (of-or g h s) n) y)
@@ -107,10 +107,10 @@ module _ {t : List ℕ} {l : Lattice} {m f : List ℕ} {at K : ℕ} {near mid fa
 
 module _ {t : List ℕ} {l : Lattice} {m f : List ℕ} {at K : ℕ} {near mid far : List ℕ} where
   -- the answer for each formula with the code that stands here
-  by-one : (r : Valued) (c : ℕ) → getD f at 0 ≡ c
-      → ((d : ℕ) (e : ℕ → ℕ → ℕ) (p : ℕ) (g h : Formula) → Spelled f at d (getD m 1 0) (build c p g h) → Holds (getD m 0 0) near mid far d e → Answer t l m f at K (build c p g h) e r)
+  by-one : (r : NodeValues) (c : ℕ) → getD f at 0 ≡ c
+      → ((d : ℕ) (e : ℕ → ℕ → ℕ) (p : ℕ) (g h : Formula) → Spelled f at d (getD m 1 0) (build c p g h) → SlotsHold (getD m 0 0) near mid far d e → Answer t l m f at K (build c p g h) e r)
       → Node t l m f at K near mid far r
-  by-one r c q w = record { is = λ d φ e s h. by-code s c q (λ ψ. Spelled f at d (getD m 1 0) ψ → Holds (getD m 0 0) near mid far d e → Answer t l m f at K ψ e r) (w d e) s h }
+  by-one r c q w = record { is = λ d φ e s h. by-code s c q (λ ψ. Spelled f at d (getD m 1 0) ψ → SlotsHold (getD m 0 0) near mid far d e → Answer t l m f at K ψ e r) (w d e) s h }
 
   pub bottom-arm : getD f at 0 ≡ 0 → getD m 0 0 ≤ 64 → Node t l m f at K near mid far (record { values = replicate 64 (l .bottom .0); next = at + 1 })
   unfolding bytesOf eval
@@ -135,7 +135,7 @@ module _ {t : List ℕ} {l : Lattice} {m f : List ℕ} {at K : ℕ} {near mid fa
     values = rw (u, of-var p s .number) (w .at p (ltb-true p d (s .bound)));
   })
 
-  pub pair-arm : {x y : Valued} {n : ℕ} {v : List ℕ} → (getD f at 0 ≡ 5) ⊎ (getD f at 0 ≡ 6) → Node t l m f (at + 1) K near mid far x → Node t l m f (x .next) K near mid far y
+  pub pair-arm : {x y : NodeValues} {n : ℕ} {v : List ℕ} → (getD f at 0 ≡ 5) ⊎ (getD f at 0 ≡ 6) → Node t l m f (at + 1) K near mid far x → Node t l m f (x .next) K near mid far y
       → getD m 0 0 ≤ n → Filled (λ q. combine t (getD f at 0) (getD (x .values) q 0) (getD (y .values) q 0)) n v → Node t l m f at K near mid far (record { values = v; next = y .next })
   unfolding bytesOf eval combine
   pair-arm {x} {y} c nx ny b u =
@@ -155,13 +155,13 @@ module _ {t : List ℕ} {l : Lattice} {m f : List ℕ} {at K : ℕ} {near mid fa
         values = filled-as u b (λ i k. rw q (ap₂ (meetIn t) (a .values .at i k) (z .values .at i k)));
       })) c
     where
-      left : (d : ℕ) (e : ℕ → ℕ → ℕ) (g h : Formula) → Parts f at d (getD m 1 0) g h → Holds (getD m 0 0) near mid far d e → Answer t l m f (at + 1) K g e x
+      left : (d : ℕ) (e : ℕ → ℕ → ℕ) (g h : Formula) → Parts f at d (getD m 1 0) g h → SlotsHold (getD m 0 0) near mid far d e → Answer t l m f (at + 1) K g e x
       left d e g h p w = nx .is d g e (p .first) w
 
-      right : (d : ℕ) (e : ℕ → ℕ → ℕ) (g h : Formula) → Parts f at d (getD m 1 0) g h → Holds (getD m 0 0) near mid far d e → Answer t l m f (x .next) K h e y
+      right : (d : ℕ) (e : ℕ → ℕ → ℕ) (g h : Formula) → Parts f at d (getD m 1 0) g h → SlotsHold (getD m 0 0) near mid far d e → Answer t l m f (x .next) K h e y
       right d e g h p w = ny .is d h e (subst (λ (i : ℕ). Spelled f i d (getD m 1 0) h) (sym (left d e g h p w .next)) (p .second)) w
 
-  pub next-arm : {x : Valued} {v : List ℕ} → (getD f at 0 ≡ 7) ⊎ (getD f at 0 ≡ 8) → Node t l m f (at + 1) K near mid far x
+  pub next-arm : {x : NodeValues} {v : List ℕ} → (getD f at 0 ≡ 7) ⊎ (getD f at 0 ≡ 8) → Node t l m f (at + 1) K near mid far x
       → Filled (nextOf (opsIn t l) (modelOf m) (getD f at 0) (λ q. getD (x .values) q 0)) (getD m 0 0) v → Node t l m f at K near mid far (record { values = v; next = x .next })
   unfolding bytesOf eval nextOf
   next-arm {x} c nx u =
@@ -179,7 +179,7 @@ module _ {t : List ℕ} {l : Lattice} {m f : List ℕ} {at K : ℕ} {near mid fa
         values = filled-as u (le-refl _) (λ i k. rw q (someNext-cong (opsIn t l) (modelOf m) _ _ (a .values .at) i));
       })) c
 
-  pub fixpoint-arm : {r : Valued} → (getD f at 0 ≡ 9) ⊎ (getD f at 0 ≡ 10) → {s₀ : ℕ} → s₀ ≡ startOf l (getD f at 0) → Iterated t l m f (at + 1) K near mid s₀ r → Node t l m f at K near mid far r
+  pub fixpoint-arm : {r : NodeValues} → (getD f at 0 ≡ 9) ⊎ (getD f at 0 ≡ 10) → {s₀ : ℕ} → s₀ ≡ startOf l (getD f at 0) → Iterated t l m f (at + 1) K near mid s₀ r → Node t l m f at K near mid far r
   unfolding bytesOf eval startOf
   fixpoint-arm {r} c {s₀} z n =
       ⊎-elim
@@ -191,7 +191,7 @@ module _ {t : List ℕ} {l : Lattice} {m f : List ℕ} {at K : ℕ} {near mid fa
       record { next = omega (arith, a .next); values = rw (z, q) at (a .values) })) c
 
   -- no formula begins with another code
-  pub no-arm : (r : Valued) → 11 ≤ getD f at 0 → Node t l m f at K near mid far r
+  pub no-arm : (r : NodeValues) → 11 ≤ getD f at 0 → Node t l m f at K near mid far r
   no-arm r b = record { is = λ d φ e s w. absurd (omega (arith, code-small s)) }
 
 -- ---- a whole part
@@ -199,7 +199,7 @@ module _ {t : List ℕ} {l : Lattice} {m f : List ℕ} {at K : ℕ} {near mid fa
 pub here-read : (m f : List ℕ) → Reads m f → Here f 0 (getD m 1 0)
 here-read m f w = here (read-spelled (getD m 1 0) f (w .0) (w .1))
 
-pub part-values : {t : List ℕ} {l : Lattice} {m f : List ℕ} {K : ℕ} {near mid far : List ℕ} {r : Valued} → Node t l m f 0 K near mid far r
+pub part-values : {t : List ℕ} {l : Lattice} {m f : List ℕ} {K : ℕ} {near mid far : List ℕ} {r : NodeValues} → Node t l m f 0 K near mid far r
     → K ≡ getD m 0 0 * (l .size - 1) → Values t l m f (r .values)
 unfolding valueAt
 part-values {l = l} {m} {f} n z =

@@ -14,14 +14,14 @@ use Rattle.theory.specs.Test.{allBelow, all-at}
 use Rattle.theory.specs.Value.{iterate, bind, eval}
 use Rattle.operations.specs.Table.{opsIn}
 use Rattle.operations.specs.declared.Lattice.{Lattice}
-use Rattle.valuer.specs.declared.Valued.{Valued}
+use Rattle.valuer.specs.declared.NodeValues.{NodeValues}
 use Rattle.theory.specs.Fixpoint.{body-cong, iterate-stays}
-use Rattle.valuer.specs.Node.{Spelled, Holds, slotOf, rounds, Answer, Node, Iterated}
+use Rattle.valuer.specs.Node.{Spelled, SlotsHold, slotOf, rounds, Answer, Node, Iterated}
 
 -- ---- a map under one more binder
 
 -- the nearest list holds the new binder's map, the others move one binder out
-bound-holds : {n : ℕ} {x near mid far : List ℕ} {d : ℕ} {e : ℕ → ℕ → ℕ} {g : ℕ → ℕ} → suc d ≤ 3 → Filled g n x → Holds n near mid far d e → Holds n x near mid (suc d) (bind g e)
+bound-holds : {n : ℕ} {x near mid far : List ℕ} {d : ℕ} {e : ℕ → ℕ → ℕ} {g : ℕ → ℕ} → suc d ≤ 3 → Filled g n x → SlotsHold n near mid far d e → SlotsHold n x near mid (suc d) (bind g e)
 unfolding slotOf bind
 bound-holds {n} {x} {near} {mid} {far} {d} {e} {g} b u h = record { at = go }
   where
@@ -35,7 +35,7 @@ bound-holds {n} {x} {near} {mid} {far} {d} {e} {g} b u h = record { at = go }
 
 -- x is what r rounds give, whatever body stands at the place
 pub record Turned (t : List ℕ) (l : Lattice) (m f : List ℕ) (at K : ℕ) (near mid : List ℕ) (start r : ℕ) (x : List ℕ) : Type 0 where
-  pub are : (d : ℕ) (φ : Formula) (e : ℕ → ℕ → ℕ) (far : List ℕ) → Spelled f at (suc d) (getD m 1 0) φ → Holds (getD m 0 0) near mid far d e
+  pub are : (d : ℕ) (φ : Formula) (e : ℕ → ℕ → ℕ) (far : List ℕ) → Spelled f at (suc d) (getD m 1 0) φ → SlotsHold (getD m 0 0) near mid far d e
       → Filled (rounds (opsIn t l) (modelOf m) r K φ e start) (getD m 0 0) x
 
 module _ {t : List ℕ} {l : Lattice} {m f : List ℕ} {at K : ℕ} {near mid : List ℕ} {start : ℕ} where
@@ -44,8 +44,8 @@ module _ {t : List ℕ} {l : Lattice} {m f : List ℕ} {at K : ℕ} {near mid : 
   turned-none z b = rw z (record { are = λ d φ e far s h. record { at = λ q k. getD-replicate 64 q start 0 (omega arith) } })
 
   -- what the body's answer is after r rounds
-  module _ {r : ℕ} {x : List ℕ} {v : Valued} (h : Turned t l m f at K near mid start r x) (n : Node t l m f at K x near mid v) where
-    answer : (d : ℕ) (φ : Formula) (e : ℕ → ℕ → ℕ) (far : List ℕ) → Spelled f at (suc d) (getD m 1 0) φ → Holds (getD m 0 0) near mid far d e
+  module _ {r : ℕ} {x : List ℕ} {v : NodeValues} (h : Turned t l m f at K near mid start r x) (n : Node t l m f at K x near mid v) where
+    answer : (d : ℕ) (φ : Formula) (e : ℕ → ℕ → ℕ) (far : List ℕ) → Spelled f at (suc d) (getD m 1 0) φ → SlotsHold (getD m 0 0) near mid far d e
         → Answer t l m f at K φ (bind (rounds (opsIn t l) (modelOf m) r K φ e start) e) v
     answer d φ e far s w = n .is (suc d) φ _ s (bound-holds (omega (arith, s .nested)) (h .are d φ e far s w) w)
 

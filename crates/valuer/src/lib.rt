@@ -32,7 +32,7 @@ fn labels(m: &[u8], p: Proposition) -> [u8; 64]
     ensures { λ r. ⌜ Filled (λ q. modelOf (now (m .entry)) .label q (p .0)) (getD (now (m .entry)) 0 0) r ⌝ }
 {
     let n = model::states(m);
-    let column = operations::wide(p.0);
+    let column = operations::index(p.0);
     let mut out = [0u8; 64];
     for q in 0..n {
         let row = model::label_row(m, state(q));
@@ -161,16 +161,16 @@ fn same(n: usize, x: &[u8; 64], y: &[u8; 64]) -> bool
 }
 
 // The values of a formula at all states, and the place after it.
-struct Valued {
+struct NodeValues {
     values: [u8; 64],
     next: usize,
 }
 
 // An answer, put together.
-fn answer(values: [u8; 64], next: usize) -> Valued
+fn answer(values: [u8; 64], next: usize) -> NodeValues
     ensures { λ r. ⌜ r ≡ record { values = values; next = next } ⌝ }
 {
-    Valued { values, next }
+    NodeValues { values, next }
 }
 
 // The map of variable v: the nearest binder's, or one or two binders further out.
@@ -242,7 +242,7 @@ fn value_node(
     near: &[u8; 64],
     mid: &[u8; 64],
     far: &[u8; 64],
-) -> Valued
+) -> NodeValues
     requires { ⌜ ModelShape (now m) × Here (now f) at (getD (now m) 1 0) ⌝ }
     ensures { λ r. ⌜ Node (now (t .entry)) l (now (m .entry)) (now (f .entry)) at limit (now (near .entry)) (now (mid .entry)) (now (far .entry)) r ⌝ }
 {
@@ -281,7 +281,7 @@ fn iterate(
     near: &[u8; 64],
     mid: &[u8; 64],
     start: Element,
-) -> Valued
+) -> NodeValues
     requires { ⌜ ModelShape (now m) × Here (now f) body (getD (now m) 1 0) ⌝ }
     ensures { λ r. ⌜ Iterated (now (t .entry)) l (now (m .entry)) (now (f .entry)) body limit (now (near .entry)) (now (mid .entry)) (start .0) r ⌝ }
 {
@@ -308,7 +308,7 @@ fn round_limit(l: Lattice, m: &[u8]) -> usize
     ensures { λ r. ⌜ r ≡ getD (now (m .entry)) 0 0 * (l .size - 1) ⌝ }
 {
     let n = model::states(m);
-    let size = operations::wide(l.size);
+    let size = operations::index(l.size);
     if size == 0 {
         return 0;
     }
@@ -331,7 +331,7 @@ pub fn value(t: &[u8; 12352], l: Lattice, m: &[u8], f: &[u8], q: State) -> Eleme
     ensures { λ r. ⌜ ValueAt (now (t .entry)) l (now (m .entry)) (now (f .entry)) (q .0) (r .0) ⌝ }
 {
     let x = values(t, l, m, f);
-    let s = operations::wide(q.0);
+    let s = operations::index(q.0);
     Element(x[s])
 }
 

@@ -4,7 +4,7 @@ use mathlib.Core.Path.{sym, ap, _∙_}
 use mathlib.Core.List.{List}
 use borrow.Author.Needs.{needs}
 use Rattle.lattice.specs.Reading.{latticeReading}
-use Rattle.lattice.specs.Answer.{answerOf}
+use Rattle.lattice.specs.Answer.{latticeAnswer}
 use Rattle.casefile.specs.Steps.{afterChecked}
 use Rattle.casefile.proofs.check_parts.Statement.{statement}
 use Rattle.casefile.proofs.check_parts.Tie as tie
@@ -30,7 +30,7 @@ returns c =
     let k = c .before .before .before .check .ensures in
     let p = c .before .before .before .before .before .part .ensures in
     record {
-      answer = ap (afterChecked (a .bytes .now)) (sym (c .before .f .given .1) ∙ k .answer ∙ ap (λ (l : List ℕ). answerOf (latticeReading l)) p);
+      answer = ap (afterChecked (a .bytes .now)) (sym (c .before .f .given .1) ∙ k .answer ∙ ap (λ (l : List ℕ). latticeAnswer (latticeReading l)) p);
       tables = λ P e. k .tables P (ap latticeReading p ∙ e);
     }
 
@@ -40,7 +40,7 @@ returns-2 c =
     let k = c .before .before .before .before .check .ensures in
     let p = c .before .before .before .before .before .before .part .ensures in
     record {
-      answer = c .check-models .ensures ∙ ap (afterChecked (a .bytes .now)) (sym (c .before .before .l .given .1) ∙ k .answer ∙ ap (λ (l : List ℕ). answerOf (latticeReading l)) p);
+      answer = c .check-models .ensures ∙ ap (afterChecked (a .bytes .now)) (sym (c .before .before .l .given .1) ∙ k .answer ∙ ap (λ (l : List ℕ). latticeAnswer (latticeReading l)) p);
       tables = λ P e. k .tables P (ap latticeReading p ∙ e);
     }
 

@@ -17,8 +17,8 @@ abbrev μ-loop : tie.MeasureT-loop
 shared-slice-read-count : tie.Need-shared-slice-read-count Inv-loop μ-loop
 shared-slice-read-count c = omega arith
 
-wide-requires : tie.Need-wide-requires Inv-loop μ-loop
-wide-requires c κs = tt
+index-requires : tie.Need-index-requires Inv-loop μ-loop
+index-requires c κs = tt
 
 mul-from : tie.Need-mul-from Inv-loop μ-loop
 mul-from c = omega arith
@@ -59,7 +59,7 @@ first-misplaced-spec =
     Inv-loop
     μ-loop
     shared-slice-read-count
-    wide-requires
+    index-requires
     mul-from
     add-from
     loop-holds

@@ -3,7 +3,7 @@ use Prim.Native.Nat.{_-_}
 use mathlib.Core.Path.{_≡_, refl}
 use native.Mathlib.Omega.{arith}
 use borrow.Author.Needs.{needs}
-use Rattle.casefile.specs.Directory.{sizeOf}
+use Rattle.casefile.specs.Directory.{partSize}
 use Rattle.casefile.proofs.part.Statement.{statement}
 use Rattle.casefile.proofs.part.Tie as tie
 
@@ -27,7 +27,7 @@ part-result-end c =
 returns : tie.Need-returns
 returns c =
     let a = c .before .before .before .before .args in
-    let e : c .before .part-end .result - c .before .before .part-start .result ≡ sizeOf (a .bytes .now) (a .i) = omega arith in
+    let e : c .before .part-end .result - c .before .before .part-start .result ≡ partSize (a .bytes .now) (a .i) = omega arith in
     rw (e, c .before .before .part-start .ensures .0) refl
 
 pub part-spec : {M : Type 1} → statement M

@@ -1,11 +1,11 @@
 -- `casefile::part_size` meets its contract: the pair stands in the directory.
 use borrow.Author.Needs.{needs}
-use Rattle.casefile.specs.Directory.{sizeOf}
+use Rattle.casefile.specs.Directory.{partSize}
 use Rattle.casefile.proofs.part_size.Statement.{statement}
 use Rattle.casefile.proofs.part_size.Tie as tie
 
-wide-requires : tie.Need-wide-requires
-wide-requires c κs = search needs
+index-requires : tie.Need-index-requires
+index-requires c κs = search needs
 
 mul-word : tie.Need-mul-word
 mul-word c = search needs
@@ -17,8 +17,8 @@ word-requires : tie.Need-word-requires
 word-requires c κs = search needs
 
 returns : tie.Need-returns
-unfolding sizeOf
-returns c = (rw (c .before .wide .ensures .0) at (c .word .ensures .0), c .word .ensures .1)
+unfolding partSize
+returns c = (rw (c .before .index .ensures .0) at (c .word .ensures .0), c .word .ensures .1)
 
 pub part-size-spec : {M : Type 1} → statement M
-part-size-spec = tie.close (tie.spec wide-requires mul-word add-word word-requires returns)
+part-size-spec = tie.close (tie.spec index-requires mul-word add-word word-requires returns)

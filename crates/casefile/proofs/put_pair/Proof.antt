@@ -4,8 +4,8 @@ use Rattle.casefile.specs.Written.{pair-put}
 use Rattle.casefile.proofs.put_pair.Statement.{statement}
 use Rattle.casefile.proofs.put_pair.Tie as tie
 
-wide-requires : tie.Need-wide-requires
-wide-requires c κs = search needs
+index-requires : tie.Need-index-requires
+index-requires c κs = search needs
 
 mul-put-word : tie.Need-mul-put-word
 mul-put-word c = search needs
@@ -16,8 +16,8 @@ add-put-word c = search needs
 put-word-requires : tie.Need-put-word-requires
 put-word-requires c κs = search needs
 
-wide-requires-2 : tie.Need-wide-requires-2
-wide-requires-2 c κs = search needs
+index-requires-2 : tie.Need-index-requires-2
+index-requires-2 c κs = search needs
 
 mul-put-word-2 : tie.Need-mul-put-word-2
 mul-put-word-2 c = search needs
@@ -34,17 +34,17 @@ same-length c = search needs
 returns : tie.Need-returns
 returns c =
     let a = c .before .before .before .before .before .before .before .before .before .before .before .args in
-    pair-put (a .out .now) _ _ (a .i) _ _ (a .start) (a .size) (c .before .before .before .before .before .before .before .before .wide .ensures .0) (c .before .before .before .wide2 .ensures .0) (c .before .before .before .before .before .before .before .put-word .ensures) (c .before .before .put-word2 .ensures)
+    pair-put (a .out .now) _ _ (a .i) _ _ (a .start) (a .size) (c .before .before .before .before .before .before .before .before .index .ensures .0) (c .before .before .before .index2 .ensures .0) (c .before .before .before .before .before .before .before .put-word .ensures) (c .before .before .put-word2 .ensures)
 
 pub put-pair-spec : {M : Type 1} → statement M
 put-pair-spec =
     tie.close
     (tie.spec
-    wide-requires
+    index-requires
     mul-put-word
     add-put-word
     put-word-requires
-    wide-requires-2
+    index-requires-2
     mul-put-word-2
     add-put-word-2
     put-word-requires-2

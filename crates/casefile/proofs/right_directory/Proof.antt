@@ -15,8 +15,8 @@ returns c = simp (lt-leb 3 (partCount (c .before .before .before .args .bytes .n
 returns-2 : tie.Need-returns-2
 returns-2 c = simp (lt-leb (partCount (c .before .before .before .before .args .bytes .now)) 11 (c .if2 .taken), and-false)
 
-wide-requires : tie.Need-wide-requires
-wide-requires c κs = search needs
+index-requires : tie.Need-index-requires
+index-requires c κs = search needs
 
 mul-result : tie.Need-mul-result
 mul-result c = search needs
@@ -27,7 +27,7 @@ add-result c = search needs
 returns-3 : tie.Need-returns-3
 returns-3 c =
     let n = partCount (c .before .before .before .before .before .args .bytes .now) in
-    simp (le-leb 3 n (c .before .before .if1 .left), le-leb n 11 (c .before .if2 .left), c .wide .ensures .0)
+    simp (le-leb 3 n (c .before .before .if1 .left), le-leb n 11 (c .before .if2 .left), c .index .ensures .0)
 
 pub right-directory-spec : {M : Type 1} → statement M
 right-directory-spec =
@@ -36,7 +36,7 @@ right-directory-spec =
     shared-slice-read-count
     returns
     returns-2
-    wide-requires
+    index-requires
     mul-result
     add-result
     returns-3)

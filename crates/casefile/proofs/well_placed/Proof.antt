@@ -3,7 +3,7 @@ use native.Mathlib.Omega.{arith}
 use borrow.Author.Needs.{needs}
 use borrow.Author.Tests.{lt-ltb, le-ltb, le-leb, lt-leb}
 use Rattle.theory.specs.Test.{and-false}
-use Rattle.casefile.specs.Directory.{startOf, sizeOf}
+use Rattle.casefile.specs.Directory.{partStart, partSize}
 use Rattle.casefile.proofs.well_placed.Statement.{statement}
 use Rattle.casefile.proofs.well_placed.Tie as tie
 
@@ -13,7 +13,7 @@ part-size-requires c κs = search needs
 returns : tie.Need-returns
 returns c =
     let a = c .before .before .before .args in
-    simp (le-ltb 0 (sizeOf (a .bytes .now) (a .i)) (omega arith))
+    simp (le-ltb 0 (partSize (a .bytes .now) (a .i)) (omega arith))
 
 part-start-requires : tie.Need-part-start-requires
 part-start-requires c κs = search needs
@@ -21,7 +21,7 @@ part-start-requires c κs = search needs
 returns-2 : tie.Need-returns-2
 returns-2 c =
     let a = c .before .before .before .before .before .args in
-    simp (lt-leb (a .from) (startOf (a .bytes .now) (a .i)) (omega arith), and-false)
+    simp (lt-leb (a .from) (partStart (a .bytes .now) (a .i)) (omega arith), and-false)
 
 part-end-requires : tie.Need-part-end-requires
 part-end-requires c κs = search needs
@@ -29,7 +29,7 @@ part-end-requires c κs = search needs
 returns-3 : tie.Need-returns-3
 returns-3 c =
     let a = c .before .before .before .before .before .before .args in
-    simp (lt-ltb 0 (sizeOf (a .bytes .now) (a .i)) (omega arith), le-leb (a .from) (startOf (a .bytes .now) (a .i)) (omega arith), c .part-end .ensures)
+    simp (lt-ltb 0 (partSize (a .bytes .now) (a .i)) (omega arith), le-leb (a .from) (partStart (a .bytes .now) (a .i)) (omega arith), c .part-end .ensures)
 
 pub well-placed-spec : {M : Type 1} → statement M
 well-placed-spec =

@@ -15,8 +15,8 @@ abbrev μ-loop : tie.MeasureT-loop
 shared-slice-read-count : tie.Need-shared-slice-read-count Inv-loop μ-loop
 shared-slice-read-count c = omega arith
 
-wide-requires : tie.Need-wide-requires Inv-loop μ-loop
-wide-requires c κs = tt
+index-requires : tie.Need-index-requires Inv-loop μ-loop
+index-requires c κs = tt
 
 mul-at : tie.Need-mul-at Inv-loop μ-loop
 mul-at c = omega arith
@@ -27,7 +27,7 @@ add-at c = omega arith
 loop-holds : tie.Need-loop-holds Inv-loop μ-loop
 loop-holds c =
     let s = c .before .before .before .before in
-    (omega arith, rw (c .wide .ensures .0) (pairs-start (s .args .bytes .now) (s .args .out .now) (s .pre .0) (s .pre .1)))
+    (omega arith, rw (c .index .ensures .0) (pairs-start (s .args .bytes .now) (s .args .out .now) (s .pre .0) (s .pre .1)))
 
 -- there is room for the pair of a turn
 fits : (c : tie.In-loop Inv-loop μ-loop) → PairRoom (c .before .before .before .before .before .before .args .bytes .now) (c .before .loop .out) (c .before .loop .i) (c .before .loop .at)
@@ -77,7 +77,7 @@ write-pairs-spec =
     Inv-loop
     μ-loop
     shared-slice-read-count
-    wide-requires
+    index-requires
     mul-at
     add-at
     loop-holds

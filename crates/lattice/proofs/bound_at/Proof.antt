@@ -14,11 +14,11 @@ element-of-requires c κs = search needs
 element-of-requires-2 : tie.Need-element-of-requires-2
 element-of-requires-2 c κs = search needs
 
-wide-requires : tie.Need-wide-requires
-wide-requires c κs = search needs
+index-requires : tie.Need-index-requires
+index-requires c κs = search needs
 
-wide-requires-2 : tie.Need-wide-requires-2
-wide-requires-2 c κs = search needs
+index-requires-2 : tie.Need-index-requires-2
+index-requires-2 c κs = search needs
 
 mul-place : tie.Need-mul-place
 mul-place c = search needs
@@ -44,8 +44,8 @@ element-copy-out-result c = search needs
 returns : tie.Need-returns
 unfolding boundAt
 returns c =
-    let w1 : c .before .before .before .before .before .wide .result ≡ element (c .before .before .before .before .before .before .before .before .args .n) (c .before .before .before .before .before .before .before .before .args .k / 64) = c .before .before .before .before .before .wide .ensures .0 ∙ c .before .before .before .before .before .before .before .element-of .ensures in
-    let w2 : c .before .before .before .before .wide2 .result ≡ element (c .before .before .before .before .before .before .before .before .args .n) (c .before .before .before .before .before .before .before .before .args .k) = c .before .before .before .before .wide2 .ensures .0 ∙ c .before .before .before .before .before .before .element-of2 .ensures in
+    let w1 : c .before .before .before .before .before .index .result ≡ element (c .before .before .before .before .before .before .before .before .args .n) (c .before .before .before .before .before .before .before .before .args .k / 64) = c .before .before .before .before .before .index .ensures .0 ∙ c .before .before .before .before .before .before .before .element-of .ensures in
+    let w2 : c .before .before .before .before .index2 .result ≡ element (c .before .before .before .before .before .before .before .before .args .n) (c .before .before .before .before .before .before .before .before .args .k) = c .before .before .before .before .index2 .ensures .0 ∙ c .before .before .before .before .before .before .element-of2 .ensures in
     let x : c .before .before .before .lesser .result ≡ min (element (c .before .before .before .before .before .before .before .before .args .n) (c .before .before .before .before .before .before .before .before .args .k / 64)) (element (c .before .before .before .before .before .before .before .before .args .n) (c .before .before .before .before .before .before .before .before .args .k)) = c .before .before .before .lesser .ensures ∙ ap₂ min w1 w2 in
     let y : c .before .before .greater .result ≡ max (element (c .before .before .before .before .before .before .before .before .args .n) (c .before .before .before .before .before .before .before .before .args .k / 64)) (element (c .before .before .before .before .before .before .before .before .args .n) (c .before .before .before .before .before .before .before .before .args .k)) = c .before .before .greater .ensures ∙ ap₂ max w1 w2 in
     simp (x, y, lt-ltb _ _ (simp (x, y) at (c .before .if1 .taken)))
@@ -56,8 +56,8 @@ bound-requires c κs = search needs
 returns-2 : tie.Need-returns-2
 unfolding boundAt
 returns-2 c =
-    let w1 : c .before .before .before .before .before .wide .result ≡ element (c .before .before .before .before .before .before .before .before .args .n) (c .before .before .before .before .before .before .before .before .args .k / 64) = c .before .before .before .before .before .wide .ensures .0 ∙ c .before .before .before .before .before .before .before .element-of .ensures in
-    let w2 : c .before .before .before .before .wide2 .result ≡ element (c .before .before .before .before .before .before .before .before .args .n) (c .before .before .before .before .before .before .before .before .args .k) = c .before .before .before .before .wide2 .ensures .0 ∙ c .before .before .before .before .before .before .element-of2 .ensures in
+    let w1 : c .before .before .before .before .before .index .result ≡ element (c .before .before .before .before .before .before .before .before .args .n) (c .before .before .before .before .before .before .before .before .args .k / 64) = c .before .before .before .before .before .index .ensures .0 ∙ c .before .before .before .before .before .before .before .element-of .ensures in
+    let w2 : c .before .before .before .before .index2 .result ≡ element (c .before .before .before .before .before .before .before .before .args .n) (c .before .before .before .before .before .before .before .before .args .k) = c .before .before .before .before .index2 .ensures .0 ∙ c .before .before .before .before .before .before .element-of2 .ensures in
     let x : c .before .before .before .lesser .result ≡ min (element (c .before .before .before .before .before .before .before .before .args .n) (c .before .before .before .before .before .before .before .before .args .k / 64)) (element (c .before .before .before .before .before .before .before .before .args .n) (c .before .before .before .before .before .before .before .before .args .k)) = c .before .before .before .lesser .ensures ∙ ap₂ min w1 w2 in
     let y : c .before .before .greater .result ≡ max (element (c .before .before .before .before .before .before .before .before .args .n) (c .before .before .before .before .before .before .before .before .args .k / 64)) (element (c .before .before .before .before .before .before .before .before .args .n) (c .before .before .before .before .before .before .before .before .args .k)) = c .before .before .greater .ensures ∙ ap₂ max w1 w2 in
     simp (c .bound .ensures, c .before .before .before .before .before .before .before .element-of .ensures, c .before .before .before .before .before .before .element-of2 .ensures, le-ltb _ _ (simp (x, y) at (c .before .if1 .left)))
@@ -68,8 +68,8 @@ bound-at-spec =
     (tie.spec
     element-of-requires
     element-of-requires-2
-    wide-requires
-    wide-requires-2
+    index-requires
+    index-requires-2
     mul-place
     lesser-requires
     mul-place-2

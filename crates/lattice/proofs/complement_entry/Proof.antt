@@ -14,17 +14,17 @@ sub-result c = panel-complement _ _ (sym (c .before .before .is-panel .ensures) 
 returns : tie.Need-returns
 returns c = panel-complement _ _ (sym (c .before .before .is-panel .ensures) ∙ c .before .if1 .taken) (c .before .before .before .before .pre .1) .1
 
-wide-requires : tie.Need-wide-requires
-wide-requires c κs = search needs
+index-requires : tie.Need-index-requires
+index-requires c κs = search needs
 
 add-result : tie.Need-add-result
 add-result c = search needs
 
 shared-slice-read-result : tie.Need-shared-slice-read-result
-shared-slice-read-result c = rw (c .before .wide .ensures .0) (explicit-complement _ _ (c .before .before .before .before .before .pre .0) (sym (c .before .before .before .is-panel .ensures) ∙ c .before .before .if1 .left) (c .before .before .before .before .before .pre .1) .0)
+shared-slice-read-result c = rw (c .before .index .ensures .0) (explicit-complement _ _ (c .before .before .before .before .before .pre .0) (sym (c .before .before .before .is-panel .ensures) ∙ c .before .before .if1 .left) (c .before .before .before .before .before .pre .1) .0)
 
 returns-2 : tie.Need-returns-2
-returns-2 c = rw (c .before .wide .ensures .0) (explicit-complement _ _ (c .before .before .before .before .before .pre .0) (sym (c .before .before .before .is-panel .ensures) ∙ c .before .before .if1 .left) (c .before .before .before .before .before .pre .1) .1)
+returns-2 c = rw (c .before .index .ensures .0) (explicit-complement _ _ (c .before .before .before .before .before .pre .0) (sym (c .before .before .before .is-panel .ensures) ∙ c .before .before .if1 .left) (c .before .before .before .before .before .pre .1) .1)
 
 pub complement-entry-spec : {M : Type 1} → statement M
 complement-entry-spec =
@@ -33,7 +33,7 @@ complement-entry-spec =
     is-panel-requires
     sub-result
     returns
-    wide-requires
+    index-requires
     add-result
     shared-slice-read-result
     returns-2)

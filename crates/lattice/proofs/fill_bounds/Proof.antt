@@ -6,13 +6,13 @@ use Prim.Native.Nat.{_≤_, _-_}
 use lib.ListN.{length, length-set}
 use Rattle.theory.specs.Test.{false-true}
 use Rattle.lattice.specs.Tables.{BoundsUpTo, bounds-none, bounds-more, bounds-fail, bounds-done, filled-reached}
-use Rattle.lattice.specs.Reading.{latticePart}
+use Rattle.lattice.specs.Reading.{latticeOf}
 use Rattle.lattice.specs.Accepted.{formed, ordered-out}
 use Rattle.lattice.proofs.fill_bounds.Statement.{statement}
 use Rattle.lattice.proofs.fill_bounds.Tie as tie
 
 abbrev Inv-loop : tie.InvT-loop
-Inv-loop part t₀ n k₀ t k = (4096 ≤ k) × (k ≤ 12288) × (length t ≡ 12352) × BoundsUpTo (latticePart part) k t
+Inv-loop part t₀ n k₀ t k = (4096 ≤ k) × (k ≤ 12288) × (length t ≡ 12352) × BoundsUpTo (latticeOf part) k t
 
 abbrev μ-loop : tie.MeasureT-loop
 μ-loop part t₀ n k₀ t k = 12288 - k

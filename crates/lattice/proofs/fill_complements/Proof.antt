@@ -6,15 +6,15 @@ use Prim.Native.Nat.{_≤_, _-_}
 use lib.ListN.{length, length-set}
 use Rattle.theory.specs.Loop.{Filled, filled-more}
 use Rattle.theory.specs.Part.{opsOf}
-use Rattle.lattice.specs.Reading.{latticePart}
-use Rattle.lattice.specs.Tables.{tableOf, filled-reached, complement-fill}
+use Rattle.lattice.specs.Reading.{latticeOf}
+use Rattle.lattice.specs.Tables.{tableEntry, filled-reached, complement-fill}
 use Rattle.lattice.specs.Accepted.{formed}
 use Rattle.lattice.specs.Bounds.{element-lt}
 use Rattle.lattice.proofs.fill_complements.Statement.{statement}
 use Rattle.lattice.proofs.fill_complements.Tie as tie
 
 abbrev Inv-loop : tie.InvT-loop
-Inv-loop part t₀ n k₀ t k = (12288 ≤ k) × (k ≤ 12352) × (length t ≡ 12352) × Filled (tableOf (opsOf (latticePart part))) k t
+Inv-loop part t₀ n k₀ t k = (12288 ≤ k) × (k ≤ 12352) × (length t ≡ 12352) × Filled (tableEntry (opsOf (latticeOf part))) k t
 
 abbrev μ-loop : tie.MeasureT-loop
 μ-loop part t₀ n k₀ t k = 12352 - k
@@ -48,7 +48,7 @@ loop-less c = omega arith
 loop-again : tie.Need-loop-again Inv-loop μ-loop
 loop-again c =
     let i = c .before .before .before .loop .inv in
-    (omega arith, omega arith, simp length-set (i .2), filled-more (i .3) (omega (arith, i .2)) (complement-fill (latticePart (c .before .before .before .before .before .before .before .before .before .args .part .now)) _ _ (i .0) (c .before .before .before .before .size .ensures) (c .before .element-of .ensures) (c .complement-entry .ensures)))
+    (omega arith, omega arith, simp length-set (i .2), filled-more (i .3) (omega (arith, i .2)) (complement-fill (latticeOf (c .before .before .before .before .before .before .before .before .before .args .part .now)) _ _ (i .0) (c .before .before .before .before .size .ensures) (c .before .element-of .ensures) (c .complement-entry .ensures)))
 
 returns : tie.Need-returns Inv-loop μ-loop
 returns c = filled-reached (c .before .loop .inv .3) (c .loop-test .left)

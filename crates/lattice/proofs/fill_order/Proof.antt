@@ -6,15 +6,15 @@ use Prim.Native.Nat.{_≤_, _-_}
 use lib.ListN.{length, length-set}
 use Rattle.theory.specs.Loop.{Filled, filled-none, filled-more}
 use Rattle.theory.specs.Part.{opsOf}
-use Rattle.lattice.specs.Reading.{latticePart}
-use Rattle.lattice.specs.Tables.{tableOf, filled-reached, order-fill}
+use Rattle.lattice.specs.Reading.{latticeOf}
+use Rattle.lattice.specs.Tables.{tableEntry, filled-reached, order-fill}
 use Rattle.lattice.specs.Accepted.{formed}
 use Rattle.lattice.specs.Bounds.{element-lt}
 use Rattle.lattice.proofs.fill_order.Statement.{statement}
 use Rattle.lattice.proofs.fill_order.Tie as tie
 
 abbrev Inv-loop : tie.InvT-loop
-Inv-loop part t₀ n k₀ t k = (k ≤ 4096) × (length t ≡ 12352) × Filled (tableOf (opsOf (latticePart part))) k t
+Inv-loop part t₀ n k₀ t k = (k ≤ 4096) × (length t ≡ 12352) × Filled (tableEntry (opsOf (latticeOf part))) k t
 
 abbrev μ-loop : tie.MeasureT-loop
 μ-loop part t₀ n k₀ t k = 4096 - k
@@ -51,7 +51,7 @@ loop-less c = omega arith
 loop-again : tie.Need-loop-again Inv-loop μ-loop
 loop-again c =
     let i = c .before .before .before .before .loop .inv in
-    (omega arith, simp length-set (i .1), filled-more (i .2) (omega (arith, i .1)) (order-fill (latticePart (c .before .before .before .before .before .before .before .before .before .before .args .part .now)) _ _ (c .before .before .before .loop-test .taken) (c .before .before .before .before .before .size .ensures) (c .before .before .element-of .ensures) (c .before .element-of2 .ensures) (c .order-entry .ensures)))
+    (omega arith, simp length-set (i .1), filled-more (i .2) (omega (arith, i .1)) (order-fill (latticeOf (c .before .before .before .before .before .before .before .before .before .before .args .part .now)) _ _ (c .before .before .before .loop-test .taken) (c .before .before .before .before .before .size .ensures) (c .before .before .element-of .ensures) (c .before .element-of2 .ensures) (c .order-entry .ensures)))
 
 returns : tie.Need-returns Inv-loop μ-loop
 returns c = filled-reached (c .before .loop .inv .2) (c .loop-test .left)

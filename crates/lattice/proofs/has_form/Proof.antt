@@ -20,44 +20,44 @@ returns-2 c = sym (form-panel _ (sym (c .before .is-panel .ensures) ∙ c .if2 .
 shared-slice-read-limit : tie.Need-shared-slice-read-limit
 shared-slice-read-limit c = omega arith
 
-wide-requires : tie.Need-wide-requires
-wide-requires c κs = search needs
+index-requires : tie.Need-index-requires
+index-requires c κs = search needs
 
 returns-3 : tie.Need-returns-3
-returns-3 c = sym (not-passed _ (λ f. omega (arith, form-out _ (c .before .wide .result) (sym (c .before .before .before .before .is-panel .ensures) ∙ c .before .before .before .if2 .left) (c .before .wide .ensures .0) f)))
+returns-3 c = sym (not-passed _ (λ f. omega (arith, form-out _ (c .before .index .result) (sym (c .before .before .before .before .is-panel .ensures) ∙ c .before .before .before .if2 .left) (c .before .index .ensures .0) f)))
 
 returns-4 : tie.Need-returns-4
-returns-4 c = sym (not-passed _ (λ f. omega (arith, form-out _ (c .before .before .wide .result) (sym (c .before .before .before .before .before .is-panel .ensures) ∙ c .before .before .before .before .if2 .left) (c .before .before .wide .ensures .0) f)))
+returns-4 c = sym (not-passed _ (λ f. omega (arith, form-out _ (c .before .before .index .result) (sym (c .before .before .before .before .before .is-panel .ensures) ∙ c .before .before .before .before .if2 .left) (c .before .before .index .ensures .0) f)))
 
 add-if5 : tie.Need-add-if5
 add-if5 c = omega arith
 
 mul-if5 : tie.Need-mul-if5
-mul-if5 c = omega (arith, square-le (c .before .before .wide .result) (c .if4 .left))
+mul-if5 c = omega (arith, square-le (c .before .before .index .result) (c .if4 .left))
 
 add-if5-2 : tie.Need-add-if5-2
-add-if5-2 c = omega (arith, square-le (c .before .before .wide .result) (c .if4 .left))
+add-if5-2 c = omega (arith, square-le (c .before .before .index .result) (c .if4 .left))
 
 returns-5 : tie.Need-returns-5
-returns-5 c = sym (not-passed _ (λ f. c .if5 .taken (form-out _ (c .before .before .before .wide .result) (sym (c .before .before .before .before .before .before .is-panel .ensures) ∙ c .before .before .before .before .before .if2 .left) (c .before .before .before .wide .ensures .0) f .exact)))
+returns-5 c = sym (not-passed _ (λ f. c .if5 .taken (form-out _ (c .before .before .before .index .result) (sym (c .before .before .before .before .before .before .is-panel .ensures) ∙ c .before .before .before .before .before .if2 .left) (c .before .before .before .index .ensures .0) f .exact)))
 
 bytes-below-requires : tie.Need-bytes-below-requires
 bytes-below-requires c κs = omega arith
 
 returns-6 : tie.Need-returns-6
-returns-6 c = sym (form-complements _ _ (sym (c .before .before .before .before .before .before .before .before .is-panel .ensures) ∙ c .before .before .before .before .before .before .before .if2 .left) (c .before .before .before .before .before .wide .ensures .0) (sym (c .before .bytes-below .ensures) ∙ not-true _ (c .if6 .taken)))
+returns-6 c = sym (form-complements _ _ (sym (c .before .before .before .before .before .before .before .before .is-panel .ensures) ∙ c .before .before .before .before .before .before .before .if2 .left) (c .before .before .before .before .before .index .ensures .0) (sym (c .before .bytes-below .ensures) ∙ not-true _ (c .if6 .taken)))
 
 add-bytes-below : tie.Need-add-bytes-below
 add-bytes-below c = omega arith
 
 mul-bytes-below : tie.Need-mul-bytes-below
-mul-bytes-below c = omega (arith, square-le (c .before .before .before .before .before .wide .result) (c .before .before .before .if4 .left))
+mul-bytes-below c = omega (arith, square-le (c .before .before .before .before .before .index .result) (c .before .before .before .if4 .left))
 
 bytes-below-requires-2 : tie.Need-bytes-below-requires-2
 bytes-below-requires-2 c κs = omega arith
 
 returns-7 : tie.Need-returns-7
-returns-7 c = c .bytes-below2 .ensures ∙ sym (form-last _ _ (sym (c .before .before .before .before .before .before .before .before .before .is-panel .ensures) ∙ c .before .before .before .before .before .before .before .before .if2 .left) (c .before .before .before .before .before .before .wide .ensures .0) (c .before .before .before .before .before .if3 .left) (c .before .before .before .before .if4 .left) (c .before .before .before .if5 .left) (sym (c .before .before .bytes-below .ensures) ∙ not-false _ (c .before .if6 .left)))
+returns-7 c = c .bytes-below2 .ensures ∙ sym (form-last _ _ (sym (c .before .before .before .before .before .before .before .before .before .is-panel .ensures) ∙ c .before .before .before .before .before .before .before .before .if2 .left) (c .before .before .before .before .before .before .index .ensures .0) (c .before .before .before .before .before .if3 .left) (c .before .before .before .before .if4 .left) (c .before .before .before .if5 .left) (sym (c .before .before .bytes-below .ensures) ∙ not-false _ (c .before .if6 .left)))
 
 pub has-form-spec : {M : Type 1} → statement M
 has-form-spec =
@@ -67,7 +67,7 @@ has-form-spec =
     is-panel-requires
     returns-2
     shared-slice-read-limit
-    wide-requires
+    index-requires
     returns-3
     returns-4
     add-if5

@@ -6,28 +6,28 @@ use borrow.Author.Needs.{needs}
 use Rattle.theory.specs.Simulation.{one}
 use Rattle.theory.specs.Loop.{tab, tab-at}
 use Rattle.lattice.specs.Panel.{panelOrder}
-use Rattle.lattice.specs.Reading.{latticePart}
+use Rattle.lattice.specs.Reading.{latticeOf}
 use Rattle.lattice.specs.Form.{OrderEntry, form-explicit, order-at, panel-at, panelEntry}
 use Rattle.lattice.proofs.order_entry.Statement.{statement}
 use Rattle.lattice.proofs.order_entry.Tie as tie
 
 -- the entry's place, from what was read
-entry : (c : tie.After-wide3) → OrderEntry (c .before .before .before .before .before .before .before .args .part .now) (c .wide3 .result) (c .before .before .before .before .before .wide .result) (c .before .before .before .before .wide2 .result)
+entry : (c : tie.After-index3) → OrderEntry (c .before .before .before .before .before .before .before .args .part .now) (c .index3 .result) (c .before .before .before .before .before .index .result) (c .before .before .before .before .index2 .result)
 entry c =
     let p = c .before .before .before .before .before .before .before .pre in
-    order-at _ _ _ _ (p .0) (sym (c .before .before .before .is-panel .ensures) ∙ c .before .before .if1 .left) (c .wide3 .ensures .0) (rw (c .before .before .before .before .before .wide .ensures .0) (p .1)) (rw (c .before .before .before .before .wide2 .ensures .0) (p .2))
+    order-at _ _ _ _ (p .0) (sym (c .before .before .before .is-panel .ensures) ∙ c .before .before .if1 .left) (c .index3 .ensures .0) (rw (c .before .before .before .before .before .index .ensures .0) (p .1)) (rw (c .before .before .before .before .index2 .ensures .0) (p .2))
 
 -- the panel's entry
-panel : (c : tie.Then1) → (c .before .before .before .wide .result * 27 + c .before .before .wide2 .result < 729) × (panelEntry (c .before .before .before .wide .result * 27 + c .before .before .wide2 .result) ≡ one (latticePart (c .before .before .before .before .before .args .part .now) .order (c .before .before .before .wide .result) (c .before .before .wide2 .result)))
+panel : (c : tie.Then1) → (c .before .before .before .index .result * 27 + c .before .before .index2 .result < 729) × (panelEntry (c .before .before .before .index .result * 27 + c .before .before .index2 .result) ≡ one (latticeOf (c .before .before .before .before .before .args .part .now) .order (c .before .before .before .index .result) (c .before .before .index2 .result)))
 panel c =
     let p = c .before .before .before .before .before .pre in
-    panel-at _ _ _ (sym (c .before .is-panel .ensures) ∙ c .if1 .taken) (rw (c .before .before .before .wide .ensures .0) (p .1)) (rw (c .before .before .wide2 .ensures .0) (p .2))
+    panel-at _ _ _ (sym (c .before .is-panel .ensures) ∙ c .if1 .taken) (rw (c .before .before .before .index .ensures .0) (p .1)) (rw (c .before .before .index2 .ensures .0) (p .2))
 
-wide-requires : tie.Need-wide-requires
-wide-requires c κs = search needs
+index-requires : tie.Need-index-requires
+index-requires c κs = search needs
 
-wide-requires-2 : tie.Need-wide-requires-2
-wide-requires-2 c κs = search needs
+index-requires-2 : tie.Need-index-requires-2
+index-requires-2 c κs = search needs
 
 is-panel-requires : tie.Need-is-panel-requires
 is-panel-requires c κs = search needs
@@ -43,13 +43,13 @@ array-read-result c = panel c .0
 
 returns : tie.Need-returns
 unfolding tab panelOrder
-returns c = rw (← c .before .before .before .wide .ensures .0, ← c .before .before .wide2 .ensures .0) (tab-at panelEntry 729 _ (panel c .0) ∙ panel c .1)
+returns c = rw (← c .before .before .before .index .ensures .0, ← c .before .before .index2 .ensures .0) (tab-at panelEntry 729 _ (panel c .0) ∙ panel c .1)
 
-shared-slice-read-wide : tie.Need-shared-slice-read-wide
-shared-slice-read-wide c = omega (arith, form-explicit _ (c .before .before .before .before .before .before .pre .0) (sym (c .before .before .is-panel .ensures) ∙ c .before .if1 .left) .exact)
+shared-slice-read-index : tie.Need-shared-slice-read-index
+shared-slice-read-index c = omega (arith, form-explicit _ (c .before .before .before .before .before .before .pre .0) (sym (c .before .before .is-panel .ensures) ∙ c .before .if1 .left) .exact)
 
-wide-requires-3 : tie.Need-wide-requires-3
-wide-requires-3 c κs = search needs
+index-requires-3 : tie.Need-index-requires-3
+index-requires-3 c κs = search needs
 
 add-result-2 : tie.Need-add-result-2
 add-result-2 c = search needs
@@ -67,21 +67,21 @@ shared-slice-read-result : tie.Need-shared-slice-read-result
 shared-slice-read-result c = entry (c .before) .inside
 
 returns-2 : tie.Need-returns-2
-returns-2 c = rw (← c .before .before .before .before .before .before .wide .ensures .0, ← c .before .before .before .before .before .wide2 .ensures .0) (entry (c .before) .value)
+returns-2 c = rw (← c .before .before .before .before .before .before .index .ensures .0, ← c .before .before .before .before .before .index2 .ensures .0) (entry (c .before) .value)
 
 pub order-entry-spec : {M : Type 1} → statement M
 order-entry-spec =
     tie.close
     (tie.spec
-    wide-requires
-    wide-requires-2
+    index-requires
+    index-requires-2
     is-panel-requires
     mul-result
     add-result
     array-read-result
     returns
-    shared-slice-read-wide
-    wide-requires-3
+    shared-slice-read-index
+    index-requires-3
     add-result-2
     mul-result-2
     add-result-3

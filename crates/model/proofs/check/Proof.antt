@@ -11,10 +11,10 @@ use Rattle.model.proofs.check.Statement.{statement}
 use Rattle.model.proofs.check.Tie as tie
 
 -- the products fit: 64 states and 16 propositions at most
-products : (c : tie.After-wide2) → (c .before .wide .result * c .wide2 .result ≤ 64 * 16) × (c .before .wide .result * c .before .wide .result ≤ 64 * 64)
+products : (c : tie.After-index2) → (c .before .index .result * c .index2 .result ≤ 64 * 16) × (c .before .index .result * c .before .index .result ≤ 64 * 64)
 products c = (
-  prod-le (c .before .wide .result) (c .wide2 .result) 64 16 (omega arith) (omega arith),
-  prod-le (c .before .wide .result) (c .before .wide .result) 64 64 (omega arith) (omega arith),
+  prod-le (c .before .index .result) (c .index2 .result) 64 16 (omega arith) (omega arith),
+  prod-le (c .before .index .result) (c .before .index .result) 64 64 (omega arith) (omega arith),
 )
 
 returns : tie.Need-returns
@@ -35,11 +35,11 @@ returns-3 c = answers-refused _ _ (λ s v. omega (arith, s .exact, s .some, s .s
 returns-4 : tie.Need-returns-4
 returns-4 c = answers-refused _ _ (λ s v. omega (arith, s .exact, s .some, s .states-most, s .propositions-most))
 
-wide-requires : tie.Need-wide-requires
-wide-requires c κs = search needs
+index-requires : tie.Need-index-requires
+index-requires c κs = search needs
 
-wide-requires-2 : tie.Need-wide-requires-2
-wide-requires-2 c κs = search needs
+index-requires-2 : tie.Need-index-requires-2
+index-requires-2 c κs = search needs
 
 add-if5 : tie.Need-add-if5
 add-if5 c = search needs
@@ -78,8 +78,8 @@ check-spec =
     returns-2
     returns-3
     returns-4
-    wide-requires
-    wide-requires-2
+    index-requires
+    index-requires-2
     add-if5
     mul-if5
     add-if5-2

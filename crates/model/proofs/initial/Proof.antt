@@ -3,8 +3,8 @@ use borrow.Author.Needs.{needs}
 use Rattle.model.proofs.initial.Statement.{statement}
 use Rattle.model.proofs.initial.Tie as tie
 
-wide-requires : tie.Need-wide-requires
-wide-requires c κs = search needs
+index-requires : tie.Need-index-requires
+index-requires c κs = search needs
 
 add-t4 : tie.Need-add-t4
 add-t4 c = search needs
@@ -16,4 +16,4 @@ returns : tie.Need-returns
 returns c = cc
 
 pub initial-spec : {M : Type 1} → statement M
-initial-spec = tie.close (tie.spec wide-requires add-t4 shared-slice-read-t6 returns)
+initial-spec = tie.close (tie.spec index-requires add-t4 shared-slice-read-t6 returns)

@@ -6,25 +6,25 @@ use Rattle.model.proofs.label_row.Statement.{statement}
 use Rattle.model.proofs.label_row.Tie as tie
 
 -- the place, from what was read
-facts : (c : tie.After-wide3) → RowFacts (c .before .before .before .before .before .before .args .m .now) (c .before .before .before .before .before .before .args .q .0) (c .before .before .before .wide .result) (c .before .wide2 .result) (c .wide3 .result)
+facts : (c : tie.After-index3) → RowFacts (c .before .before .before .before .before .before .args .m .now) (c .before .before .before .before .before .before .args .q .0) (c .before .before .before .index .result) (c .before .index2 .result) (c .index3 .result)
 facts c =
     row-facts _ _ _ _ _ (c .before .before .before .before .before .before .pre .0) (c .before .before .before .before .before .before .pre .1)
-    (c .before .before .before .wide .ensures .0) (c .before .wide2 .ensures .0) (c .wide3 .ensures .0)
+    (c .before .before .before .index .ensures .0) (c .before .index2 .ensures .0) (c .index3 .ensures .0)
 
-shared-slice-read-wide : tie.Need-shared-slice-read-wide
-shared-slice-read-wide c = search needs
+shared-slice-read-index : tie.Need-shared-slice-read-index
+shared-slice-read-index c = search needs
 
-wide-requires : tie.Need-wide-requires
-wide-requires c κs = search needs
+index-requires : tie.Need-index-requires
+index-requires c κs = search needs
 
-shared-slice-read-wide-2 : tie.Need-shared-slice-read-wide-2
-shared-slice-read-wide-2 c = search needs
+shared-slice-read-index-2 : tie.Need-shared-slice-read-index-2
+shared-slice-read-index-2 c = search needs
 
-wide-requires-2 : tie.Need-wide-requires-2
-wide-requires-2 c κs = search needs
+index-requires-2 : tie.Need-index-requires-2
+index-requires-2 c κs = search needs
 
-wide-requires-3 : tie.Need-wide-requires-3
-wide-requires-3 c κs = search needs
+index-requires-3 : tie.Need-index-requires-3
+index-requires-3 c κs = search needs
 
 add-result : tie.Need-add-result
 add-result c = search needs
@@ -42,11 +42,11 @@ pub label-row-spec : {M : Type 1} → statement M
 label-row-spec =
     tie.close
     (tie.spec
-    shared-slice-read-wide
-    wide-requires
-    shared-slice-read-wide-2
-    wide-requires-2
-    wide-requires-3
+    shared-slice-read-index
+    index-requires
+    shared-slice-read-index-2
+    index-requires-2
+    index-requires-3
     add-result
     mul-result
     add-result-2

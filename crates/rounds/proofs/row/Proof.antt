@@ -26,16 +26,16 @@ abbrev μ-loop : tie.MeasureT-loop
 μ-loop t l m1 m2 s out₀ q1 n2 at changed₀ q2₀ out changed q2 = n2 - q2
 
 -- where the row stands
-place : (c : tie.After-wide Inv-loop μ-loop) → RowAt (c .before .before .before .before .before .before .args .m1 .now) (c .before .before .before .before .before .before .args .m2 .now) (c .before .before .before .before .before .before .args .q1 .0) (c .before .states .result) (c .wide .result * c .before .states .result)
+place : (c : tie.After-index Inv-loop μ-loop) → RowAt (c .before .before .before .before .before .before .args .m1 .now) (c .before .before .before .before .before .before .args .m2 .now) (c .before .before .before .before .before .before .args .q1 .0) (c .before .states .result) (c .index .result * c .before .states .result)
 place c =
     let b = c .before .before .before .before .before .before in
-    row-at _ _ (b .args .s .now) _ _ _ (b .pre .0) (b .pre .2) (c .before .states .ensures) (c .wide .ensures .0)
+    row-at _ _ (b .args .s .now) _ _ _ (b .pre .0) (b .pre .2) (c .before .states .ensures) (c .index .ensures .0)
 
 states-requires : tie.Need-states-requires Inv-loop μ-loop
 states-requires c κs = search needs
 
-wide-requires : tie.Need-wide-requires Inv-loop μ-loop
-wide-requires c κs = search needs
+index-requires : tie.Need-index-requires Inv-loop μ-loop
+index-requires c κs = search needs
 
 mul-at : tie.Need-mul-at Inv-loop μ-loop
 mul-at c = omega (arith, place c, c .before .before .before .before .before .before .pre .1)
@@ -97,7 +97,7 @@ row-spec =
     Inv-loop
     μ-loop
     states-requires
-    wide-requires
+    index-requires
     mul-at
     loop-holds
     cast-changed-or

@@ -19,8 +19,8 @@ abbrev μ-loop : tie.MeasureT-loop
 states-requires : tie.Need-states-requires Inv-loop μ-loop
 states-requires c κs = search needs
 
-wide-requires : tie.Need-wide-requires Inv-loop μ-loop
-wide-requires c κs = search needs
+index-requires : tie.Need-index-requires Inv-loop μ-loop
+index-requires c κs = search needs
 
 loop-holds : tie.Need-loop-holds Inv-loop μ-loop
 loop-holds c = (omega arith, refl, filled-none)
@@ -49,12 +49,12 @@ loop-less c = omega arith
 loop-again : tie.Need-loop-again Inv-loop μ-loop
 loop-again c =
     let i = c .before .before .before .before .loop .inv in
-    (omega arith, simp length-set (i .1), filled-more (i .2) (omega arith) (label-at (c .before .before .before .before .before .before .before .before .args .m .now) _ (c .before .before .before .before .before .wide .result) _ _ (c .before .label-row .ensures .0) (c .before .before .state .ensures)))
+    (omega arith, simp length-set (i .1), filled-more (i .2) (omega arith) (label-at (c .before .before .before .before .before .before .before .before .args .m .now) _ (c .before .before .before .before .before .index .result) _ _ (c .before .label-row .ensures .0) (c .before .before .state .ensures)))
 
 returns : tie.Need-returns Inv-loop μ-loop
 returns c =
     filled-as (c .before .loop .inv .2) (omega arith)
-    (λ i b. ap (λ (p : ℕ). modelOf (c .before .before .before .before .before .args .m .now) .label i p) (c .before .before .wide .ensures .0))
+    (λ i b. ap (λ (p : ℕ). modelOf (c .before .before .before .before .before .args .m .now) .label i p) (c .before .before .index .ensures .0))
 
 pub labels-spec : {M : Type 1} → statement M
 labels-spec =
@@ -63,7 +63,7 @@ labels-spec =
     Inv-loop
     μ-loop
     states-requires
-    wide-requires
+    index-requires
     loop-holds
     state-requires
     label-row-requires

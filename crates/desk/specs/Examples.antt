@@ -1,0 +1,100 @@
+-- Two examples of document 01 by computation: calls from a desk of zeros, and their answers.
+use Prim.Native.Nat.{ℕ}
+use mathlib.Core.Path.{_≡_, refl}
+use mathlib.Core.Bool.{false, true}
+use mathlib.Core.List.{List, [], _∷_, map}
+use lib.ListN.{replicate}
+use Rattle.theory.specs.Lattice.{imp, iff, bigMeet, bigJoin}
+use Rattle.theory.specs.Value.{iterate, bind, allNext, someNext, eval, valueAt, wholeValue}
+use Rattle.theory.specs.Simulation.{propositionPart, successorPart, F, roundOf, score, count, share}
+use Rattle.theory.specs.Part.{isMeet, isJoin, meetOf, joinOf, topOf, botOf, element}
+use Rattle.theory.specs.Formula.{boundBy, overProps, nestedBinders}
+use Rattle.theory.specs.Test.{allBelow, firstBelow}
+use Rattle.lattice.specs.Reading.{isPanel, latticeOf, explicitForm, latticeForm, reflexive, antisymmetric, transitive, partialOrder, bounded, distributive, complementRules, require, partReading, latticeReading}
+use Rattle.model.specs.Reading.{elementsOnly, modelTest}
+use Rattle.formula.specs.Bytes.{byCode, parse, formulaReading}
+use Rattle.casefile.specs.Directory.{partStart, partSize, placed, misplaced, partsFrom}
+use Rattle.casefile.specs.Reading.{formulasReading, modelsReading, caseReading}
+use Rattle.casefile.specs.Gapless.{pairs, joined, gapless}
+use Rattle.casefile.specs.Examples.{reportCase}
+use Rattle.rounds.specs.Table.{written, rowSame, changedBelow, simulationTest}
+use Rattle.desk.specs.Desk.{Desk, Question, Call, Reply}
+use Rattle.desk.specs.Refused.{short, rulesKept, spoiled, examined, accepted}
+use Rattle.desk.specs.Moved.{opened, worked, stepped}
+use Rattle.desk.specs.Perform.{answer, moved, perform}
+use Rattle.desk.specs.Run.{replies}
+
+-- 'A desk of zeros'
+abbrev pub zeros : Desk
+zeros =
+    record {
+      standing = record { states1 = 0; states2 = 0; round = 0; row = 0; changed = false; settled = false; secondWhole = false };
+      store = replicate 24576 0;
+      first = replicate 4096 0;
+      second = replicate 4096 0;
+    }
+
+-- worked example 1 with formula p, which report prints: rounds 2, row 0: 1, score 1, formula 0: 1 1
+abbrev pub calls1 : List (Call × Reply)
+calls1 =
+    (Call.Open reportCase, Reply.Opened)
+    ∷ (Call.Step, Reply.Round 1)
+    ∷ (Call.Step, Reply.Settled 2)
+    ∷ (Call.Ask Question.Show, Reply.Shown (1 ∷ []))
+    ∷ (Call.Ask Question.Score, Reply.Element 1)
+    ∷ (Call.Ask (Question.Whole 0 1), Reply.Element 1)
+    ∷ (Call.Ask (Question.Whole 0 2), Reply.Element 1)
+    ∷ []
+
+-- worked example 4 with AX of not-p: 'Round 1 is 1 0 / 0 0, round 2 all 0, T = 3. AX of not-p has value 1 at state 0 of model 2 and 0 in
+-- model 1'; state 0 is initial in both
+abbrev pub example4 : List ℕ
+example4 =
+    gapless
+    (
+    (2 ∷ 1 ∷ 0 ∷ 1 ∷ 1 ∷ 0 ∷ 1 ∷ [])
+    ∷ (2 ∷ 1 ∷ 1 ∷ 0 ∷ 0 ∷ 1 ∷ 0 ∷ 1 ∷ 0 ∷ 0 ∷ [])
+    ∷ (2 ∷ 1 ∷ 1 ∷ 0 ∷ 0 ∷ 0 ∷ 0 ∷ 1 ∷ 0 ∷ 0 ∷ [])
+    ∷ (7 ∷ 3 ∷ 0 ∷ [])
+    ∷ []
+    )
+
+-- the refused calls among them
+abbrev pub calls4 : List (Call × Reply)
+calls4 =
+    (Call.Ask Question.Show, Reply.Shown [])
+    ∷ (Call.Step, Reply.Refused 12 255)
+    ∷ (Call.Open [], Reply.Refused 1 255)
+    ∷ (Call.Open example4, Reply.Opened)
+    ∷ (Call.Step, Reply.Row)
+    ∷ (Call.Ask Question.Show, Reply.Shown (1 ∷ 1 ∷ 1 ∷ 1 ∷ []))
+    ∷ (Call.Open (3 ∷ []), Reply.Refused 2 255)
+    ∷ (Call.Step, Reply.Round 1)
+    ∷ (Call.Ask Question.Show, Reply.Shown (1 ∷ 0 ∷ 0 ∷ 0 ∷ []))
+    ∷ (Call.Ask (Question.Share 1), Reply.PerCent 25)
+    ∷ (Call.Ask (Question.Value 0 2 0), Reply.Element 1)
+    ∷ (Call.Ask (Question.Value 0 1 0), Reply.Element 0)
+    ∷ (Call.Ask (Question.Value 1 1 0), Reply.Refused 13 255)
+    ∷ (Call.Ask (Question.Value 0 0 0), Reply.Refused 13 255)
+    ∷ (Call.Ask (Question.Value 0 1 2), Reply.Refused 13 255)
+    ∷ (Call.Step, Reply.Row)
+    ∷ (Call.Step, Reply.Round 2)
+    ∷ (Call.Ask Question.Show, Reply.Shown (0 ∷ 0 ∷ 0 ∷ 0 ∷ []))
+    ∷ (Call.Step, Reply.Row)
+    ∷ (Call.Step, Reply.Settled 3)
+    ∷ (Call.Step, Reply.Settled 3)
+    ∷ (Call.Ask Question.Score, Reply.Element 0)
+    ∷ (Call.Ask (Question.Whole 0 2), Reply.Element 1)
+    ∷ (Call.Ask (Question.Judge (0 ∷ 0 ∷ 0 ∷ 0 ∷ [])), Reply.Says true)
+    ∷ (Call.Ask (Question.Judge (1 ∷ 0 ∷ 0 ∷ 0 ∷ [])), Reply.Says false)
+    ∷ (Call.Ask (Question.Judge (2 ∷ 0 ∷ 0 ∷ 0 ∷ [])), Reply.Refused 13 255)
+    ∷ (Call.Ask (Question.Share 2), Reply.Refused 13 255)
+    ∷ []
+
+-- the calls of a list, from a desk of zeros, answer as the list says
+abbrev pub AnswersAs : List (Call × Reply) → Type 0
+AnswersAs l = replies (map (λ x. x .0) l) zeros ≡ map (λ x. x .1) l
+
+pub examples-answer : AnswersAs calls1 × AnswersAs calls4
+unfolding imp iff bigMeet bigJoin iterate bind allNext someNext eval valueAt wholeValue propositionPart successorPart F roundOf score count share isMeet isJoin meetOf joinOf topOf botOf element boundBy overProps nestedBinders allBelow firstBelow isPanel latticeOf explicitForm latticeForm reflexive antisymmetric transitive partialOrder bounded distributive complementRules require partReading latticeReading elementsOnly modelTest byCode parse formulaReading partStart partSize placed misplaced partsFrom formulasReading modelsReading caseReading pairs joined gapless written rowSame changedBelow simulationTest short rulesKept spoiled examined accepted opened worked stepped answer moved perform replies
+examples-answer = (refl, refl)

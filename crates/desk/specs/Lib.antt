@@ -1,0 +1,18 @@
+-- The desk, its eight calls and the three demands: definitions in the order of reading, then the theorems.
+-- ---- what a reader must believe
+pub mod Desk
+pub mod Case
+pub mod Refused
+pub mod Moved
+pub mod Perform
+pub mod Run
+pub mod Claim
+-- ---- theorems
+pub mod Refusals
+pub mod Stands
+pub mod Next
+pub mod Listed
+pub mod Settled
+pub mod Caller
+pub mod Unwritten
+pub mod Examples

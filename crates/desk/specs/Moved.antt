@@ -1,0 +1,86 @@
+-- The two calls that move the desk: open and step. Rests on Desk, Case, casefile's Gapless and rounds' Table.
+use Prim.Native.Nat.{ℕ, _+_}
+use mathlib.Core.Bool.{Bool, false, cond, not, _||_}
+use mathlib.Core.List.{List, _++_}
+use lib.Dec.{eqb}
+use lib.ListN.{length, drop}
+use Rattle.casefile.specs.Reading.{Content, contentParts}
+use Rattle.casefile.specs.Gapless.{gapless}
+use Rattle.rounds.specs.Table.{tableOf, written, rowWritten, rowChanged}
+use Rattle.desk.specs.Desk.{Standing, Desk, Reply, wholeTable, otherTable}
+use Rattle.desk.specs.Case.{ops, model1, model2, N1, N2, tableSize, operator}
+
+-- ---- open: 'makes an unsettled desk at round 0 and next row 0, the first table whole'
+
+abbrev pub fresh : Content → Standing
+fresh c = record { states1 = N1 c; states2 = N2 c; round = 0; row = 0; changed = false; settled = false; secondWhole = false }
+
+-- the gapless case at the store's front, and every byte after it as it was
+abbrev pub stored : Content → List ℕ → List ℕ
+stored c s = gapless (contentParts c) ++ drop (length (gapless (contentParts c))) s
+
+-- 'the first N1·N2 bytes of both tables top', and every byte after them as it was
+abbrev pub topped : Content → List ℕ → List ℕ
+topped c t = written 0 (tableSize c) (λ i. ops c .top) t
+
+unfoldable pub opened : Content → Desk → Desk
+opened c d = record { standing = fresh c; store = stored c (d .store); first = topped c (d .first); second = topped c (d .second) }
+
+-- ---- step: 'works row q1 of the next round, for all q2, in the table that is not whole, and writes nothing else in either table'
+
+-- the shown table, entry by entry
+abbrev pub shownTable : Content → Desk → ℕ → ℕ → ℕ
+shownTable c d = tableOf (wholeTable d) (N2 c)
+
+abbrev pub rowWorked : Content → Desk → List ℕ
+rowWorked c d = rowWritten (model1 c) (model2 c) (operator c) (shownTable c d) (d .standing .row) (otherTable d)
+
+-- an earlier row of this round changed something, or this one does
+abbrev pub changedNow : Content → Desk → Bool
+changedNow c d = d .standing .changed || rowChanged (model1 c) (model2 c) (operator c) (shownTable c d) (d .standing .row)
+
+-- after a row that is not the last
+abbrev pub nextRow : Content → Desk → Standing
+nextRow c d =
+    record {
+      states1 = d .standing .states1;
+      states2 = d .standing .states2;
+      round = d .standing .round;
+      row = d .standing .row + 1;
+      changed = changedNow c d;
+      settled = false;
+      secondWhole = d .standing .secondWhole;
+    }
+
+-- 'after the last row the new table becomes the whole one, the round goes up by 1, next row is 0', and it is settled 'when that round
+-- equals the one before (by the standing no earlier row changed anything, and this row did not)'
+abbrev pub nextRound : Content → Desk → Standing
+nextRound c d =
+    record {
+      states1 = d .standing .states1;
+      states2 = d .standing .states2;
+      round = d .standing .round + 1;
+      row = 0;
+      changed = false;
+      settled = not (changedNow c d);
+      secondWhole = not (d .standing .secondWhole);
+    }
+
+-- the desk with that row in the other table; the standing goes on to the next row or the next round
+unfoldable pub worked : Content → Desk → Desk
+worked c d =
+    record {
+      standing = cond (eqb (d .standing .row + 1) (N1 c)) (nextRound c d) (nextRow c d);
+      store = d .store;
+      first = cond (d .standing .secondWhole) (rowWorked c d) (d .first);
+      second = cond (d .standing .secondWhole) (d .second) (rowWorked c d);
+    }
+
+-- 'A settled desk answers Settled(T) again and is left unchanged.'
+unfoldable pub stepped : Content → Desk → Desk
+unfolding worked
+stepped c d = cond (d .standing .settled) d (worked c d)
+
+-- 'It answers Row; after the last row (..) Round(r), or Settled(T)', by the standing that the step leaves
+abbrev pub stepAnswer : Standing → Reply
+stepAnswer s = cond (s .settled) (Reply.Settled (s .round)) (cond (eqb (s .row) 0) (Reply.Round (s .round)) Reply.Row)

@@ -1,0 +1,315 @@
+-- The invariant of demand 3, 'this desk is what the content c gives after s accepted steps', with the lemmas that an accepted opening
+-- starts it and an accepted step moves s on. Rests on calls' definitions, rounds' Round, theory's Rounds, casefile's Accepted and Content.
+use Prim.Native.Nat.{ℕ, suc, _+_, _*_, _-_, _≤_, _<_}
+use mathlib.Core.Path.{_≡_, refl, sym, ap, _∙_, subst}
+use mathlib.Core.Bool.{Bool, true, false, cond, not, _||_}
+use mathlib.Core.Logic.{_⊎_, inl, inr, ⊎-elim}
+use mathlib.Core.List.{List, _++_}
+use native.Mathlib.Nat.{eq-or-lt-of-le}
+use native.Mathlib.Numerals.{add-one}
+use native.Mathlib.Omega.{arith}
+use borrow.Author.Tests.{ltb-false, le-ltb, eqb-true, eqb-false}
+use lib.Dec.{ltb, eqb}
+use lib.ListN.{length, getD, drop, length-append, length-drop}
+use Rattle.theory.specs.Lattice.{Element}
+use Rattle.theory.specs.Simulation.{SameTable}
+use Rattle.theory.specs.Rounds.{F-element}
+use Rattle.theory.specs.Test.{false-true}
+use Rattle.casefile.specs.Reading.{Content, content, contentParts, caseReading}
+use Rattle.casefile.specs.Gapless.{gapless}
+use Rattle.casefile.specs.Accepted.{gapless-most}
+use Rattle.casefile.specs.Content.{ContentSound, content-sound}
+use Rattle.model.specs.Places.{prod-le}
+use Rattle.rounds.specs.Table.{tableOf, rowWritten, rowChanged}
+use Rattle.rounds.specs.Row.{written-length, written-at}
+use Rattle.rounds.specs.Round.{RoundSoFar, RoundDone, round-none, round-more, round-reached, round-done, F-reads, row-elements, top-round}
+use Rattle.desk.specs.Desk.{Desk, wholeTable, otherTable}
+use Rattle.desk.specs.Case.{ops, model1, model2, N1, N2, tableSize, operator, roundIn, IsT}
+use Rattle.desk.specs.Refused.{short}
+use Rattle.desk.specs.Moved.{opened, topped, stored, rowWorked, nextRow, nextRound, worked, stepped}
+
+-- ---- the invariant
+
+-- the content of an accepted case, and its T
+pub record Known (c : Content) (T : ℕ) : Type 0 where
+  pub case : List ℕ
+  pub reads : caseReading case ≡ content c
+  pub isT : IsT c T
+
+pub known-sound : {c : Content} {T : ℕ} → Known c T → ContentSound c
+known-sound {c} k = content-sound (k .case) c (k .reads)
+
+module _ (c : Content) (T : ℕ) where
+  -- before T: s is round · N1 + row, and the rows below `row` of the next round stand in the other table
+  pub record Going (s round row : ℕ) (changed settled : Bool) (whole other : List ℕ) : Type 0 where
+    pub unsettled : settled ≡ false
+    pub below : round < T
+    pub row-below : row < N1 c
+    pub count : s ≡ round * N1 c + row
+    pub before : List ℕ
+    pub so-far : RoundSoFar (model1 c) (model2 c) (operator c) (tableOf whole (N2 c)) before row other changed
+
+  -- at T
+  pub record Ended (s round row : ℕ) (changed settled : Bool) : Type 0 where
+    pub isSettled : settled ≡ true
+    pub at-T : round ≡ T
+    pub row-0 : row ≡ 0
+    pub unchanged : changed ≡ false
+    pub enough : T * N1 c ≤ s
+
+  -- the whole table is the round's, both are long enough, and their entries are elements
+  pub record Held (s round row : ℕ) (changed settled : Bool) (whole other : List ℕ) : Type 0 where
+    pub whole-long : 4096 ≤ length whole
+    pub other-long : 4096 ≤ length other
+    pub whole-elements : (i : ℕ) → i < tableSize c → Element (ops c) (getD whole i 0)
+    pub other-elements : (i : ℕ) → i < tableSize c → Element (ops c) (getD other i 0)
+    pub shown : SameTable (ops c) (model1 c) (model2 c) (tableOf whole (N2 c)) (roundIn c round)
+    pub place : Going s round row changed settled whole other ⊎ Ended s round row changed settled
+
+  -- the same of a desk's standing and tables
+  abbrev pub GoingAt : ℕ → Desk → Type 0
+  GoingAt s d = Going s (d .standing .round) (d .standing .row) (d .standing .changed) (d .standing .settled) (wholeTable d) (otherTable d)
+
+  abbrev pub EndedAt : ℕ → Desk → Type 0
+  EndedAt s d = Ended s (d .standing .round) (d .standing .row) (d .standing .changed) (d .standing .settled)
+
+  abbrev pub HeldAt : ℕ → Desk → Type 0
+  HeldAt s d = Held s (d .standing .round) (d .standing .row) (d .standing .changed) (d .standing .settled) (wholeTable d) (otherTable d)
+
+  -- 'this desk is what the content c gives after s accepted steps': its store begins with the gapless case, and any bytes may follow
+  pub record Stands (s : ℕ) (d : Desk) : Type 0 where
+    pub known : Known c T
+    pub rest : List ℕ
+    pub store-is : d .store ≡ gapless (contentParts c) ++ rest
+    pub store-long : 24576 ≤ length (d .store)
+    pub states1-is : d .standing .states1 ≡ N1 c
+    pub states2-is : d .standing .states2 ≡ N2 c
+    pub held : HeldAt s d
+
+-- the same of equal tables
+held-with : {c : Content} {T s round row : ℕ} {changed settled : Bool} {whole other whole′ other′ : List ℕ} → whole′ ≡ whole → other′ ≡ other → Held c T s round row changed settled whole other → Held c T s round row changed settled whole′ other′
+held-with p q h = rw (p, q) h
+
+-- the same store and sizes, and what is held now
+again : {c : Content} {T s n : ℕ} {d : Desk} → Stands c T s d → (e : Desk) → e .store ≡ d .store → e .standing .states1 ≡ d .standing .states1 → e .standing .states2 ≡ d .standing .states2 → HeldAt c T n e → Stands c T n e
+again w e p q r h =
+    record {
+      known = w .known;
+      rest = w .rest;
+      store-is = p ∙ w .store-is;
+      store-long = rw p (w .store-long);
+      states1-is = q ∙ w .states1-is;
+      states2-is = r ∙ w .states2-is;
+      held = h;
+    }
+
+-- where the tables stand when the other one is written, and when they are exchanged after that
+keep-whole : (w : Bool) (f g o : List ℕ) → cond w (cond w g o) (cond w o f) ≡ cond w g f
+keep-whole true f g o = refl
+keep-whole false f g o = refl
+
+keep-other : (w : Bool) (f g o : List ℕ) → cond w (cond w o f) (cond w g o) ≡ o
+keep-other true f g o = refl
+keep-other false f g o = refl
+
+turn-whole : (w : Bool) (f g o : List ℕ) → cond (not w) (cond w g o) (cond w o f) ≡ o
+turn-whole true f g o = refl
+turn-whole false f g o = refl
+
+turn-other : (w : Bool) (f g o : List ℕ) → cond (not w) (cond w o f) (cond w g o) ≡ cond w g f
+turn-other true f g o = refl
+turn-other false f g o = refl
+
+-- ---- the lengths that refusal 11 asks for
+
+or-l : (a b : Bool) → (a || b) ≡ false → a ≡ false
+or-l true b e = e
+or-l false b e = refl
+
+or-r : (a b : Bool) → (a || b) ≡ false → b ≡ false
+or-r true b e = absurd (false-true e refl)
+or-r false b e = e
+
+pub record Long (d : Desk) : Type 0 where
+  pub store-long : 24576 ≤ length (d .store)
+  pub first-long : 4096 ≤ length (d .first)
+  pub second-long : 4096 ≤ length (d .second)
+
+pub long-enough : (d : Desk) → short d ≡ false → Long d
+unfolding short
+long-enough d e =
+    let two = or-l (ltb (length (d .store)) 24576 || ltb (length (d .first)) 4096) (ltb (length (d .second)) 4096) e in
+    record {
+      store-long = ltb-false _ _ (or-l (ltb (length (d .store)) 24576) (ltb (length (d .first)) 4096) two);
+      first-long = ltb-false _ _ (or-r (ltb (length (d .store)) 24576) (ltb (length (d .first)) 4096) two);
+      second-long = ltb-false _ _ (or-r (ltb (length (d .store)) 24576 || ltb (length (d .first)) 4096) (ltb (length (d .second)) 4096) e);
+    }
+
+pub long-not-short : (d : Desk) → Long d → short d ≡ false
+unfolding short
+long-not-short d w = rw (le-ltb (length (d .store)) 24576 (w .store-long), le-ltb (length (d .first)) 4096 (w .first-long), le-ltb (length (d .second)) 4096 (w .second-long))
+
+-- ---- for an accepted content
+
+module _ {c : Content} {T : ℕ} (known : Known c T) where
+  pub sizes-most : tableSize c ≤ 4096
+  sizes-most = prod-le (N1 c) (N2 c) 64 64 (known-sound known .shape1 .states-most) (known-sound known .shape2 .states-most)
+
+  pub some-states : 0 < N1 c
+  some-states = known-sound known .shape1 .some
+
+  -- ---- an accepted opening starts it
+
+  topped-at : (t : List ℕ) → 4096 ≤ length t → (i : ℕ) → i < tableSize c → getD (topped c t) i 0 ≡ ops c .top
+  topped-at t h i l = let z : 0 + i ≡ i = omega arith in rw z at (written-at 0 (tableSize c) (λ j. ops c .top) t (omega (arith, sizes-most)) i l)
+
+  topped-long : (t : List ℕ) → 4096 ≤ length t → 4096 ≤ length (topped c t)
+  topped-long t h = rw (written-length 0 (tableSize c) (λ j. ops c .top) t) h
+
+  topped-elements : (t : List ℕ) → 4096 ≤ length t → (i : ℕ) → i < tableSize c → Element (ops c) (getD (topped c t) i 0)
+  topped-elements t h i l = rw (topped-at t h i l) (known-sound known .laws .top-element)
+
+  stored-long : (s : List ℕ) → 24576 ≤ length s → 24576 ≤ length (stored c s)
+  stored-long s h = simp (length-append, length-drop) (omega (arith, gapless-most (known .case) c (known .reads)))
+
+  pub opening-starts : (d : Desk) → short d ≡ false → Stands c T 0 (opened c d)
+  unfolding opened
+  opening-starts d n =
+      let w = long-enough d n in
+      record {
+        known = known;
+        rest = drop (length (gapless (contentParts c))) (d .store);
+        store-is = refl;
+        store-long = stored-long (d .store) (w .store-long);
+        states1-is = refl;
+        states2-is = refl;
+        held = record {
+          whole-long = topped-long (d .first) (w .first-long);
+          other-long = topped-long (d .second) (w .second-long);
+          whole-elements = topped-elements (d .first) (w .first-long);
+          other-elements = topped-elements (d .second) (w .second-long);
+          shown = top-round (ops c) (model1 c) (model2 c) (operator c) (topped c (d .first)) (topped-at (d .first) (w .first-long));
+          place = inl (record { unsettled = refl; below = known .isT .above0; row-below = some-states; count = omega arith; before = topped c (d .second); so-far = round-none });
+        };
+      }
+
+  -- ---- an accepted step moves s on
+
+  module _ {s round row : ℕ} {changed settled : Bool} {whole other : List ℕ} (h : Held c T s round row changed settled whole other) (g : Going c T s round row changed settled whole other) where
+    abbrev S : ℕ → ℕ → ℕ
+    S = tableOf whole (N2 c)
+
+    abbrev out : List ℕ
+    out = rowWritten (model1 c) (model2 c) (operator c) S row other
+
+    abbrev now : Bool
+    now = changed || rowChanged (model1 c) (model2 c) (operator c) S row
+
+    more : RoundSoFar (model1 c) (model2 c) (operator c) S (g .before) (row + 1) out now
+    more = round-more (g .so-far) (g .row-below) (omega (arith, sizes-most, h .other-long, g .so-far .worked .same-length)) refl refl refl
+
+    out-long : 4096 ≤ length out
+    out-long = rw (written-length _ _ _ other) (h .other-long)
+
+    out-elements : (i : ℕ) → i < tableSize c → Element (ops c) (getD out i 0)
+    out-elements = row-elements (ops c) (model1 c) (model2 c) (operator c) (F-element (known-sound known .laws) (model1 c) (model2 c)) S row other (omega (arith, sizes-most, h .other-long)) (h .other-elements)
+
+    -- a row that is not the last
+    pub row-more : row + 1 < N1 c → Held c T (s + 1) round (row + 1) now false whole out
+    row-more l =
+        record {
+          whole-long = h .whole-long;
+          other-long = out-long;
+          whole-elements = h .whole-elements;
+          other-elements = out-elements;
+          shown = h .shown;
+          place = inl (record { unsettled = refl; below = g .below; row-below = l; count = omega (arith, g .count); before = g .before; so-far = more });
+        }
+
+    -- the last row
+    module _ (l : row + 1 ≡ N1 c) where
+      done : RoundDone (ops c) (model1 c) (model2 c) (operator c) round out now
+      done = round-done (ops c) (F-reads (ops c) (model1 c) (model2 c)) round (h .shown) (round-reached more (omega arith) (omega arith))
+
+      -- round + 1 equals round exactly when it is T
+      same-at-T : suc round ≡ T → now ≡ false
+      same-at-T q =
+          let p : T - 1 ≡ round = omega arith in
+          done .unchanged .1
+          (subst (λ (x : ℕ). SameTable (ops c) (model1 c) (model2 c) (roundIn c x) (roundIn c round)) (sym q)
+          (subst (λ (x : ℕ). SameTable (ops c) (model1 c) (model2 c) (roundIn c T) (roundIn c x)) p (known .isT .unchanged)))
+
+      T-at-same : now ≡ false → suc round ≡ T
+      T-at-same n =
+          ⊎-elim
+          (λ (q : suc round ≡ T). q)
+          (λ (q : suc round < T).
+          let p : round ≡ suc round - 1 = omega arith in
+          absurd (known .isT .least (suc round) (omega arith) q (subst (λ (x : ℕ). SameTable (ops c) (model1 c) (model2 c) (roundIn c (suc round)) (roundIn c x)) p (done .unchanged .0 n))))
+          (eq-or-lt-of-le (g .below))
+
+      place-after : (n : Bool) → now ≡ n → Going c T (s + 1) (round + 1) 0 false (not n) out whole ⊎ Ended c T (s + 1) (round + 1) 0 false (not n)
+      place-after true n =
+          inl
+          (record {
+            unsettled = refl;
+            below = ⊎-elim (λ (q : suc round ≡ T). absurd (false-true (same-at-T q) n)) (λ (q : suc round < T). omega arith) (eq-or-lt-of-le (g .below));
+            row-below = some-states;
+            count = omega (arith, g .count);
+            before = whole;
+            so-far = round-none;
+          })
+      place-after false n =
+          let q : suc round ≡ T = T-at-same n in
+          inr (record { isSettled = refl; at-T = omega arith; row-0 = refl; unchanged = refl; enough = rw (← q) (omega (arith, g .count)) })
+
+      pub round-more-done : Held c T (s + 1) (round + 1) 0 false (not now) out whole
+      round-more-done =
+          record {
+            whole-long = out-long;
+            other-long = h .whole-long;
+            whole-elements = out-elements;
+            other-elements = h .whole-elements;
+            shown = rw add-one (done .holds);
+            place = place-after now refl;
+          }
+
+  worked-stands : {s : ℕ} {d : Desk} → Stands c T s d → GoingAt c T s d → Stands c T (s + 1) (worked c d)
+  unfolding worked
+  worked-stands {s} {d} w g = go (eqb (d .standing .row + 1) (N1 c)) refl
+    where
+      go : (t : Bool) → eqb (d .standing .row + 1) (N1 c) ≡ t
+          → Stands c T (s + 1)
+          (record {
+            standing = cond t (nextRound c d) (nextRow c d);
+            store = d .store;
+            first = cond (d .standing .secondWhole) (rowWorked c d) (d .first);
+            second = cond (d .standing .secondWhole) (d .second) (rowWorked c d);
+          })
+      go true q =
+          again w _ refl refl refl
+          (held-with (turn-whole (d .standing .secondWhole) (d .first) (d .second) (rowWorked c d)) (turn-other (d .standing .secondWhole) (d .first) (d .second) (rowWorked c d))
+          (round-more-done (w .held) g (eqb-true _ _ q)))
+      go false q =
+          again w _ refl refl refl
+          (held-with (keep-whole (d .standing .secondWhole) (d .first) (d .second) (rowWorked c d)) (keep-other (d .standing .secondWhole) (d .first) (d .second) (rowWorked c d))
+          (row-more (w .held) g (let n : ¬ (d .standing .row + 1 ≡ N1 c) = eqb-false _ _ q in omega (arith, g .row-below))))
+
+  pub step-moves : {s : ℕ} {d : Desk} → Stands c T s d → Stands c T (s + 1) (stepped c d)
+  unfolding stepped
+  step-moves {s} {d} w =
+      ⊎-elim
+      (λ (g : GoingAt c T s d).
+      subst (Stands c T (s + 1)) (sym (ap (λ (t : Bool). cond t d (worked c d)) (g .unsettled))) (worked-stands w g))
+      (λ (x : EndedAt c T s d).
+      subst (Stands c T (s + 1)) (sym (ap (λ (t : Bool). cond t d (worked c d)) (x .isSettled)))
+      (again w d refl refl refl
+      (record {
+        whole-long = w .held .whole-long;
+        other-long = w .held .other-long;
+        whole-elements = w .held .whole-elements;
+        other-elements = w .held .other-elements;
+        shown = w .held .shown;
+        place = inr (record { isSettled = x .isSettled; at-T = x .at-T; row-0 = x .row-0; unchanged = x .unchanged; enough = omega (arith, x .enough) });
+      })))
+      (w .held .place)
