@@ -17,7 +17,7 @@ use Rattle.casefile.specs.Gapless.{gapless}
 use Rattle.casefile.specs.Answer.{sizesOf, caseAnswer, CaseAnswered}
 use Rattle.casefile.specs.Placed.{Placed, accepted-placed}
 use Rattle.casefile.specs.Accepted.{written-most}
-use Rattle.casefile.specs.Content.{ContentSound, content-sound}
+use Rattle.casefile.specs.Content.{ContentSound, content-sound, PartsAre, parts-are}
 
 -- after the answer that the case b is accepted with the sizes s, and the tables t
 pub record AcceptedCase (b : List ℕ) (s : Sizes) (t : List ℕ) : Type 0 where
@@ -28,6 +28,7 @@ pub record AcceptedCase (b : List ℕ) (s : Sizes) (t : List ℕ) : Type 0 where
   pub laws : Laws (opsIn t (s .lattice))
   pub sound : ContentSound holds
   pub placed : Placed b
+  pub parts : PartsAre b holds
   pub short : length (gapless (partsOf b)) ≤ 16618
 
 pub when-accepted : (b : List ℕ) (r : CaseCheck) (s : Sizes) (t : List ℕ) → CaseAnswered b r t → r ≡ Accepted s → AcceptedCase b s t
@@ -46,6 +47,7 @@ when-accepted b r s t w k = go (caseReading b) refl (sym k ∙ w .answer)
           laws = rw p (content-sound b c e .laws);
           sound = content-sound b c e;
           placed = accepted-placed b c e;
+          parts = parts-are b c e;
           short = written-most b c e;
         }
 

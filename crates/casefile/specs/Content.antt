@@ -1,14 +1,15 @@
 -- What an accepted case gives to whoever works with its lattice, its models and its formulas. Rests on Accepted.
-use Prim.Native.Nat.{ℕ, zero, suc, _+_, _<_}
+use Prim.Native.Nat.{ℕ, zero, suc, _+_, _*_, _≤_, _<_}
 use mathlib.Core.Path.{_≡_, sym, ap, _∙_}
 use mathlib.Core.List.{List, []}
-use native.Mathlib.Nat.{le-of-suc-le-suc, not-suc-le-zero}
+use native.Mathlib.Nat.{le-of-suc-le-suc, not-suc-le-zero, mul-pos}
 use native.Mathlib.Omega.{arith}
 use lib.ListN.{length, getD}
 use Rattle.theory.specs.Lattice.{Laws}
 use Rattle.theory.specs.Model.{Valued}
 use Rattle.theory.specs.Part.{opsOf, modelOf, ModelShape}
-use Rattle.lattice.specs.Accepted.{accepted-is-lattice}
+use Rattle.lattice.specs.Accepted.{accepted-is-lattice, accepted-sound}
+use Rattle.model.specs.Places.{prod-le}
 use Rattle.model.specs.Reading.{accepted-shape, accepted-valued}
 use Rattle.casefile.specs.Directory.{partCount, partAt, partsFrom}
 use Rattle.casefile.specs.Reading.{Content, contentParts, caseReading, content}
@@ -16,6 +17,10 @@ use Rattle.casefile.specs.Accepted.{PartsRead, formulas-read, parts-leng
 
 pub record ContentSound (c : Content) : Type 0 where
   pub laws : Laws (opsOf (c .lattice))
+  -- n is at most 64; a table has 1 to 4,096 entries
+  pub elements-most : c .lattice .size ≤ 64
+  pub entries-some : 0 < getD (c .model1Bytes) 0 0 * getD (c .model2Bytes) 0 0
+  pub entries-most : getD (c .model1Bytes) 0 0 * getD (c .model2Bytes) 0 0 ≤ 4096
   pub shape1 : ModelShape (c .model1Bytes)
   pub shape2 : ModelShape (c .model2Bytes)
   pub valued1 : Valued (opsOf (c .lattice)) (modelOf (c .model1Bytes))
@@ -28,10 +33,16 @@ content-sound b c e = go (accepted-case b c e .reads)
   where
     go : PartsRead c → ContentSound c
     go r =
+        let s = accepted-sound (c .latticeBytes) (c .lattice) (r .lattice-read) in
+        let m1 = accepted-shape (c .lattice .size) (c .model1Bytes) (r .model1-read) in
+        let m2 = accepted-shape (c .lattice .size) (c .model2Bytes) (r .model2-read) in
         record {
           laws = accepted-is-lattice (c .latticeBytes) (c .lattice) (r .lattice-read);
-          shape1 = accepted-shape (c .lattice .size) (c .model1Bytes) (r .model1-read);
-          shape2 = accepted-shape (c .lattice .size) (c .model2Bytes) (r .model2-read);
+          elements-most = rw (s .0) (s .1 .formed .most);
+          entries-some = mul-pos (m1 .some) (m2 .some);
+          entries-most = prod-le (getD (c .model1Bytes) 0 0) (getD (c .model2Bytes) 0 0) 64 64 (m1 .states-most) (m2 .states-most);
+          shape1 = m1;
+          shape2 = m2;
           valued1 = accepted-valued (c .lattice) (c .model1Bytes) (r .model1-read);
           valued2 = accepted-valued (c .lattice) (c .model2Bytes) (r .model2-read);
           same-propositions = r .same-propositions;
@@ -59,3 +70,22 @@ count-is b c e =
       parts-length b 0 (partCount b),
       formulas-read (getD (c .model1Bytes) 1 0) 3 (c .formulaBytes) (c .formulas) (accepted-case b c e .reads .formulas-read) .as-many,
     )
+
+-- the bytes of the parts, beside the content: the two models, and each formula
+pub record PartsAre (b : List ℕ) (c : Content) : Type 0 where
+  pub least : 3 ≤ partCount b
+  pub count : partCount b ≡ 3 + length (c .formulas)
+  pub model1 : partAt b 1 ≡ c .model1Bytes
+  pub model2 : partAt b 2 ≡ c .model2Bytes
+  pub formula : (f : ℕ) → f < length (c .formulas) → partAt b (3 + f) ≡ getD (c .formulaBytes) f []
+
+pub parts-are : (b : List ℕ) (c : Content) → caseReading b ≡ content c → PartsAre b c
+parts-are b c e =
+    let n = count-is b c e in
+    record {
+      least = omega arith;
+      count = n;
+      model1 = part-is b c e 1 (omega arith);
+      model2 = part-is b c e 2 (omega arith);
+      formula = λ f l. let z : 3 + f ≡ suc (suc (suc f)) = omega arith in part-is b c e (3 + f) (omega arith) ∙ rw z;
+    }

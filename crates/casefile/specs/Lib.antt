@@ -16,4 +16,4 @@ pub mod Steps
 pub mod Misplaced
 pub mod Formulas
 pub mod Answered
-pub mod Written
+pub mod Writer

@@ -81,10 +81,6 @@ pub record PartsAnswered (b : List ℕ) (r : CaseCheck) (t : List ℕ) : Type 0 
 
 -- ---- the writer
 
--- d with the bytes s at the place `at`
-abbrev pub overlaid : List ℕ → ℕ → List ℕ → List ℕ
-overlaid d at s = take at d ++ s ++ drop (at + length s) d
-
 -- d with a number of 16 bits at the place `at`, and with the pair of part i
 abbrev pub withWord : List ℕ → ℕ → ℕ → List ℕ
 withWord d at x = set (set d at (x % 256)) (at + 1) (x / 256)

@@ -5,16 +5,16 @@ use model::ModelCheck;
 use operations::Lattice;
 use refusal::Refusal;
 ghost use mathlib.Core.Path.{_≡_};
-ghost use mathlib.Core.List.{_++_};
 ghost use Prim.Native.Nat.{_+_, _*_, _-_, _≤_, _<_};
-ghost use lib.ListN.{length, drop};
+ghost use lib.ListN.{length};
+ghost use Rattle.theory.specs.Written.{written};
 ghost use Rattle.formula.specs.Bytes.{formulaReading};
 ghost use Rattle.casefile.specs.Directory.{partCount, wordAt, partStart, partSize, partEnd, sizeTest, directoryTest, misplaced, partAt, partsFrom, partsOf};
 ghost use Rattle.casefile.specs.Reading.{formulasReading};
 ghost use Rattle.casefile.specs.Gapless.{pairs, joined, gapless};
 ghost use Rattle.casefile.specs.Answer.{CaseAnswered};
 ghost use Rattle.casefile.specs.Placed.{HasDirectory, Placed};
-ghost use Rattle.casefile.specs.Steps.{wellPlaced, isRead, formulasAnswer, restAnswer, secondAnswer, modelsAnswer, PartsAnswered, overlaid, withWord, withPair};
+ghost use Rattle.casefile.specs.Steps.{wellPlaced, isRead, formulasAnswer, restAnswer, secondAnswer, modelsAnswer, PartsAnswered, withWord, withPair};
 
 // What an accepted case holds: its lattice, and the sizes of its models and formulas.
 pub struct Sizes {
@@ -240,7 +240,7 @@ pub fn check(bytes: &[u8], t: &mut [u8; 12352]) -> CaseCheck
 // Writes bytes at a place of a buffer.
 fn copy(part: &[u8], out: &mut [u8], at: usize)
     requires { ⌜ at + length (now part) ≤ length (now out) ⌝ }
-    ensures { λ _. ⌜ now (out .exit) ≡ overlaid (now (out .entry)) at (now (part .entry)) ⌝ }
+    ensures { λ _. ⌜ now (out .exit) ≡ written at (now (part .entry)) (now (out .entry)) ⌝ }
 {
     let count = part.len();
     for j in 0..count {
@@ -269,7 +269,7 @@ fn put_pair(out: &mut [u8], i: u8, start: usize, size: usize)
 // Writes the pairs of offset and length, for parts without gaps.
 fn write_pairs(bytes: &[u8], out: &mut [u8])
     requires { ⌜ Placed (now bytes) × (length (gapless (partsOf (now bytes))) ≤ length (now out)) ⌝ }
-    ensures { λ _. ⌜ now (out .exit) ≡ overlaid (now (out .entry)) 1 (pairs (1 + 4 * partCount (now (bytes .entry))) (partsOf (now (bytes .entry)))) ⌝ }
+    ensures { λ _. ⌜ now (out .exit) ≡ written 1 (pairs (1 + 4 * partCount (now (bytes .entry))) (partsOf (now (bytes .entry)))) (now (out .entry)) ⌝ }
 {
     let count = bytes[0];
     let mut at = 1 + 4 * operations::index(count);
@@ -283,7 +283,7 @@ fn write_pairs(bytes: &[u8], out: &mut [u8])
 // Writes the bytes of the parts, one after the other, after the directory.
 fn write_parts(bytes: &[u8], out: &mut [u8]) -> usize
     requires { ⌜ Placed (now bytes) × (length (gapless (partsOf (now bytes))) ≤ length (now out)) ⌝ }
-    ensures { λ r. ⌜ (r ≡ length (gapless (partsOf (now (bytes .entry))))) × (now (out .exit) ≡ overlaid (now (out .entry)) (1 + 4 * partCount (now (bytes .entry))) (joined (partsOf (now (bytes .entry))))) ⌝ }
+    ensures { λ r. ⌜ (r ≡ length (gapless (partsOf (now (bytes .entry))))) × (now (out .exit) ≡ written (1 + 4 * partCount (now (bytes .entry))) (joined (partsOf (now (bytes .entry)))) (now (out .entry))) ⌝ }
 {
     let count = bytes[0];
     let mut at = 1 + 4 * operations::index(count);
@@ -298,7 +298,7 @@ fn write_parts(bytes: &[u8], out: &mut [u8]) -> usize
 // Writes the gapless case of the parts of an accepted case, and says how many bytes it has. The bytes after it are kept.
 pub fn write(bytes: &[u8], out: &mut [u8]) -> usize
     requires { ⌜ Placed (now bytes) × (length (gapless (partsOf (now bytes))) ≤ length (now out)) ⌝ }
-    ensures { λ r. ⌜ (r ≡ length (gapless (partsOf (now (bytes .entry))))) × (now (out .exit) ≡ gapless (partsOf (now (bytes .entry))) ++ drop r (now (out .entry))) ⌝ }
+    ensures { λ r. ⌜ (r ≡ length (gapless (partsOf (now (bytes .entry))))) × (now (out .exit) ≡ written 0 (gapless (partsOf (now (bytes .entry)))) (now (out .entry))) ⌝ }
 {
     out[0] = bytes[0];
     write_pairs(bytes, out);

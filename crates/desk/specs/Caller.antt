@@ -6,11 +6,10 @@ use mathlib.Core.List.{List}
 use Rattle.refusal.specs.declared.Refusal.{Refusal}
 use Rattle.refusal.specs.declared.Refusal.the-variants.{ShortDesk, SpoiledDesk, OutOfRange}
 use Rattle.casefile.specs.Reading.{Content, refused, content, caseReading}
-use Rattle.desk.specs.Desk.{Desk, Question, Call, Reply}
+use Rattle.desk.specs.Desk.{Desk, Question, Call, Reply, isOpen}
 use Rattle.desk.specs.Refused.{short, spoiled, inRange, refusedReply, numberReply}
 use Rattle.desk.specs.Moved.{opened, stepped, stepAnswer}
 use Rattle.desk.specs.Perform.{After, perform, answerTo, answer, moved}
-use Rattle.desk.specs.Run.{isOpen}
 use Rattle.desk.specs.Refusals.{perform-refused, perform-accepted, is-short, open-long, is-spoiled, Unspoiled, in-store}
 
 -- the desk as it was, and the answer r

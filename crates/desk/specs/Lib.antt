@@ -6,13 +6,14 @@ pub mod Refused
 pub mod Moved
 pub mod Perform
 pub mod Run
-pub mod Claim
+pub mod Demand1
+pub mod Demand2
+pub mod Demand3
 -- ---- theorems
 pub mod Refusals
 pub mod Stands
 pub mod Next
 pub mod Listed
-pub mod Settled
 pub mod Caller
 pub mod Unwritten
 pub mod Examples

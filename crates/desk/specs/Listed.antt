@@ -1,4 +1,4 @@
--- Demand 3: after every list of calls from any desk, with an accepted opening in it, the claim holds. Rests on Claim, Refusals, Stands, Next.
+-- Lists of calls: every list with an accepted opening has a last one, and after it the invariant holds call by call. Rests on Run, Refusals, Stands, Next.
 use Prim.Native.Nat.{ℕ, zero, suc, _+_, _-_, _<_}
 use mathlib.Core.Path.{_≡_, refl, sym, ap, _∙_, subst}
 use mathlib.Core.Bool.{Bool, true, false, cond, _&&_}
@@ -8,26 +8,23 @@ use native.Mathlib.Omega.{arith}
 use lib.ListN.{length, getD}
 use Rattle.theory.specs.Simulation.{one}
 use Rattle.theory.specs.Height.{longest-chain}
-use Rattle.theory.specs.Rounds.{T-exists, T-at-most, settled-greatest, below-rounds, fixed-below, F-mono}
-use Rattle.theory.specs.Preservation.{bounded-by-round, bounded-at-T}
+use Rattle.theory.specs.Rounds.{T-exists}
 use Rattle.theory.specs.Test.{false-true}
-use Rattle.refusal.specs.declared.Refusal.the-variants.{ShortDesk, SpoiledDesk}
 use Rattle.casefile.specs.Reading.{Content, content}
 use Rattle.casefile.specs.Content.{content-sound}
-use Rattle.desk.specs.Desk.{Desk, Question, Call, Reply}
-use Rattle.desk.specs.Case.{ops, model1, model2, operator, IsT}
+use Rattle.desk.specs.Desk.{Desk, Call, Reply, isOpen, isStep}
+use Rattle.desk.specs.Case.{ops, model1, model2, IsT}
 use Rattle.desk.specs.Refused.{examined, accepted}
-use Rattle.desk.specs.Moved.{opened, stepped}
+use Rattle.desk.specs.Moved.{stepped}
 use Rattle.desk.specs.Perform.{perform, answer, moved}
-use Rattle.desk.specs.Run.{run, isOpen, isStep, openings, stepAnswers}
-use Rattle.desk.specs.Claim.{LastOpening, answersSince, roundAfter, answerAfter, Claim, Demand3}
-use Rattle.desk.specs.Refusals.{perform-refused, perform-accepted, accepted-content, refused-refusal, OpenAccepted, open-long, open-accepted, spoiled-exactly}
-use Rattle.desk.specs.Stands.{known-sound, Stands, opening-starts, step-moves}
-use Rattle.desk.specs.Next.{at, stands-unspoiled, never, ranges-are, next-answer, next-desk, shows, below-shown, shown-below, show-is, score-is, share-is, judge-yes-is, judge-no-is}
+use Rattle.desk.specs.Run.{run, openings, stepAnswers, LastOpening, answerAfter}
+use Rattle.desk.specs.Refusals.{perform-refused, perform-accepted, accepted-content, refused-refusal, open-accepted}
+use Rattle.desk.specs.Stands.{Stands, step-moves}
+use Rattle.desk.specs.Next.{at, ranges-are, next-answer, next-desk}
 
 -- ---- lists
 
-run-append : (xs ys : List Call) (d : Desk) → run (xs ++ ys) d ≡ run ys (run xs d)
+pub run-append : (xs ys : List Call) (d : Desk) → run (xs ++ ys) d ≡ run ys (run xs d)
 unfolding run
 run-append [] ys d = refl
 run-append (k ∷ xs) ys d = run-append xs ys (perform k d .desk)
@@ -58,6 +55,15 @@ last-opening (k ∷ ks) d h = go (openings ks (perform k d .desk)) refl (last-op
         let w = opening-of k d q in
         record { before = []; case = w .0; after = ks; list = ap (λ (x : Call). x ∷ ks) (w .2); holds = w .1; opens = w .3; last = ap (λ (x : Call). openings ks (perform x d .desk)) (sym (w .2)) ∙ p }
     go zero p later false q l = absurd (omega arith)
+
+-- the case of an accepted opening has a T
+pub opening-T : {ks : List Call} {d : Desk} (l : LastOpening ks d) → (T : ℕ) × IsT (l .holds) T
+opening-T {ks} {d} l =
+    let c = l .holds in
+    let L = content-sound (l .case) c (open-accepted (l .case) (run (l .before) d) c (l .opens) .reads) .laws in
+    let n = longest-chain (ops c) (λ a. refl) in
+    let t = T-exists L (model1 c) (model2 c) (n .0) (n .2) in
+    (t .0, t .2)
 
 -- ---- a call that neither opens nor steps, and every refused call, leaves the desk as it was
 
@@ -118,84 +124,3 @@ module _ {c : Content} {T : ℕ} where
           let v = step-stands k s d w q in
           answers-more s (perform k d .reply) (stepAnswers ks (perform k d .desk)) (run ks (perform k d .desk)) (v .1) (later (s + 1) (perform k d .desk) (v .0) (omega arith))
       go false x false q later o = later s (perform k d .desk) (subst (Stands c T s) (sym (call-keeps k d x q)) w) (omega arith)
-
-  -- ---- the claim
-
-  pub claimed : (answers : List Reply) (d : Desk) → Stands c T (length answers) d → ((i : ℕ) → i < length answers → getD answers i Reply.Row ≡ answerAfter c T (suc i)) → Claim c T answers d
-  unfolding answer
-  claimed answers d w each =
-      let L = known-sound (w .known) .laws in
-      let h = longest-chain (ops c) (λ a. refl) in
-      let p = at w in
-      record {
-        round-is = p .round-is;
-        row-below-T = p .row-below-T;
-        row-at-T = p .row-at-T;
-        settled-is = p .settled-is;
-        store-holds = stands-unspoiled w .rules .reads;
-        shown-is = shows w;
-        above = λ G g. below-shown w G (below-rounds L (model1 c) (model2 c) G (fixed-below L (model1 c) (model2 c) (operator c) (λ S U. F-mono L (model1 c) (model2 c)) G (g .isFixed)) (roundAfter c T (length answers)));
-        bounded-by-round = λ φ u x l. shown-below w _ (bounded-by-round L (model1 c) (model2 c) φ u x (roundAfter c T (length answers)) l);
-        bounded-at-T = λ z φ u. shown-below w _ (rw z (bounded-at-T L (model1 c) (model2 c) T (w .known .isT) φ u));
-        T-greatest = settled-greatest L (model1 c) (model2 c) T (w .known .isT);
-        h = h .0;
-        h-longest = h .2;
-        T-most = T-at-most L (model1 c) (model2 c) (h .0) (h .2) T (w .known .isT);
-        answered = λ l. let z : suc (length answers - 1) ≡ length answers = omega arith in each (length answers - 1) (omega arith) ∙ ap (answerAfter c T) z;
-        not-short = stands-unspoiled w .long;
-        not-spoiled = spoiled-exactly d .1 (c, stands-unspoiled w .rules);
-        not-11 = λ k q. never w k ShortDesk q (omega arith) (omega arith);
-        not-12 = λ k q. never w k SpoiledDesk q (omega arith) (omega arith);
-        open-next = λ x. open-long x d (stands-unspoiled w .long);
-        step-next = ranges-are w Call.Step refl;
-        ranges = λ q. ranges-are w (Call.Ask q) refl;
-        show-next = show-is w;
-        value-next = λ f m q a. next-answer w (Call.Ask (Question.Value f m q)) refl a;
-        whole-next = λ f m a. next-answer w (Call.Ask (Question.Whole f m)) refl a;
-        score-next = score-is w;
-        share-next = share-is w;
-        judge-yes = judge-yes-is w;
-        judge-no = judge-no-is w;
-      }
-
--- ==== Demand 3
-
--- for every list of calls, every desk, whatever last accepted opening there is, and whatever is T
-pub listed : (ks : List Call) (d : Desk) (l : LastOpening ks d) (T : ℕ) → IsT (l .holds) T → Claim (l .holds) T (answersSince l) (run ks d)
-unfolding run moved
-listed ks d l T isT = subst (Claim c T (answersSince l)) (sym same) (claimed (answersSince l) (run (l .after) start) (subst (λ (n : ℕ). Stands c T n (run (l .after) start)) none (after .stands)) each)
-  where
-    c : Content
-    c = l .holds
-
-    start : Desk
-    start = perform (Call.Open (l .case)) (run (l .before) d) .desk
-
-    opening : OpenAccepted (l .case) (run (l .before) d) c
-    opening = open-accepted (l .case) (run (l .before) d) c (l .opens)
-
-    is-opened : start ≡ opened c (run (l .before) d)
-    is-opened = ap (λ x. x .desk) (perform-accepted (Call.Open (l .case)) (run (l .before) d) c (l .opens))
-
-    after : Since c T 0 (answersSince l) (run (l .after) start)
-    after = since (l .after) 0 start (subst (Stands c T 0) (sym is-opened) (opening-starts (record { case = l .case; reads = opening .reads; isT = isT }) (run (l .before) d) (opening .long))) (l .last)
-
-    none : 0 + length (answersSince l) ≡ length (answersSince l)
-    none = omega arith
-
-    each : (i : ℕ) → i < length (answersSince l) → getD (answersSince l) i Reply.Row ≡ answerAfter c T (suc i)
-    each i m = let z : 0 + suc i ≡ suc i = omega arith in after .each i m ∙ ap (answerAfter c T) z
-
-    same : run ks d ≡ run (l .after) start
-    same = ap (λ (x : List Call). run x d) (l .list) ∙ run-append (l .before) (Call.Open (l .case) ∷ l .after) d
-
--- and there are a last opening and a T
-pub demand3 : (ks : List Call) (d : Desk) → 0 < openings ks d → Demand3 ks d
-demand3 ks d h = go (last-opening ks d h)
-  where
-    go : LastOpening ks d → Demand3 ks d
-    go l =
-        let L = content-sound (l .case) (l .holds) (open-accepted (l .case) (run (l .before) d) (l .holds) (l .opens) .reads) .laws in
-        let n = longest-chain (ops (l .holds)) (λ a. refl) in
-        let t = T-exists L (model1 (l .holds)) (model2 (l .holds)) (n .0) (n .2) in
-        record { opening = l; T = t .0; isT = t .2; claim = listed ks d l (t .0) (t .2) }

@@ -1,12 +1,13 @@
 -- The two calls that move the desk: open and step. Rests on Desk, Case, casefile's Gapless and rounds' Table.
 use Prim.Native.Nat.{ℕ, _+_}
 use mathlib.Core.Bool.{Bool, false, cond, not, _||_}
-use mathlib.Core.List.{List, _++_}
+use mathlib.Core.List.{List}
 use lib.Dec.{eqb}
-use lib.ListN.{length, drop}
+use lib.ListN.{replicate}
+use Rattle.theory.specs.Written.{written}
 use Rattle.casefile.specs.Reading.{Content, contentParts}
 use Rattle.casefile.specs.Gapless.{gapless}
-use Rattle.rounds.specs.Table.{tableOf, written, rowWritten, rowChanged}
+use Rattle.rounds.specs.Table.{tableOf, rowWritten, rowChanged}
 use Rattle.desk.specs.Desk.{Standing, Desk, Reply, wholeTable, otherTable}
 use Rattle.desk.specs.Case.{ops, model1, model2, N1, N2, tableSize, operator}
 
@@ -17,11 +18,11 @@ fresh c = record { states1 = N1 c; states2 = N2 c; round = 0; row = 0; changed =
 
 -- the gapless case at the store's front, and every byte after it as it was
 abbrev pub stored : Content → List ℕ → List ℕ
-stored c s = gapless (contentParts c) ++ drop (length (gapless (contentParts c))) s
+stored c s = written 0 (gapless (contentParts c)) s
 
 -- 'the first N1·N2 bytes of both tables top', and every byte after them as it was
 abbrev pub topped : Content → List ℕ → List ℕ
-topped c t = written 0 (tableSize c) (λ i. ops c .top) t
+topped c t = written 0 (replicate (tableSize c) (ops c .top)) t
 
 unfoldable pub opened : Content → Desk → Desk
 opened c d = record { standing = fresh c; store = stored c (d .store); first = topped c (d .first); second = topped c (d .second) }
@@ -39,38 +40,41 @@ rowWorked c d = rowWritten (model1 c) (model2 c) (operator c) (shownTable c d) (
 abbrev pub changedNow : Content → Desk → Bool
 changedNow c d = d .standing .changed || rowChanged (model1 c) (model2 c) (operator c) (shownTable c d) (d .standing .row)
 
--- after a row that is not the last
-abbrev pub nextRow : Content → Desk → Standing
-nextRow c d =
+-- The standing after a row, where `changed` says whether this round has changed anything by now. After a row that is not the last:
+abbrev pub nextRow : Bool → Standing → Standing
+nextRow changed s =
     record {
-      states1 = d .standing .states1;
-      states2 = d .standing .states2;
-      round = d .standing .round;
-      row = d .standing .row + 1;
-      changed = changedNow c d;
+      states1 = s .states1;
+      states2 = s .states2;
+      round = s .round;
+      row = s .row + 1;
+      changed = changed;
       settled = false;
-      secondWhole = d .standing .secondWhole;
+      secondWhole = s .secondWhole;
     }
 
 -- 'after the last row the new table becomes the whole one, the round goes up by 1, next row is 0', and it is settled 'when that round
 -- equals the one before (by the standing no earlier row changed anything, and this row did not)'
-abbrev pub nextRound : Content → Desk → Standing
-nextRound c d =
+abbrev pub nextRound : Bool → Standing → Standing
+nextRound changed s =
     record {
-      states1 = d .standing .states1;
-      states2 = d .standing .states2;
-      round = d .standing .round + 1;
+      states1 = s .states1;
+      states2 = s .states2;
+      round = s .round + 1;
       row = 0;
       changed = false;
-      settled = not (changedNow c d);
-      secondWhole = not (d .standing .secondWhole);
+      settled = not changed;
+      secondWhole = not (s .secondWhole);
     }
+
+abbrev pub movedOn : ℕ → Bool → Standing → Standing
+movedOn n1 changed s = cond (eqb (s .row + 1) n1) (nextRound changed s) (nextRow changed s)
 
 -- the desk with that row in the other table; the standing goes on to the next row or the next round
 unfoldable pub worked : Content → Desk → Desk
 worked c d =
     record {
-      standing = cond (eqb (d .standing .row + 1) (N1 c)) (nextRound c d) (nextRow c d);
+      standing = movedOn (N1 c) (changedNow c d) (d .standing);
       store = d .store;
       first = cond (d .standing .secondWhole) (rowWorked c d) (d .first);
       second = cond (d .standing .secondWhole) (d .second) (rowWorked c d);

@@ -22,15 +22,14 @@ use Rattle.casefile.specs.Accepted.{store-reads}
 use Rattle.casefile.specs.Content.{ContentSound}
 use Rattle.rounds.specs.Table.{tableOf, changedBelow, simulationTest}
 use Rattle.rounds.specs.Round.{changed-none, shown-bytes, byte-at, share-cong, simulation-test}
-use Rattle.desk.specs.Desk.{Desk, Question, Call, Reply, wholeTable}
+use Rattle.desk.specs.Desk.{Desk, Question, Call, Reply, wholeTable, isOpen}
 use Rattle.desk.specs.Case.{ops, latticeSize, model1, model2, N1, N2, tableSize, operator, roundIn, limit, entryAt, tableBytes}
-use Rattle.desk.specs.Refused.{callInRange, examined, isContent, accepted}
+use Rattle.desk.specs.Refused.{Rules, callInRange, examined, isContent, accepted}
 use Rattle.desk.specs.Moved.{shownTable}
 use Rattle.desk.specs.Perform.{perform, asked, answer, moved}
-use Rattle.desk.specs.Run.{isOpen}
-use Rattle.desk.specs.Claim.{Rules, roundAfter, answerAfter}
-use Rattle.desk.specs.Refusals.{Unspoiled, CaseNumber, case-number, open-long, in-store, perform-accepted}
-use Rattle.desk.specs.Stands.{known-sound, Going, Ended, Held, GoingAt, EndedAt, Stands, Long, long-not-short, sizes-most}
+use Rattle.desk.specs.Run.{roundAfter, answerAfter}
+use Rattle.desk.specs.Refusals.{Unspoiled, CaseNumber, case-number, Long, long-not-short, opens-or-not, open-long, in-store, perform-accepted}
+use Rattle.desk.specs.Stands.{known-sound, Going, Ended, Progress, GoingAt, EndedAt, Stands, sizes-most}
 
 -- ---- s is round · N1 + row
 
@@ -74,7 +73,7 @@ module _ {c : Content} {T s round row : ℕ} {changed settled : Bool} where
         answer-is = rw (x .isSettled, eq-eqb _ _ p, x .at-T);
       }
 
-  pub position : {whole other : List ℕ} → 0 < N1 c → Held c T s round row changed settled whole other → Position c T s round row settled
+  pub position : {whole other : List ℕ} → 0 < N1 c → Progress c T s round row changed settled whole other → Position c T s round row settled
   position some h = ⊎-elim going-position (ended-position some) (h .place)
 
 -- both tables, whichever is whole
@@ -82,24 +81,18 @@ both : (P : List ℕ → Type 0) (w : Bool) (f g : List ℕ) → P (cond w g f) 
 both P true f g p q = (q, p)
 both P false f g p q = (p, q)
 
--- a call opens or does not
-pub opens-or-not : (k : Call) → ((b : List ℕ) × (k ≡ Call.Open b)) ⊎ (isOpen k ≡ false)
-opens-or-not (Call.Open b) = inl (b, refl)
-opens-or-not Call.Step = inr refl
-opens-or-not (Call.Ask q) = inr refl
-
 module _ {c : Content} {T s : ℕ} {d : Desk} (w : Stands c T s d) where
   sure : ContentSound c
   sure = known-sound (w .known)
 
   pub at : Position c T s (d .standing .round) (d .standing .row) (d .standing .settled)
-  at = position (sure .shape1 .some) (w .held)
+  at = position (sure .shape1 .some) (w .progress)
 
   -- ---- 'Neither 11 nor 12 applies to the call that comes next, whichever it is'
 
   long : Long d
   long =
-      let l = both (λ t. 4096 ≤ length t) (d .standing .secondWhole) (d .first) (d .second) (w .held .whole-long) (w .held .other-long) in
+      let l = both (λ t. 4096 ≤ length t) (d .standing .secondWhole) (d .first) (d .second) (w .progress .whole-long) (w .progress .other-long) in
       record { store-long = w .store-long; first-long = l .0; second-long = l .1 }
 
   store-reads-as : storeReading (d .store) ≡ content c
@@ -108,8 +101,8 @@ module _ {c : Content} {T s : ℕ} {d : Desk} (w : Stands c T s d) where
   below : ((i : ℕ) → i < tableSize c → getD (d .first) i 0 < latticeSize c) × ((i : ℕ) → i < tableSize c → getD (d .second) i 0 < latticeSize c)
   below =
       both (λ t. (i : ℕ) → i < tableSize c → getD t i 0 < latticeSize c) (d .standing .secondWhole) (d .first) (d .second)
-      (λ i l. ltb-true _ _ (w .held .whole-elements i l))
-      (λ i l. ltb-true _ _ (w .held .other-elements i l))
+      (λ i l. ltb-true _ _ (w .progress .whole-elements i l))
+      (λ i l. ltb-true _ _ (w .progress .other-elements i l))
 
   T-limit : T ≤ limit c + 1
   T-limit = T-at-most-size (sure .laws) (model1 c) (model2 c) T (w .known .isT)
@@ -147,7 +140,7 @@ module _ {c : Content} {T s : ℕ} {d : Desk} (w : Stands c T s d) where
       }
 
   pub stands-unspoiled : Unspoiled d c
-  stands-unspoiled = record { long = long-not-short d long; rules = ⊎-elim going-rules ended-rules (w .held .place) }
+  stands-unspoiled = record { long = long-not-short d long; rules = ⊎-elim going-rules ended-rules (w .progress .place) }
 
   -- the refusals that are left: those of a case that is to be opened, and 13
   pub next-refusal : (k : Call) (r : Refusal) → examined k d ≡ refused r → CaseNumber r ⊎ (r ≡ OutOfRange)
@@ -191,7 +184,7 @@ module _ {c : Content} {T s : ℕ} {d : Desk} (w : Stands c T s d) where
   r = roundAfter c T s
 
   pub shows : SameTable (ops c) (model1 c) (model2 c) (shownTable c d) (roundIn c r)
-  shows = subst (λ (x : ℕ). SameTable (ops c) (model1 c) (model2 c) (shownTable c d) (roundIn c x)) (at .round-is) (w .held .shown)
+  shows = subst (λ (x : ℕ). SameTable (ops c) (model1 c) (model2 c) (shownTable c d) (roundIn c x)) (at .round-is) (w .progress .shown)
 
   pub below-shown : (U : ℕ → ℕ → ℕ) → AtMostTable (ops c) (model1 c) (model2 c) U (roundIn c r) → AtMostTable (ops c) (model1 c) (model2 c) U (shownTable c d)
   below-shown U h q₁ l q₂ m = rw (shows q₁ l q₂ m) (h q₁ l q₂ m)
@@ -202,7 +195,7 @@ module _ {c : Content} {T s : ℕ} {d : Desk} (w : Stands c T s d) where
   -- ---- 'show then answers the table of round r, and (..) score, share and judge, when accepted, what their definitions give'
 
   whole-entries : tableSize c ≤ length (wholeTable d)
-  whole-entries = omega (arith, sizes-most (w .known), w .held .whole-long)
+  whole-entries = omega (arith, sizes-most (w .known), w .progress .whole-long)
 
   pub show-is : asked Question.Show d ≡ Reply.Shown (tableBytes c (roundIn c r))
   unfolding answer

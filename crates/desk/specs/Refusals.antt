@@ -1,17 +1,17 @@
--- Demand 1: which refusal a call gets and when; a refusal alters nothing; a call to which none applies is accepted.
--- Rests on calls' definitions and casefile's Reading.
+-- Which refusal a call gets, or the content that it works on: for demand 1, demand 3 and the proofs of the code.
+-- Rests on Refused, Perform and casefile's Reading.
 use Prim.Native.Nat.{ℕ, _+_, _-_, _≤_}
 use mathlib.Core.Path.{_≡_, refl, sym, ap, _∙_}
-use mathlib.Core.Bool.{Bool, true, false, cond, not, _&&_}
-use mathlib.Core.Logic.{_↔_}
+use mathlib.Core.Bool.{Bool, true, false, cond, not, _&&_, _||_}
+use mathlib.Core.Logic.{_↔_, _⊎_, inl, inr}
 use mathlib.Core.List.{List}
 use native.Mathlib.Omega.{arith}
-use borrow.Author.Tests.{not-false, not-true, lt-ltb, ltb-true, le-leb, leb-true, eq-eqb, eqb-true}
+use borrow.Author.Tests.{not-false, not-true, lt-ltb, ltb-true, ltb-false, le-ltb, le-leb, leb-true, eq-eqb, eqb-true}
 use lib.Dec.{ltb, leb, eqb}
 use lib.ListN.{length, getD, take}
 use lib.Seq.{getD-take}
 use Rattle.theory.specs.Part.{LatticePart}
-use Rattle.theory.specs.Test.{and-in, and-l, and-r, ⇒-in, ⇒-elim, all-in, all-at, not-passed, false-true}
+use Rattle.theory.specs.Test.{or-l, or-r, and-in, and-l, and-r, ⇒-in, ⇒-elim, all-in, all-at, not-passed, false-true, cond-true, cond-false}
 use Rattle.refusal.specs.declared.Refusal.{Refusal}
 use Rattle.refusal.specs.declared.Refusal.the-variants.{ShortDesk, SpoiledDesk, OutOfRange, CaseSize, Directory, PartPlace, BadModel, BadFormula, LatticeForm, NoPartialOrder, NoMeetOrJoin, NotDistributive, BadComplement}
 use Rattle.refusal.specs.Number.{numberOf}
@@ -19,40 +19,53 @@ use Rattle.lattice.specs.Reading.{LatticeReading, latticeReading, partReading, 
 use Rattle.model.specs.Reading.{modelTest}
 use Rattle.casefile.specs.Directory.{partCount, directoryEnd, sizeTest, directoryTest, misplaced, partAt, partsFrom}
 use Rattle.casefile.specs.Reading.{Content, CaseReading, refused, content, caseReading, storeReading, partsReading, modelsReading, formulasReading, afterFormulas, afterLattice, FormulasReading, refusedAt, read}
-use Rattle.desk.specs.Desk.{Desk, Call}
-use Rattle.desk.specs.Case.{latticeSize, tableSize, limit}
-use Rattle.desk.specs.Refused.{short, sizesKept, rowKept, settledKept, rulesKept, spoiledAs, spoiled, callInRange, ofStore, afterShort, examined, isContent, accepted, refusedReply}
+use Rattle.desk.specs.Desk.{Desk, Call, isOpen}
+use Rattle.desk.specs.Case.{N1, N2, latticeSize, tableSize, limit}
+use Rattle.desk.specs.Refused.{short, sizesKept, rowKept, settledKept, roundKept, rulesKept, keptFor, spoiledAs, Rules, spoiled, callInRange, ofStore, afterShort, examined, isContent, accepted, refusedReply}
 use Rattle.desk.specs.Perform.{perform, performed, answer, moved}
-use Rattle.desk.specs.Run.{isOpen}
-use Rattle.desk.specs.Claim.{Rules, Demand1}
+
+-- ---- the lengths that refusal 11 asks for
+
+pub record Long (d : Desk) : Type 0 where
+  pub store-long : 24576 ≤ length (d .store)
+  pub first-long : 4096 ≤ length (d .first)
+  pub second-long : 4096 ≤ length (d .second)
+
+pub long-enough : (d : Desk) → short d ≡ false → Long d
+unfolding short
+long-enough d e =
+    let two = or-l (ltb (length (d .store)) 24576 || ltb (length (d .first)) 4096) (ltb (length (d .second)) 4096) e in
+    record {
+      store-long = ltb-false _ _ (or-l (ltb (length (d .store)) 24576) (ltb (length (d .first)) 4096) two);
+      first-long = ltb-false _ _ (or-r (ltb (length (d .store)) 24576) (ltb (length (d .first)) 4096) two);
+      second-long = ltb-false _ _ (or-r (ltb (length (d .store)) 24576 || ltb (length (d .first)) 4096) (ltb (length (d .second)) 4096) e);
+    }
+
+pub long-not-short : (d : Desk) → Long d → short d ≡ false
+unfolding short
+long-not-short d w = rw (le-ltb (length (d .store)) 24576 (w .store-long), le-ltb (length (d .first)) 4096 (w .first-long), le-ltb (length (d .second)) 4096 (w .second-long))
 
 -- ---- the rules of 12
 
-cond-false : (t : Bool) (x y : Bool) → t ≡ false → cond t x y ≡ true → y ≡ true
-cond-false true x y e h = absurd (false-true e refl)
-cond-false false x y e h = h
-
-cond-true : (t : Bool) (x y : Bool) → t ≡ true → cond t x y ≡ true → x ≡ true
-cond-true true x y e h = h
-cond-true false x y e h = absurd (false-true refl e)
-
--- rulesKept says what Rules says
-pub rules-in : (d : Desk) (c : Content) → Rules d c → rulesKept c d ≡ true
+-- the tests say what Rules says
+pub rules-in : (d : Desk) (c : Content) → Rules d c → keptFor c d ≡ true
 unfolding rulesKept
 rules-in d c w =
-    and-in _ _ (and-in _ _ (and-in _ _ (and-in _ _ sizes row) (round (d .standing .settled) refl)) (all-in _ _ (λ i l. lt-ltb _ _ (w .first-below i l)))) (all-in _ _ (λ i l. lt-ltb _ _ (w .second-below i l)))
+    and-in _ _
+    (and-in _ _ (and-in _ _ (and-in _ _ sizes row) (round (d .standing .settled) refl)) (all-in _ _ (λ i l. lt-ltb _ _ (w .first-below i l))))
+    (all-in _ _ (λ i l. lt-ltb _ _ (w .second-below i l)))
   where
-    sizes : sizesKept c (d .standing) ≡ true
+    sizes : sizesKept (N1 c) (N2 c) (d .standing) ≡ true
     sizes = and-in _ _ (eq-eqb _ _ (w .size1)) (eq-eqb _ _ (w .size2))
 
-    row : rowKept c (d .standing) ≡ true
+    row : rowKept (N1 c) (d .standing) ≡ true
     row = and-in _ _ (lt-ltb _ _ (w .row-below)) (⇒-in (eqb (d .standing .row) 0) (not (d .standing .changed)) (λ z. ap not (w .nothing-yet (eqb-true _ _ z))))
 
-    round : (t : Bool) → d .standing .settled ≡ t → cond t (leb 1 (d .standing .round) && leb (d .standing .round) (limit c + 1) && eqb (d .standing .row) 0) (leb (d .standing .round) (limit c)) ≡ true
+    round : (t : Bool) → d .standing .settled ≡ t → cond t (settledKept (limit c) (d .standing)) (leb (d .standing .round) (limit c)) ≡ true
     round true e = and-in _ _ (and-in _ _ (le-leb _ _ (w .settled-least e)) (le-leb _ _ (w .settled-most e))) (eq-eqb _ _ (w .settled-row e))
     round false e = le-leb _ _ (w .unsettled-most e)
 
-pub rules-out : (d : Desk) (c : Content) → storeReading (d .store) ≡ content c → rulesKept c d ≡ true → Rules d c
+pub rules-out : (d : Desk) (c : Content) → storeReading (d .store) ≡ content c → keptFor c d ≡ true → Rules d c
 unfolding rulesKept
 rules-out d c e h =
     record {
@@ -61,7 +74,7 @@ rules-out d c e h =
       size2 = eqb-true _ _ (search (and-l, and-r));
       row-below = ltb-true _ _ (search (and-l, and-r));
       nothing-yet = λ z. not-true _ (⇒-elim (eqb (d .standing .row) 0) (not (d .standing .changed)) (search (and-l, and-r)) (eq-eqb _ _ z));
-      unsettled-most = λ z. leb-true _ _ (cond-false (d .standing .settled) (settledKept c (d .standing)) (leb (d .standing .round) (limit c)) z (search (and-l, and-r)));
+      unsettled-most = λ z. leb-true _ _ (sym (cond-false (d .standing .settled) (settledKept (limit c) (d .standing)) (leb (d .standing .round) (limit c)) z) ∙ round);
       settled-least = λ z. let k = settled z in leb-true _ _ (search (and-l, and-r));
       settled-most = λ z. let k = settled z in leb-true _ _ (search (and-l, and-r));
       settled-row = λ z. let k = settled z in eqb-true _ _ (search (and-l, and-r));
@@ -69,8 +82,11 @@ rules-out d c e h =
       second-below = λ i l. ltb-true _ _ (all-at (tableSize c) (λ j. ltb (getD (d .second) j 0) (latticeSize c)) (search (and-l, and-r)) i l);
     }
   where
-    settled : d .standing .settled ≡ true → settledKept c (d .standing) ≡ true
-    settled z = cond-true (d .standing .settled) (settledKept c (d .standing)) (leb (d .standing .round) (limit c)) z (search (and-l, and-r))
+    round : roundKept (limit c) (d .standing) ≡ true
+    round = search (and-l, and-r)
+
+    settled : d .standing .settled ≡ true → settledKept (limit c) (d .standing) ≡ true
+    settled z = sym (cond-true (d .standing .settled) (settledKept (limit c) (d .standing)) (leb (d .standing .round) (limit c)) z) ∙ round
 
 pub spoiled-exactly : (d : Desk) → (spoiled d ≡ false) ↔ ((c : Content) × Rules d c)
 unfolding spoiled
@@ -78,7 +94,7 @@ spoiled-exactly d = (λ p. go (storeReading (d .store)) refl p, λ w. rw (w .1 .
   where
     go : (x : CaseReading) → storeReading (d .store) ≡ x → spoiledAs d x ≡ false → (c : Content) × Rules d c
     go (refused r) e h = absurd (false-true h refl)
-    go (content c) e h = (c, rules-out d c e (not-false (rulesKept c d) h))
+    go (content c) e h = (c, rules-out d c e (not-false (keptFor c d) h))
 
 -- ---- 'a refusal alters nothing'
 
@@ -92,6 +108,12 @@ perform-accepted k d c e = ap (performed k d) e
 
 refused-content : {r : Refusal} {c : Content} → refused r ≡ content c → ⊥
 refused-content e = let z : _≡_ {A = ℕ} 0 1 = cc in omega arith
+
+-- a call opens or does not
+pub opens-or-not : (k : Call) → ((b : List ℕ) × (k ≡ Call.Open b)) ⊎ (isOpen k ≡ false)
+opens-or-not (Call.Open b) = inl (b, refl)
+opens-or-not Call.Step = inr refl
+opens-or-not (Call.Ask q) = inr refl
 
 -- ---- which refusal, and when: 'open uses 11 and 1 to 10, the other calls 11, 12, 13', the first that applies
 
@@ -119,7 +141,7 @@ is-spoiled k d o s p = other-long k d o s ∙ go (storeReading (d .store)) p
   where
     go : (x : CaseReading) → spoiledAs d x ≡ true → ofStore k d x ≡ refused SpoiledDesk
     go (refused r) h = refl
-    go (content c) h = rules (rulesKept c d) h
+    go (content c) h = rules (keptFor c d) h
       where
         rules : (t : Bool) → not t ≡ true → cond t (cond (callInRange k c) (content c) (refused OutOfRange)) (refused SpoiledDesk) ≡ refused SpoiledDesk
         rules true h = absurd (false-true refl h)
@@ -148,25 +170,41 @@ open-accepted b d c e = go (short d) refl
     go true s = absurd (refused-content (sym (is-short (Call.Open b) d s) ∙ e))
     go false s = record { long = s; reads = sym (open-long b d s) ∙ e }
 
--- every other call: the desk is long enough and not spoiled, and the arguments are in range
+-- every other call: what may come of it
+pub data Outcome (k : Call) (d : Desk) : Type 0 where
+  too-short : short d ≡ true → examined k d ≡ refused ShortDesk → Outcome k d
+  broken : short d ≡ false → ((c : Content) → ¬ Rules d c) → examined k d ≡ refused SpoiledDesk → Outcome k d
+  outside : (c : Content) → Unspoiled d c → callInRange k c ≡ false → examined k d ≡ refused OutOfRange → Outcome k d
+  inside : (c : Content) → Unspoiled d c → callInRange k c ≡ true → examined k d ≡ content c → Outcome k d
+
+pub outcome : (k : Call) (d : Desk) → isOpen k ≡ false → Outcome k d
+outcome k d o = go (short d) refl
+  where
+    at-range : (c : Content) → Unspoiled d c → (t : Bool) → callInRange k c ≡ t → Outcome k d
+    at-range c u true i = inside c u i (in-store k d c o u ∙ rw i)
+    at-range c u false i = outside c u i (in-store k d c o u ∙ rw i)
+
+    rules : short d ≡ false → (t : Bool) → spoiled d ≡ t → Outcome k d
+    rules s true p = broken s (λ c w. false-true (spoiled-exactly d .1 (c, w)) p) (is-spoiled k d o s p)
+    rules s false p = let w = spoiled-exactly d .0 p in at-range (w .0) (record { long = s; rules = w .1 }) (callInRange k (w .0)) refl
+
+    go : (t : Bool) → short d ≡ t → Outcome k d
+    go true s = too-short s (is-short k d s)
+    go false s = rules s (spoiled d) refl
+
+-- it is accepted where the desk is long enough and not spoiled, and the arguments are in range
 pub record OtherAccepted (k : Call) (d : Desk) (c : Content) : Type 0 where
   pub held : Unspoiled d c
   pub range : callInRange k c ≡ true
 
 pub other-accepted : (k : Call) (d : Desk) (c : Content) → isOpen k ≡ false → examined k d ≡ content c → OtherAccepted k d c
-other-accepted k d c o e = go (short d) refl
+other-accepted k d c o e = go (outcome k d o)
   where
-    at-range : (x : Content) → Unspoiled d x → (t : Bool) → callInRange k x ≡ t → cond t (content x) (refused OutOfRange) ≡ content c → OtherAccepted k d c
-    at-range x u true i h = let q : x ≡ c = cc in rw (← q) (record { held = u; range = i })
-    at-range x u false i h = absurd (refused-content h)
-
-    spoil : short d ≡ false → (t : Bool) → spoiled d ≡ t → OtherAccepted k d c
-    spoil s true p = absurd (refused-content (sym (is-spoiled k d o s p) ∙ e))
-    spoil s false p = let w = spoiled-exactly d .0 p in let u : Unspoiled d (w .0) = record { long = s; rules = w .1 } in at-range (w .0) u (callInRange k (w .0)) refl (sym (in-store k d (w .0) o u) ∙ e)
-
-    go : (t : Bool) → short d ≡ t → OtherAccepted k d c
-    go true s = absurd (refused-content (sym (is-short k d s) ∙ e))
-    go false s = spoil s (spoiled d) refl
+    go : Outcome k d → OtherAccepted k d c
+    go (too-short s p) = absurd (refused-content (sym p ∙ e))
+    go (broken s n p) = absurd (refused-content (sym p ∙ e))
+    go (outside x u i p) = absurd (refused-content (sym p ∙ e))
+    go (inside x u i p) = let q : x ≡ c = cc in rw (← q) (record { held = u; range = i })
 
 -- accepted or refused, and never both
 pub accepted-content : (k : Call) (d : Desk) → accepted k d ≡ true → (c : Content) × (examined k d ≡ content c)
@@ -261,19 +299,3 @@ zeros-spoiled d z = go (sizeTest s)
     go : (t : Bool) → spoiledAs d (cond t (cond (directoryTest s) (cond (ltb (misplaced s) (partCount s)) (refused (PartPlace (misplaced s))) (partsReading (partAt s 0) (partAt s 1) (partAt s 2) (partsFrom s 3 (partCount s - 3)))) (refused Directory)) (refused CaseSize)) ≡ true
     go true = rw none
     go false = refl
-
--- ==== Demand 1
-
-pub demand1 : (k : Call) (d : Desk) → Demand1 k d
-demand1 k d =
-    record {
-      kept = λ r e. (ap (λ x. x .reply) (perform-refused k d r e), ap (λ x. x .desk) (perform-refused k d r e));
-      at-11 = is-short k d;
-      at-1-to-10 = λ b q s. ap (λ (x : Call). examined x d) q ∙ open-long b d s;
-      numbers = case-number;
-      at-12 = is-spoiled k d;
-      only-12 = spoiled-exactly d;
-      at-13 = λ o s c w n. in-store k d c o (record { long = s; rules = w }) ∙ ap (λ (t : Bool). cond t (content c) (refused OutOfRange)) n;
-      open-accepted = λ b q s c e. content-accepted k d c (ap (λ (x : Call). examined x d) q ∙ open-long b d s ∙ e);
-      other-accepted = λ o s c w n. content-accepted k d c (in-store k d c o (record { long = s; rules = w }) ∙ ap (λ (t : Bool). cond t (content c) (refused OutOfRange)) n);
-    }

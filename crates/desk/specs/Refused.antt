@@ -1,5 +1,6 @@
 -- Which refusal a call gets, or the content that it works on. Rests on Desk, Case, casefile's Reading, and refusal.
-use Prim.Native.Nat.{ℕ, _+_}
+use Prim.Native.Nat.{ℕ, _+_, _*_, _-_, _≤_, _<_}
+use mathlib.Core.Path.{_≡_}
 use mathlib.Core.Bool.{Bool, true, false, cond, not, _&&_, _||_}
 use mathlib.Core.List.{List, []}
 use lib.Dec.{ltb, leb, eqb}
@@ -14,40 +15,64 @@ use Rattle.desk.specs.Case.{latticeSize, N1, N2, tableSize, modelIn, lim
 
 -- ---- 11: 'the store or a table is shorter than above'
 
-unfoldable pub short : Desk → Bool
-short d = ltb (length (d .store)) 24576 || ltb (length (d .first)) 4096 || ltb (length (d .second)) 4096
+abbrev pub tooShort : List ℕ → List ℕ → List ℕ → Bool
+tooShort store first second = ltb (length store) 24576 || ltb (length first) 4096 || ltb (length second) 4096
 
--- ---- 12: 'when, and only when, one of these is broken'
+unfoldable pub short : Desk → Bool
+short d = tooShort (d .store) (d .first) (d .second)
+
+-- ---- 12: 'when, and only when, one of these is broken', for N1, N2 and n
 
 -- 'with the standing's sizes'
-abbrev pub sizesKept : Content → Standing → Bool
-sizesKept c s = eqb (s .states1) (N1 c) && eqb (s .states2) (N2 c)
+abbrev pub sizesKept : ℕ → ℕ → Standing → Bool
+sizesKept n1 n2 s = eqb (s .states1) n1 && eqb (s .states2) n2
 
 -- 'Next row is below N1; at next row 0 nothing has changed yet.'
-abbrev pub rowKept : Content → Standing → Bool
-rowKept c s = ltb (s .row) (N1 c) && (eqb (s .row) 0 ⇒ not (s .changed))
+abbrev pub rowKept : ℕ → Standing → Bool
+rowKept n1 s = ltb (s .row) n1 && (eqb (s .row) 0 ⇒ not (s .changed))
 
 -- 'Unsettled, the round is at most N1·N2·(n − 1); settled, it is 1 to N1·N2·(n − 1) + 1 and next row is 0.'
-abbrev pub settledKept : Content → Standing → Bool
-settledKept c s = leb 1 (s .round) && leb (s .round) (limit c + 1) && eqb (s .row) 0
+abbrev pub settledKept : ℕ → Standing → Bool
+settledKept most s = leb 1 (s .round) && leb (s .round) (most + 1) && eqb (s .row) 0
 
-abbrev pub roundKept : Content → Standing → Bool
-roundKept c s = cond (s .settled) (settledKept c s) (leb (s .round) (limit c))
+abbrev pub roundKept : ℕ → Standing → Bool
+roundKept most s = cond (s .settled) (settledKept most s) (leb (s .round) most)
+
+abbrev pub standingKept : ℕ → ℕ → ℕ → Standing → Bool
+standingKept n1 n2 n s = sizesKept n1 n2 s && rowKept n1 s && roundKept (n1 * n2 * (n - 1)) s
 
 -- 'The first N1·N2 bytes of both tables are below n.'
-abbrev pub tableKept : Content → List ℕ → Bool
-tableKept c t = allBelow (tableSize c) (λ i. ltb (getD t i 0) (latticeSize c))
+abbrev pub tableKept : ℕ → ℕ → List ℕ → Bool
+tableKept count n t = allBelow count (λ i. ltb (getD t i 0) n)
 
-unfoldable pub rulesKept : Content → Desk → Bool
-rulesKept c d = sizesKept c (d .standing) && rowKept c (d .standing) && roundKept c (d .standing) && tableKept c (d .first) && tableKept c (d .second)
+unfoldable pub rulesKept : ℕ → ℕ → ℕ → Desk → Bool
+rulesKept n1 n2 n d = standingKept n1 n2 n (d .standing) && tableKept (n1 * n2) n (d .first) && tableKept (n1 * n2) n (d .second)
+
+-- the same rules for the sizes of a content
+abbrev pub keptFor : Content → Desk → Bool
+keptFor c d = rulesKept (N1 c) (N2 c) (latticeSize c) d
 
 -- 'The store reads as a lattice, two models and formulas that open accepts', and the other rules are kept
 abbrev pub spoiledAs : Desk → CaseReading → Bool
 spoiledAs d (refused r) = true
-spoiledAs d (content c) = not (rulesKept c d)
+spoiledAs d (content c) = not (keptFor c d)
 
 unfoldable pub spoiled : Desk → Bool
 spoiled d = spoiledAs d (storeReading (d .store))
+
+-- The rules one by one, as statements. Refusals.antt shows that the tests say the same.
+pub record Rules (d : Desk) (c : Content) : Type 0 where
+  pub reads : storeReading (d .store) ≡ content c
+  pub size1 : d .standing .states1 ≡ N1 c
+  pub size2 : d .standing .states2 ≡ N2 c
+  pub row-below : d .standing .row < N1 c
+  pub nothing-yet : d .standing .row ≡ 0 → d .standing .changed ≡ false
+  pub unsettled-most : d .standing .settled ≡ false → d .standing .round ≤ limit c
+  pub settled-least : d .standing .settled ≡ true → 1 ≤ d .standing .round
+  pub settled-most : d .standing .settled ≡ true → d .standing .round ≤ limit c + 1
+  pub settled-row : d .standing .settled ≡ true → d .standing .row ≡ 0
+  pub first-below : (i : ℕ) → i < tableSize c → getD (d .first) i 0 < latticeSize c
+  pub second-below : (i : ℕ) → i < tableSize c → getD (d .second) i 0 < latticeSize c
 
 -- ---- 13: 'a formula, model, state or element in the call out of range, or judge's table of another length or with a byte not below n'
 
@@ -66,7 +91,7 @@ inRange Question.Score c = true
 inRange (Question.Value f m q) c = hasFormula c f && isModel m && hasState c m q
 inRange (Question.Whole f m) c = hasFormula c f && isModel m
 inRange (Question.Share e) c = ltb e (latticeSize c)
-inRange (Question.Judge t) c = eqb (length t) (tableSize c) && tableKept c t
+inRange (Question.Judge t) c = eqb (length t) (tableSize c) && tableKept (tableSize c) (latticeSize c) t
 
 -- step has no such argument, and open does not use 13
 abbrev pub callInRange : Call → Content → Bool
@@ -79,7 +104,7 @@ callInRange (Call.Ask q) c = inRange q c
 -- 12, then 13
 abbrev pub ofStore : Call → Desk → CaseReading → CaseReading
 ofStore k d (refused r) = refused SpoiledDesk
-ofStore k d (content c) = cond (rulesKept c d) (cond (callInRange k c) (content c) (refused OutOfRange)) (refused SpoiledDesk)
+ofStore k d (content c) = cond (keptFor c d) (cond (callInRange k c) (content c) (refused OutOfRange)) (refused SpoiledDesk)
 
 -- 'open uses 11 and 1 to 10, the other calls 11, 12, 13'
 abbrev pub afterShort : Call → Desk → CaseReading

@@ -1,26 +1,20 @@
--- Lists of calls. Rests on Desk, Refused, Perform.
-use Prim.Native.Nat.{ℕ, _+_}
-use mathlib.Core.Bool.{Bool, true, false, cond, _&&_}
-use mathlib.Core.List.{List, [], _∷_}
+-- Lists of calls, and what demand 3 says of one: the last accepted opening, s, r and the last step's answer. Rests on Desk, Refused, Perform.
+use Prim.Native.Nat.{ℕ, _+_, _/_, _%_, min}
+use mathlib.Core.Path.{_≡_}
+use mathlib.Core.Bool.{cond, _&&_}
+use mathlib.Core.List.{List, [], _∷_, _++_}
+use lib.Dec.{eqb}
 use Rattle.theory.specs.Simulation.{one}
-use Rattle.desk.specs.Desk.{Desk, Call, Reply}
-use Rattle.desk.specs.Refused.{accepted}
+use Rattle.casefile.specs.Reading.{Content, content}
+use Rattle.desk.specs.Desk.{Desk, Call, Reply, isOpen, isStep}
+use Rattle.desk.specs.Case.{N1}
+use Rattle.desk.specs.Refused.{examined, accepted}
 use Rattle.desk.specs.Perform.{perform}
 
 -- 'Each call, refused or not, gets these as the call before left them, and nobody writes them in between.'
 unfoldable pub run : List Call → Desk → Desk
 run [] d = d
 run (k ∷ ks) d = run ks (perform k d .desk)
-
-abbrev pub isOpen : Call → Bool
-isOpen (Call.Open b) = true
-isOpen Call.Step = false
-isOpen (Call.Ask q) = false
-
-abbrev pub isStep : Call → Bool
-isStep (Call.Open b) = false
-isStep Call.Step = true
-isStep (Call.Ask q) = false
 
 -- the number of accepted openings in a list
 unfoldable pub openings : List Call → Desk → ℕ
@@ -36,3 +30,29 @@ stepAnswers (k ∷ ks) d = cond (isStep k && accepted k d) (perform k d .reply �
 unfoldable pub replies : List Call → Desk → List Reply
 replies [] d = []
 replies (k ∷ ks) d = perform k d .reply ∷ replies ks (perform k d .desk)
+
+-- ---- what demand 3 speaks of
+
+-- 'the last such opening': the calls before it, its case, and the calls after it, of which no opening is accepted
+pub record LastOpening (ks : List Call) (d : Desk) : Type 0 where
+  pub before : List Call
+  pub case : List ℕ
+  pub after : List Call
+  pub list : ks ≡ before ++ (Call.Open case ∷ after)
+  -- what the case holds: 'The lattice, models and formulas are those in the case of the last accepted opening.'
+  pub holds : Content
+  pub opens : examined (Call.Open case) (run before d) ≡ content holds
+  pub last : openings after (perform (Call.Open case) (run before d) .desk) ≡ 0
+
+-- the answers of the accepted steps since that opening
+abbrev pub answersSince : {ks : List Call} {d : Desk} → LastOpening ks d → List Reply
+answersSince {ks} {d} l = stepAnswers (l .after) (perform (Call.Open (l .case)) (run (l .before) d) .desk)
+
+-- 'r the smaller of s divided by N1 (rounded down) and T'
+abbrev pub roundAfter : Content → ℕ → ℕ → ℕ
+roundAfter c T s = min (s / N1 c) T
+
+-- 'answered Settled(T) when r = T, else Round(r) when s is a multiple of N1, else Row'
+abbrev pub answerAfter : Content → ℕ → ℕ → Reply
+answerAfter c T s =
+    cond (eqb (roundAfter c T s) T) (Reply.Settled T) (cond (eqb (s % N1 c) 0) (Reply.Round (roundAfter c T s)) Reply.Row)

@@ -8,25 +8,25 @@ use mathlib.Core.List.{List, _++_}
 use native.Mathlib.Nat.{eq-or-lt-of-le}
 use native.Mathlib.Numerals.{add-one}
 use native.Mathlib.Omega.{arith}
-use borrow.Author.Tests.{ltb-false, le-ltb, eqb-true, eqb-false}
-use lib.Dec.{ltb, eqb}
-use lib.ListN.{length, getD, drop, length-append, length-drop}
+use borrow.Author.Tests.{eqb-true, eqb-false}
+use lib.Dec.{eqb}
+use lib.ListN.{length, getD, drop, replicate, length-replicate, getD-replicate}
 use Rattle.theory.specs.Lattice.{Element}
 use Rattle.theory.specs.Simulation.{SameTable}
 use Rattle.theory.specs.Rounds.{F-element}
 use Rattle.theory.specs.Test.{false-true}
+use Rattle.theory.specs.Written.{written-length, written-at}
 use Rattle.casefile.specs.Reading.{Content, content, contentParts, caseReading}
 use Rattle.casefile.specs.Gapless.{gapless}
 use Rattle.casefile.specs.Accepted.{gapless-most}
 use Rattle.casefile.specs.Content.{ContentSound, content-sound}
-use Rattle.model.specs.Places.{prod-le}
 use Rattle.rounds.specs.Table.{tableOf, rowWritten, rowChanged}
-use Rattle.rounds.specs.Row.{written-length, written-at}
 use Rattle.rounds.specs.Round.{RoundSoFar, RoundDone, round-none, round-more, round-reached, round-done, F-reads, row-elements, top-round}
 use Rattle.desk.specs.Desk.{Desk, wholeTable, otherTable}
 use Rattle.desk.specs.Case.{ops, model1, model2, N1, N2, tableSize, operator, roundIn, IsT}
 use Rattle.desk.specs.Refused.{short}
-use Rattle.desk.specs.Moved.{opened, topped, stored, rowWorked, nextRow, nextRound, worked, stepped}
+use Rattle.desk.specs.Refusals.{long-enough}
+use Rattle.desk.specs.Moved.{opened, topped, stored, rowWorked, changedNow, nextRow, nextRound, worked, stepped}
 
 -- ---- the invariant
 
@@ -58,7 +58,7 @@ module _ (c : Content) (T : ℕ) where
     pub enough : T * N1 c ≤ s
 
   -- the whole table is the round's, both are long enough, and their entries are elements
-  pub record Held (s round row : ℕ) (changed settled : Bool) (whole other : List ℕ) : Type 0 where
+  pub record Progress (s round row : ℕ) (changed settled : Bool) (whole other : List ℕ) : Type 0 where
     pub whole-long : 4096 ≤ length whole
     pub other-long : 4096 ≤ length other
     pub whole-elements : (i : ℕ) → i < tableSize c → Element (ops c) (getD whole i 0)
@@ -73,8 +73,8 @@ module _ (c : Content) (T : ℕ) where
   abbrev pub EndedAt : ℕ → Desk → Type 0
   EndedAt s d = Ended s (d .standing .round) (d .standing .row) (d .standing .changed) (d .standing .settled)
 
-  abbrev pub HeldAt : ℕ → Desk → Type 0
-  HeldAt s d = Held s (d .standing .round) (d .standing .row) (d .standing .changed) (d .standing .settled) (wholeTable d) (otherTable d)
+  abbrev pub ProgressAt : ℕ → Desk → Type 0
+  ProgressAt s d = Progress s (d .standing .round) (d .standing .row) (d .standing .changed) (d .standing .settled) (wholeTable d) (otherTable d)
 
   -- 'this desk is what the content c gives after s accepted steps': its store begins with the gapless case, and any bytes may follow
   pub record Stands (s : ℕ) (d : Desk) : Type 0 where
@@ -84,14 +84,14 @@ module _ (c : Content) (T : ℕ) where
     pub store-long : 24576 ≤ length (d .store)
     pub states1-is : d .standing .states1 ≡ N1 c
     pub states2-is : d .standing .states2 ≡ N2 c
-    pub held : HeldAt s d
+    pub progress : ProgressAt s d
 
 -- the same of equal tables
-held-with : {c : Content} {T s round row : ℕ} {changed settled : Bool} {whole other whole′ other′ : List ℕ} → whole′ ≡ whole → other′ ≡ other → Held c T s round row changed settled whole other → Held c T s round row changed settled whole′ other′
-held-with p q h = rw (p, q) h
+progress-with : {c : Content} {T s round row : ℕ} {changed settled : Bool} {whole other whole′ other′ : List ℕ} → whole′ ≡ whole → other′ ≡ other → Progress c T s round row changed settled whole other → Progress c T s round row changed settled whole′ other′
+progress-with p q h = rw (p, q) h
 
--- the same store and sizes, and what is held now
-again : {c : Content} {T s n : ℕ} {d : Desk} → Stands c T s d → (e : Desk) → e .store ≡ d .store → e .standing .states1 ≡ d .standing .states1 → e .standing .states2 ≡ d .standing .states2 → HeldAt c T n e → Stands c T n e
+-- the same store and sizes, and what is progress now
+again : {c : Content} {T s n : ℕ} {d : Desk} → Stands c T s d → (e : Desk) → e .store ≡ d .store → e .standing .states1 ≡ d .standing .states1 → e .standing .states2 ≡ d .standing .states2 → ProgressAt c T n e → Stands c T n e
 again w e p q r h =
     record {
       known = w .known;
@@ -100,7 +100,7 @@ again w e p q r h =
       store-long = rw p (w .store-long);
       states1-is = q ∙ w .states1-is;
       states2-is = r ∙ w .states2-is;
-      held = h;
+      progress = h;
     }
 
 -- where the tables stand when the other one is written, and when they are exchanged after that
@@ -120,57 +120,36 @@ turn-other : (w : Bool) (f g o : List ℕ) → cond (not w) (cond w o f) (cond w
 turn-other true f g o = refl
 turn-other false f g o = refl
 
--- ---- the lengths that refusal 11 asks for
-
-or-l : (a b : Bool) → (a || b) ≡ false → a ≡ false
-or-l true b e = e
-or-l false b e = refl
-
-or-r : (a b : Bool) → (a || b) ≡ false → b ≡ false
-or-r true b e = absurd (false-true e refl)
-or-r false b e = e
-
-pub record Long (d : Desk) : Type 0 where
-  pub store-long : 24576 ≤ length (d .store)
-  pub first-long : 4096 ≤ length (d .first)
-  pub second-long : 4096 ≤ length (d .second)
-
-pub long-enough : (d : Desk) → short d ≡ false → Long d
-unfolding short
-long-enough d e =
-    let two = or-l (ltb (length (d .store)) 24576 || ltb (length (d .first)) 4096) (ltb (length (d .second)) 4096) e in
-    record {
-      store-long = ltb-false _ _ (or-l (ltb (length (d .store)) 24576) (ltb (length (d .first)) 4096) two);
-      first-long = ltb-false _ _ (or-r (ltb (length (d .store)) 24576) (ltb (length (d .first)) 4096) two);
-      second-long = ltb-false _ _ (or-r (ltb (length (d .store)) 24576 || ltb (length (d .first)) 4096) (ltb (length (d .second)) 4096) e);
-    }
-
-pub long-not-short : (d : Desk) → Long d → short d ≡ false
-unfolding short
-long-not-short d w = rw (le-ltb (length (d .store)) 24576 (w .store-long), le-ltb (length (d .first)) 4096 (w .first-long), le-ltb (length (d .second)) 4096 (w .second-long))
-
 -- ---- for an accepted content
 
 module _ {c : Content} {T : ℕ} (known : Known c T) where
   pub sizes-most : tableSize c ≤ 4096
-  sizes-most = prod-le (N1 c) (N2 c) 64 64 (known-sound known .shape1 .states-most) (known-sound known .shape2 .states-most)
+  sizes-most = known-sound known .entries-most
 
   pub some-states : 0 < N1 c
   some-states = known-sound known .shape1 .some
 
   -- ---- an accepted opening starts it
 
+  abbrev tops : List ℕ
+  tops = replicate (tableSize c) (ops c .top)
+
+  tops-fit : (t : List ℕ) → 4096 ≤ length t → 0 + length tops ≤ length t
+  tops-fit t h = omega (arith, sizes-most, length-replicate (tableSize c) (ops c .top))
+
   topped-at : (t : List ℕ) → 4096 ≤ length t → (i : ℕ) → i < tableSize c → getD (topped c t) i 0 ≡ ops c .top
-  topped-at t h i l = let z : 0 + i ≡ i = omega arith in rw z at (written-at 0 (tableSize c) (λ j. ops c .top) t (omega (arith, sizes-most)) i l)
+  topped-at t h i l =
+      let z : 0 + i ≡ i = omega arith in
+      rw z at (written-at 0 tops t (tops-fit t h) i (omega (arith, length-replicate (tableSize c) (ops c .top)))) ∙ getD-replicate (tableSize c) i (ops c .top) 0 l
 
   topped-long : (t : List ℕ) → 4096 ≤ length t → 4096 ≤ length (topped c t)
-  topped-long t h = rw (written-length 0 (tableSize c) (λ j. ops c .top) t) h
+  topped-long t h = rw (written-length 0 tops t (tops-fit t h)) h
 
   topped-elements : (t : List ℕ) → 4096 ≤ length t → (i : ℕ) → i < tableSize c → Element (ops c) (getD (topped c t) i 0)
   topped-elements t h i l = rw (topped-at t h i l) (known-sound known .laws .top-element)
 
   stored-long : (s : List ℕ) → 24576 ≤ length s → 24576 ≤ length (stored c s)
-  stored-long s h = simp (length-append, length-drop) (omega (arith, gapless-most (known .case) c (known .reads)))
+  stored-long s h = rw (written-length 0 (gapless (contentParts c)) s (omega (arith, gapless-most (known .case) c (known .reads)))) h
 
   pub opening-starts : (d : Desk) → short d ≡ false → Stands c T 0 (opened c d)
   unfolding opened
@@ -178,12 +157,12 @@ module _ {c : Content} {T : ℕ} (known : Known c T) where
       let w = long-enough d n in
       record {
         known = known;
-        rest = drop (length (gapless (contentParts c))) (d .store);
+        rest = drop (0 + length (gapless (contentParts c))) (d .store);
         store-is = refl;
         store-long = stored-long (d .store) (w .store-long);
         states1-is = refl;
         states2-is = refl;
-        held = record {
+        progress = record {
           whole-long = topped-long (d .first) (w .first-long);
           other-long = topped-long (d .second) (w .second-long);
           whole-elements = topped-elements (d .first) (w .first-long);
@@ -195,7 +174,7 @@ module _ {c : Content} {T : ℕ} (known : Known c T) where
 
   -- ---- an accepted step moves s on
 
-  module _ {s round row : ℕ} {changed settled : Bool} {whole other : List ℕ} (h : Held c T s round row changed settled whole other) (g : Going c T s round row changed settled whole other) where
+  module _ {s round row : ℕ} {changed settled : Bool} {whole other : List ℕ} (h : Progress c T s round row changed settled whole other) (g : Going c T s round row changed settled whole other) where
     abbrev S : ℕ → ℕ → ℕ
     S = tableOf whole (N2 c)
 
@@ -209,13 +188,13 @@ module _ {c : Content} {T : ℕ} (known : Known c T) where
     more = round-more (g .so-far) (g .row-below) (omega (arith, sizes-most, h .other-long, g .so-far .worked .same-length)) refl refl refl
 
     out-long : 4096 ≤ length out
-    out-long = rw (written-length _ _ _ other) (h .other-long)
+    out-long = rw (more .worked .same-length ∙ sym (g .so-far .worked .same-length)) (h .other-long)
 
     out-elements : (i : ℕ) → i < tableSize c → Element (ops c) (getD out i 0)
-    out-elements = row-elements (ops c) (model1 c) (model2 c) (operator c) (F-element (known-sound known .laws) (model1 c) (model2 c)) S row other (omega (arith, sizes-most, h .other-long)) (h .other-elements)
+    out-elements = row-elements (ops c) (model1 c) (model2 c) (operator c) (F-element (known-sound known .laws) (model1 c) (model2 c)) S row other (g .row-below) (omega (arith, sizes-most, h .other-long)) (h .other-elements)
 
     -- a row that is not the last
-    pub row-more : row + 1 < N1 c → Held c T (s + 1) round (row + 1) now false whole out
+    pub row-more : row + 1 < N1 c → Progress c T (s + 1) round (row + 1) now false whole out
     row-more l =
         record {
           whole-long = h .whole-long;
@@ -263,7 +242,7 @@ module _ {c : Content} {T : ℕ} (known : Known c T) where
           let q : suc round ≡ T = T-at-same n in
           inr (record { isSettled = refl; at-T = omega arith; row-0 = refl; unchanged = refl; enough = rw (← q) (omega (arith, g .count)) })
 
-      pub round-more-done : Held c T (s + 1) (round + 1) 0 false (not now) out whole
+      pub round-more-done : Progress c T (s + 1) (round + 1) 0 false (not now) out whole
       round-more-done =
           record {
             whole-long = out-long;
@@ -281,19 +260,19 @@ module _ {c : Content} {T : ℕ} (known : Known c T) where
       go : (t : Bool) → eqb (d .standing .row + 1) (N1 c) ≡ t
           → Stands c T (s + 1)
           (record {
-            standing = cond t (nextRound c d) (nextRow c d);
+            standing = cond t (nextRound (changedNow c d) (d .standing)) (nextRow (changedNow c d) (d .standing));
             store = d .store;
             first = cond (d .standing .secondWhole) (rowWorked c d) (d .first);
             second = cond (d .standing .secondWhole) (d .second) (rowWorked c d);
           })
       go true q =
           again w _ refl refl refl
-          (held-with (turn-whole (d .standing .secondWhole) (d .first) (d .second) (rowWorked c d)) (turn-other (d .standing .secondWhole) (d .first) (d .second) (rowWorked c d))
-          (round-more-done (w .held) g (eqb-true _ _ q)))
+          (progress-with (turn-whole (d .standing .secondWhole) (d .first) (d .second) (rowWorked c d)) (turn-other (d .standing .secondWhole) (d .first) (d .second) (rowWorked c d))
+          (round-more-done (w .progress) g (eqb-true _ _ q)))
       go false q =
           again w _ refl refl refl
-          (held-with (keep-whole (d .standing .secondWhole) (d .first) (d .second) (rowWorked c d)) (keep-other (d .standing .secondWhole) (d .first) (d .second) (rowWorked c d))
-          (row-more (w .held) g (let n : ¬ (d .standing .row + 1 ≡ N1 c) = eqb-false _ _ q in omega (arith, g .row-below))))
+          (progress-with (keep-whole (d .standing .secondWhole) (d .first) (d .second) (rowWorked c d)) (keep-other (d .standing .secondWhole) (d .first) (d .second) (rowWorked c d))
+          (row-more (w .progress) g (let n : ¬ (d .standing .row + 1 ≡ N1 c) = eqb-false _ _ q in omega (arith, g .row-below))))
 
   pub step-moves : {s : ℕ} {d : Desk} → Stands c T s d → Stands c T (s + 1) (stepped c d)
   unfolding stepped
@@ -305,11 +284,11 @@ module _ {c : Content} {T : ℕ} (known : Known c T) where
       subst (Stands c T (s + 1)) (sym (ap (λ (t : Bool). cond t d (worked c d)) (x .isSettled)))
       (again w d refl refl refl
       (record {
-        whole-long = w .held .whole-long;
-        other-long = w .held .other-long;
-        whole-elements = w .held .whole-elements;
-        other-elements = w .held .other-elements;
-        shown = w .held .shown;
+        whole-long = w .progress .whole-long;
+        other-long = w .progress .other-long;
+        whole-elements = w .progress .whole-elements;
+        other-elements = w .progress .other-elements;
+        shown = w .progress .shown;
         place = inr (record { isSettled = x .isSettled; at-T = x .at-T; row-0 = x .row-0; unchanged = x .unchanged; enough = omega (arith, x .enough) });
       })))
-      (w .held .place)
+      (w .progress .place)

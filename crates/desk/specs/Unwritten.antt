@@ -1,24 +1,24 @@
--- 'Table bytes past N1·N2 and store bytes past 24,576 are never written', and no buffer changes its length. Rests on Refusals, calls' Moved,
--- rounds' Row.
-use Prim.Native.Nat.{ℕ, _+_, _-_, _≤_, _<_}
+-- 'Table bytes past N1·N2 and store bytes past 24,576 are never written', and no buffer changes its length. Rests on Refusals, Moved,
+-- theory's Written.
+use Prim.Native.Nat.{ℕ, _+_, _*_, _≤_, _<_}
 use mathlib.Core.Path.{_≡_, refl, sym, ap, _∙_, subst}
 use mathlib.Core.Bool.{Bool, true, false, cond}
-use mathlib.Core.List.{List, _++_}
+use mathlib.Core.List.{List}
 use native.Mathlib.Omega.{arith}
-use lib.ListN.{length, getD, drop, length-append, length-drop}
-use lib.Seq.{getD-append-add, getD-drop}
+use lib.ListN.{length, getD, take, replicate, length-replicate}
+use Rattle.theory.specs.Loop.{tab, tab-length}
+use Rattle.theory.specs.Written.{written, written-length, written-after}
 use Rattle.casefile.specs.Reading.{Content, content, contentParts}
 use Rattle.casefile.specs.Gapless.{gapless}
 use Rattle.casefile.specs.Accepted.{gapless-most}
+use Rattle.casefile.specs.Content.{content-sound}
 use Rattle.model.specs.Places.{row-le}
-use Rattle.rounds.specs.Row.{written-length, written-after}
 use Rattle.desk.specs.Desk.{Desk, Call, otherTable}
-use Rattle.desk.specs.Case.{ops, N1, N2, tableSize}
+use Rattle.desk.specs.Case.{ops, N1, N2, tableSize, operator}
 use Rattle.desk.specs.Refused.{examined}
-use Rattle.desk.specs.Moved.{opened, topped, rowWorked, worked, stepped}
+use Rattle.desk.specs.Moved.{opened, topped, shownTable, rowWorked, worked, stepped}
 use Rattle.desk.specs.Perform.{perform, moved}
-use Rattle.desk.specs.Refusals.{perform-accepted, OpenAccepted, open-accepted, other-accepted}
-use Rattle.desk.specs.Stands.{long-enough}
+use Rattle.desk.specs.Refusals.{long-enough, perform-accepted, OpenAccepted, open-accepted, other-accepted}
 
 -- a buffer of the same length, with the same bytes from place n on
 pub record SameFrom (n : ℕ) (after before : List ℕ) : Type 0 where
@@ -39,35 +39,34 @@ unaltered = record { store-same = same; first-same = same; second-same = same }
 
 -- ---- open
 
-front-same : (n : ℕ) (g s : List ℕ) → length g ≤ n → n ≤ length s → SameFrom n (g ++ drop (length g) s) s
-front-same n g s p q =
-    record {
-      same-length = simp (length-append, length-drop) (omega arith);
-      same-bytes = λ i l.
-          let e : length g + (i - length g) ≡ i = omega arith in
-          subst (λ (j : ℕ). getD (g ++ drop (length g) s) j 0 ≡ getD s j 0) e (getD-append-add g (drop (length g) s) (i - length g) 0 ∙ getD-drop (length g) s (i - length g) 0);
-    }
+-- bytes that are written before place n
+written-same : (at : ℕ) (s out : List ℕ) (n : ℕ) → at + length s ≤ length out → at + length s ≤ n → SameFrom n (written at s out) out
+written-same at s out n p q = record { same-length = written-length at s out p; same-bytes = λ i l. written-after at s out p i (omega arith) }
 
-topped-same : (c : Content) (t : List ℕ) → SameFrom (tableSize c) (topped c t) t
-topped-same c t = record { same-length = written-length 0 (tableSize c) (λ j. ops c .top) t; same-bytes = λ i l. written-after 0 (tableSize c) (λ j. ops c .top) t i (omega arith) }
+topped-same : (c : Content) (t : List ℕ) → tableSize c ≤ length t → SameFrom (tableSize c) (topped c t) t
+topped-same c t h =
+    let n = length-replicate (tableSize c) (ops c .top) in
+    written-same 0 (replicate (tableSize c) (ops c .top)) t (tableSize c) (omega (arith, n)) (omega (arith, n))
 
 opened-same : (b : List ℕ) (c : Content) (d : Desk) → OpenAccepted b d c → Unwritten (tableSize c) (opened c d) d
 unfolding opened
 opened-same b c d a =
+    let l = long-enough d (a .long) in
+    let most = gapless-most b c (a .reads) in
+    let few = content-sound b c (a .reads) .entries-most in
     record {
-      store-same = front-same 24576 (gapless (contentParts c)) (d .store) (omega (arith, gapless-most b c (a .reads))) (long-enough d (a .long) .store-long);
-      first-same = topped-same c (d .first);
-      second-same = topped-same c (d .second);
+      store-same = written-same 0 (gapless (contentParts c)) (d .store) 24576 (omega (arith, most, l .store-long)) (omega (arith, most));
+      first-same = topped-same c (d .first) (omega (arith, few, l .first-long));
+      second-same = topped-same c (d .second) (omega (arith, few, l .second-long));
     }
 
 -- ---- step
 
-row-same : (c : Content) (d : Desk) → d .standing .row < N1 c → SameFrom (tableSize c) (rowWorked c d) (otherTable d)
-row-same c d l =
-    record {
-      same-length = written-length _ _ _ (otherTable d);
-      same-bytes = λ i m. written-after _ _ _ (otherTable d) i (omega (arith, row-le (d .standing .row) (N1 c) (N2 c) l));
-    }
+row-same : (c : Content) (d : Desk) → d .standing .row < N1 c → tableSize c ≤ length (otherTable d) → SameFrom (tableSize c) (rowWorked c d) (otherTable d)
+row-same c d l h =
+    let n = tab-length (operator c (shownTable c d) (d .standing .row)) (N2 c) 0 in
+    let m = row-le (d .standing .row) (N1 c) (N2 c) l in
+    written-same (d .standing .row * N2 c) (tab (operator c (shownTable c d) (d .standing .row)) (N2 c) 0) (otherTable d) (tableSize c) (omega (arith, n, m)) (omega (arith, n, m))
 
 -- the written table is the first where the second is whole, and the second where it is not
 first-same-by : {n : ℕ} (w : Bool) (f g o : List ℕ) → SameFrom n o (cond w f g) → SameFrom n (cond w o f) f
@@ -78,17 +77,21 @@ second-same-by : {n : ℕ} (w : Bool) (f g o : List ℕ) → SameFrom n o (cond 
 second-same-by true f g o h = same
 second-same-by false f g o h = h
 
-stepped-same : (c : Content) (d : Desk) → d .standing .row < N1 c → Unwritten (tableSize c) (stepped c d) d
+other-room : (w : Bool) (f g : List ℕ) (n : ℕ) → n ≤ length f → n ≤ length g → n ≤ length (cond w f g)
+other-room true f g n p q = p
+other-room false f g n p q = q
+
+stepped-same : (c : Content) (d : Desk) → d .standing .row < N1 c → tableSize c ≤ length (d .first) → tableSize c ≤ length (d .second) → Unwritten (tableSize c) (stepped c d) d
 unfolding stepped worked
-stepped-same c d l = go (d .standing .settled)
+stepped-same c d l p q = go (d .standing .settled)
   where
     go : (t : Bool) → Unwritten (tableSize c) (cond t d (worked c d)) d
     go true = unaltered
     go false =
         record {
           store-same = same;
-          first-same = first-same-by (d .standing .secondWhole) (d .first) (d .second) (rowWorked c d) (row-same c d l);
-          second-same = second-same-by (d .standing .secondWhole) (d .first) (d .second) (rowWorked c d) (row-same c d l);
+          first-same = first-same-by (d .standing .secondWhole) (d .first) (d .second) (rowWorked c d) (row-same c d l (other-room (d .standing .secondWhole) (d .first) (d .second) (tableSize c) p q));
+          second-same = second-same-by (d .standing .secondWhole) (d .first) (d .second) (rowWorked c d) (row-same c d l (other-room (d .standing .secondWhole) (d .first) (d .second) (tableSize c) p q));
         }
 
 -- ==== every call on every desk: c is the content that it works on
@@ -96,7 +99,11 @@ stepped-same c d l = go (d .standing .settled)
 moved-same : (k : Call) (c : Content) (d : Desk) → examined k d ≡ content c → Unwritten (tableSize c) (moved k c d) d
 unfolding moved
 moved-same (Call.Open b) c d e = opened-same b c d (open-accepted b d c e)
-moved-same Call.Step c d e = stepped-same c d (other-accepted Call.Step d c refl e .held .rules .row-below)
+moved-same Call.Step c d e =
+    let h = other-accepted Call.Step d c refl e .held in
+    let few = content-sound (take 24576 (d .store)) c (h .rules .reads) .entries-most in
+    let l = long-enough d (h .long) in
+    stepped-same c d (h .rules .row-below) (omega (arith, few, l .first-long)) (omega (arith, few, l .second-long))
 moved-same (Call.Ask q) c d e = unaltered
 
 pub never-written : (k : Call) (c : Content) (d : Desk) → examined k d ≡ content c → Unwritten (tableSize c) (perform k d .desk) d

@@ -17,11 +17,12 @@ use Rattle.theory.specs.Model.{Model}
 use Rattle.theory.specs.Simulation.{F, roundOf, SameTable, FixedBy, perCent, share}
 use Rattle.theory.specs.Rounds.{F-cong}
 use Rattle.theory.specs.Loop.{tab, tab-at, tab-length}
+use Rattle.theory.specs.Written.{written-length, written-at, written-before, written-after, written-all}
 use Rattle.theory.specs.Test.{allBelow, all-at, all-in, all-cong}
 use Rattle.model.specs.Places.{row-le}
 use Rattle.rounds.specs.Folded.{count-cong}
 use Rattle.rounds.specs.Table.{tableOf, rowWritten, entrySame, rowSame, rowChanged, changedBelow, simulationTest}
-use Rattle.rounds.specs.Row.{written-length, written-at, written-before, written-after, written-all, not-and}
+use Rattle.rounds.specs.Row.{not-and}
 
 -- in `out` the rows below q are those of F S, and every byte past them is that of `before`
 pub record Worked (M₁ M₂ : Model ℕ) (G : (ℕ → ℕ → ℕ) → ℕ → ℕ → ℕ) (S : ℕ → ℕ → ℕ) (before : List ℕ) (q : ℕ) (out : List ℕ) : Type 0 where
@@ -50,16 +51,19 @@ module _ (M₁ M₂ : Model ℕ) (G : (ℕ → ℕ → ℕ) → ℕ → ℕ → 
 
   pub worked-more : (S : ℕ → ℕ → ℕ) (before : List ℕ) (q : ℕ) (out : List ℕ) → q < M₁ .states → M₁ .states * M₂ .states ≤ length before → Worked M₁ M₂ G S before q out → Worked M₁ M₂ G S before (q + 1) (rowWritten M₁ M₂ G S q out)
   worked-more S before q out l h w =
+      let row : List ℕ = tab (G S q) (M₂ .states) 0 in
+      let n : length row ≡ M₂ .states = tab-length (G S q) (M₂ .states) 0 in
+      let fits : q * M₂ .states + length row ≤ length out = omega (arith, n, row-le q (M₁ .states) (M₂ .states) l, w .same-length) in
       record {
         rows = λ q₁ k q₂ m.
             ⊎-elim
-            (λ (p : q₁ ≡ q). rw p (written-at (q * M₂ .states) (M₂ .states) (G S q) out (omega (arith, row-le q (M₁ .states) (M₂ .states) l, w .same-length)) q₂ m))
-            (λ (p : q₁ < q). written-before (q * M₂ .states) (M₂ .states) (G S q) out (q₁ * M₂ .states + q₂) (omega (arith, row-le q₁ q (M₂ .states) p)) ∙ w .rows q₁ p q₂ m)
+            (λ (p : q₁ ≡ q). rw p (written-at (q * M₂ .states) row out fits q₂ (omega (arith, n)) ∙ tab-at (G S q) (M₂ .states) q₂ m))
+            (λ (p : q₁ < q). written-before (q * M₂ .states) row out fits (q₁ * M₂ .states + q₂) (omega (arith, row-le q₁ q (M₂ .states) p)) ∙ w .rows q₁ p q₂ m)
             (eq-or-lt-of-le (omega arith));
         kept = λ i k.
             let e : q * M₂ .states + M₂ .states ≤ i = rw (add-one, suc-mul) at k in
-            written-after (q * M₂ .states) (M₂ .states) (G S q) out i e ∙ w .kept i (omega arith);
-        same-length = written-length _ _ _ out ∙ w .same-length;
+            written-after (q * M₂ .states) row out fits i (omega (arith, n)) ∙ w .kept i (omega arith);
+        same-length = written-length (q * M₂ .states) row out fits ∙ w .same-length;
       }
 
   pub changed-none : (S : ℕ → ℕ → ℕ) → changedBelow M₁ M₂ G S 0 ≡ false
@@ -116,8 +120,12 @@ module _ (O : Ops ℕ) (M₁ M₂ : Model ℕ) (G : (ℕ → ℕ → ℕ) → �
   worked-round cong r S before out h w q₁ l q₂ m = w .rows q₁ l q₂ m ∙ cong _ _ h q₁ q₂
 
   -- a row of G has elements alone, where G gives elements
-  pub row-elements : ((S : ℕ → ℕ → ℕ) (q₁ q₂ : ℕ) → Element O (G S q₁ q₂)) → (S : ℕ → ℕ → ℕ) (q : ℕ) (out : List ℕ) → M₁ .states * M₂ .states ≤ length out → ((i : ℕ) → i < M₁ .states * M₂ .states → Element O (getD out i 0)) → (i : ℕ) → i < M₁ .states * M₂ .states → Element O (getD (rowWritten M₁ M₂ G S q out) i 0)
-  row-elements given S q out h e = written-all (Element O) _ _ _ out _ h (given S q) e
+  pub row-elements : ((S : ℕ → ℕ → ℕ) (q₁ q₂ : ℕ) → Element O (G S q₁ q₂)) → (S : ℕ → ℕ → ℕ) (q : ℕ) (out : List ℕ) → q < M₁ .states → M₁ .states * M₂ .states ≤ length out → ((i : ℕ) → i < M₁ .states * M₂ .states → Element O (getD out i 0)) → (i : ℕ) → i < M₁ .states * M₂ .states → Element O (getD (rowWritten M₁ M₂ G S q out) i 0)
+  row-elements given S q out l h e =
+      let n = tab-length (G S q) (M₂ .states) 0 in
+      written-all (q * M₂ .states) (tab (G S q) (M₂ .states) 0) out (omega (arith, n, row-le q (M₁ .states) (M₂ .states) l)) (Element O) (M₁ .states * M₂ .states)
+      (λ i k. rw (tab-at (G S q) (M₂ .states) i (omega (arith, n))) (given S q i))
+      e
 
   -- ---- the test for a simulation
 

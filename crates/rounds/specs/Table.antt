@@ -1,25 +1,22 @@
 -- Tables of elements held as bytes, a row that is written into one, and the tests on them.
--- Rests on theory's Lattice, Model, Part, Simulation, Test, and operations' Table.
-use Prim.Native.Nat.{ℕ, zero, suc, _+_, _*_, _≤_}
+-- Rests on theory's Lattice, Model, Part, Simulation, Test, Loop, Written, and operations' Table.
+use Prim.Native.Nat.{ℕ, _+_, _*_, _≤_}
 use mathlib.Core.Path.{_≡_}
 use mathlib.Core.Bool.{Bool, not}
 use mathlib.Core.List.{List}
 use lib.Dec.{eqb}
-use lib.ListN.{length, getD, set}
+use lib.ListN.{length, getD}
 use Rattle.theory.specs.Lattice.{Ops, imp, bigMeet, bigJoin}
 use Rattle.theory.specs.Model.{Model}
 use Rattle.theory.specs.Part.{ModelShape}
 use Rattle.theory.specs.Test.{allBelow}
+use Rattle.theory.specs.Loop.{tab}
+use Rattle.theory.specs.Written.{written}
 use Rattle.operations.specs.Table.{meetIn, joinIn, complementIn}
 
 -- 'Entry (q1, q2) is byte q1·N2 + q2', of a table with n for N2
 abbrev pub tableOf : List ℕ → ℕ → ℕ → ℕ → ℕ
 tableOf s n q₁ q₂ = getD s (q₁ * n + q₂) 0
-
--- the list with f 0, .., f (n - 1) at its places from `at` on, and every other byte as it was
-unfoldable pub written : ℕ → ℕ → (ℕ → ℕ) → List ℕ → List ℕ
-written at zero f out = out
-written at (suc n) f out = set (written at n f out) (at + n) (f n)
 
 -- a ↔ b by the tables t, whatever their lattice's bounds: the meet of a → b and b → a
 abbrev pub iffIn : List ℕ → ℕ → ℕ → ℕ
@@ -40,7 +37,7 @@ matched O n₁ n₂ a b S = bigMeet O n₁ (λ q₁. imp O (a q₁) (bigJoin O n
 module _ (M₁ M₂ : Model ℕ) (G : (ℕ → ℕ → ℕ) → ℕ → ℕ → ℕ) where
   -- the list with row q1 of G S in its place
   abbrev pub rowWritten : (ℕ → ℕ → ℕ) → ℕ → List ℕ → List ℕ
-  rowWritten S q₁ out = written (q₁ * M₂ .states) (M₂ .states) (G S q₁) out
+  rowWritten S q₁ out = written (q₁ * M₂ .states) (tab (G S q₁) (M₂ .states) 0) out
 
   -- S equals G S at (q1, q2); in row q1
   abbrev pub entrySame : (ℕ → ℕ → ℕ) → ℕ → ℕ → Bool

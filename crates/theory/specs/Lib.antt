@@ -11,6 +11,7 @@ pub mod Part
 -- ---- theorems
 pub mod Folds
 pub mod Loop
+pub mod Written
 pub mod Descent
 pub mod Fixpoint
 pub mod Height

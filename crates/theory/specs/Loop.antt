@@ -3,7 +3,7 @@ use Prim.Native.Nat.{ℕ, zero, suc, _+_, _<_, _≤_}
 use mathlib.Core.Path.{_≡_, refl, sym, ap, _∙_}
 use mathlib.Core.Bool.{Bool}
 use mathlib.Core.Logic.{⊎-elim}
-use mathlib.Core.List.{List, [], _∷_}
+use mathlib.Core.List.{List, [], _∷_, _++_}
 use native.Mathlib.Nat.{add-zero, zero-add, add-suc, suc-add, le-of-suc-le-suc, not-suc-le-zero, eq-or-lt-of-le}
 use native.Mathlib.Numerals.{add-one}
 use native.Mathlib.Omega.{arith}
@@ -62,6 +62,15 @@ pub tab-length : (f : ℕ → ℕ) (n i : ℕ) → length (tab f n i) ≡ n
 unfolding tab
 tab-length f zero i = refl
 tab-length f (suc n) i = ap suc (tab-length f n (suc i))
+
+tab-last : (f : ℕ → ℕ) (n i : ℕ) → tab f (suc n) i ≡ tab f n i ++ (f (i + n) ∷ [])
+unfolding tab
+tab-last f zero i = ap (λ (k : ℕ). f k ∷ []) (sym (add-zero i))
+tab-last f (suc n) i = ap (λ (s : List ℕ). f i ∷ s) (tab-last f n (suc i) ∙ ap (λ (k : ℕ). tab f n (suc i) ++ (f k ∷ [])) (suc-add i n ∙ sym (add-suc i n)))
+
+-- one entry more
+pub tab-more : (f : ℕ → ℕ) (n : ℕ) → tab f (n + 1) 0 ≡ tab f n 0 ++ (f n ∷ [])
+tab-more f n = rw add-one (tab-last f n 0 ∙ ap (λ (k : ℕ). tab f n 0 ++ (f k ∷ [])) (zero-add n))
 
 -- the first q entries are as the rule says. A record, so that a goal shows f, q and the list
 pub record Filled (f : ℕ → ℕ) (q : ℕ) (xs : List ℕ) : Type 0 where

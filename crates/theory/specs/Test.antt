@@ -1,7 +1,7 @@
 -- Tests over the numbers below a bound, and the laws that loops and theorems use of them. Rests on nothing.
 use Prim.Native.Nat.{ℕ, zero, suc, _+_, _≤_, _<_}
 use mathlib.Core.Path.{_≡_, refl, sym, ap₂, subst}
-use mathlib.Core.Bool.{Bool, true, false, cond, _&&_}
+use mathlib.Core.Bool.{Bool, true, false, cond, _&&_, _||_}
 use mathlib.Core.Logic.{_⊎_, inl, inr, ⊎-elim}
 use native.Mathlib.Nat.{le-refl, eq-or-lt-of-le, le-of-suc-le-suc, not-suc-le-zero}
 use native.Mathlib.Numerals.{add-one}
@@ -55,6 +55,21 @@ pub and-false : (a : Bool) → (a && false) ≡ false
 and-false true = refl
 and-false false = refl
 
+pub or-l : (a b : Bool) → (a || b) ≡ false → a ≡ false
+or-l true b e = e
+or-l false b e = refl
+
+pub or-r : (a b : Bool) → (a || b) ≡ false → b ≡ false
+or-r true b e = cc
+or-r false b e = e
+
+-- one of two, by a test
+pub cond-true : {A : Type 0} (t : Bool) (x y : A) → t ≡ true → cond t x y ≡ x
+cond-true t x y e = rw e
+
+pub cond-false : {A : Type 0} (t : Bool) (x y : A) → t ≡ false → cond t x y ≡ y
+cond-false t x y e = rw e
+
 pub ⇒-elim : (a b : Bool) → (a ⇒ b) ≡ true → a ≡ true → b ≡ true
 ⇒-elim true b t s = t
 ⇒-elim false b t s = cc
@@ -74,6 +89,11 @@ bool-same false false f g = refl
 pub not-passed : (a : Bool) → (a ≡ true → ⊥) → a ≡ false
 not-passed true h = absurd (h refl)
 not-passed false h = refl
+
+-- and one that cannot fail is passed
+pub not-failed : (a : Bool) → (a ≡ false → ⊥) → a ≡ true
+not-failed true h = refl
+not-failed false h = absurd (h refl)
 
 pub false-true : {a : Bool} → a ≡ false → a ≡ true → ⊥
 false-true p q = let z : _≡_ {A = ℕ} 0 1 = cc in omega arith

@@ -1,6 +1,6 @@
 -- `casefile::put_pair` meets its contract: two words.
 use borrow.Author.Needs.{needs}
-use Rattle.casefile.specs.Written.{pair-put}
+use Rattle.casefile.specs.Writer.{pair-put}
 use Rattle.casefile.proofs.put_pair.Statement.{statement}
 use Rattle.casefile.proofs.put_pair.Tie as tie
 

@@ -4,7 +4,7 @@ use native.Mathlib.Omega.{arith}
 use lib.ListN.{length-set}
 use borrow.Author.Needs.{needs}
 use Rattle.casefile.specs.Directory.{partCount}
-use Rattle.casefile.specs.Written.{directory-fits, case-written}
+use Rattle.casefile.specs.Writer.{directory-fits, case-written}
 use Rattle.casefile.proofs.write.Statement.{statement}
 use Rattle.casefile.proofs.write.Tie as tie
 
@@ -36,7 +36,7 @@ returns c =
     let s = c .before .before .before .before .before .before .before .before .before .before .before in
     let w = c .before .before .write-parts .ensures in (
       w .0,
-      case-written (s .args .bytes .now) (s .args .out .now) (s .pre .0) (s .pre .1) _ _ _ (c .before .before .before .before .before .before .write-pairs .ensures) (w .1) (w .0),
+      case-written (s .args .bytes .now) (s .args .out .now) (s .pre .0) (s .pre .1) _ _ (c .before .before .before .before .before .before .write-pairs .ensures) (w .1),
     )
 
 pub write-spec : {M : Type 1} → statement M

@@ -2,7 +2,7 @@
 use Prim.Native.Nat.{_-_, _≤_}
 use native.Mathlib.Omega.{arith}
 use Rattle.casefile.specs.Directory.{partCount}
-use Rattle.casefile.specs.Written.{PairsWritten, PairRoom, pairs-start, pairs-turn, pairs-kept, pairs-room, pairs-done}
+use Rattle.casefile.specs.Writer.{PairsWritten, PairRoom, pairs-start, pairs-turn, pairs-kept, pairs-room, pairs-done}
 use Rattle.casefile.proofs.write_pairs.Statement.{statement}
 use Rattle.casefile.proofs.write_pairs.Tie as tie
 

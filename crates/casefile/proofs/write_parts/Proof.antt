@@ -4,7 +4,7 @@ use mathlib.Core.Path.{ap}
 use native.Mathlib.Omega.{arith}
 use lib.ListN.{length}
 use Rattle.casefile.specs.Directory.{partCount}
-use Rattle.casefile.specs.Written.{PartsWritten, PartRoom, parts-start, parts-kept, parts-room, parts-turn, parts-end, parts-done}
+use Rattle.casefile.specs.Writer.{PartsWritten, PartRoom, parts-start, parts-kept, parts-room, parts-turn, parts-end, parts-done}
 use Rattle.casefile.proofs.write_parts.Statement.{statement}
 use Rattle.casefile.proofs.write_parts.Tie as tie
 

@@ -77,7 +77,7 @@ loop-again c =
       i .0,
       omega arith,
       simp length-set (i .2),
-      row-more (i .3) (row-entry (a .m1 .now) (a .m2 .now) (a .s .now) (a .q1 .0) _ _ _ (i .0)) (c .before .before .entry .ensures) (c .changed-or .ensures),
+      row-more (i .3) (omega (arith, i .0, c .before .before .before .before .before .before .before .before .before .before .before .pre .1)) (row-entry (a .m1 .now) (a .m2 .now) (a .s .now) (a .q1 .0) _ _ _ (i .0)) (c .before .before .entry .ensures) (c .changed-or .ensures),
     )
 
 same-length : tie.Need-same-length Inv-loop μ-loop

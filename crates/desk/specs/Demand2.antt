@@ -1,5 +1,5 @@
--- Demand 2: the settled table is the greatest simulation, and values are those of the latticed mu-calculus.
--- Rests on Listed, Refusals, theory's Rounds and Fixpoint, casefile's Content, formula's RoundTrip.
+-- Demand 2, of the desk after every list of calls with an accepted opening in it: the settled table is the greatest latticed simulation, and
+-- values are those of the latticed mu-calculus. Rests on Run, and for the proof on Demand3, Refusals, theory's Rounds and Fixpoint.
 use Prim.Native.Nat.{ℕ, _<_}
 use mathlib.Core.Path.{_≡_, refl, sym, ap, _∙_}
 use mathlib.Core.Bool.{Bool, true, false, cond, _&&_}
@@ -15,19 +15,35 @@ use Rattle.theory.specs.Calculus.{Calculus}
 use Rattle.theory.specs.Simulation.{SameTable, GreatestSimulation}
 use Rattle.theory.specs.Folds.{bigMeet-cong}
 use Rattle.theory.specs.Fixpoint.{value-is}
-use Rattle.theory.specs.Rounds.{F-cong, settled-greatest}
+use Rattle.theory.specs.Rounds.{F-cong}
 use Rattle.theory.specs.Test.{and-l, and-r}
 use Rattle.formula.specs.RoundTrip.{formula-part}
 use Rattle.casefile.specs.Reading.{Content, content, storeReading}
 use Rattle.casefile.specs.Content.{ContentSound, content-sound}
-use Rattle.desk.specs.Desk.{Desk, Question, Call, Reply}
-use Rattle.desk.specs.Case.{ops, model1, model2, modelIn, formulaIn, roundIn, tableBytes}
+use Rattle.desk.specs.Desk.{Desk, Question, Call, Reply, isOpen}
+use Rattle.desk.specs.Case.{ops, model1, model2, modelIn, formulaIn, roundIn}
 use Rattle.desk.specs.Refused.{hasFormula, isModel, hasState, examined, accepted}
 use Rattle.desk.specs.Moved.{shownTable}
 use Rattle.desk.specs.Perform.{asked, answer}
-use Rattle.desk.specs.Run.{run, isOpen}
-use Rattle.desk.specs.Claim.{LastOpening, answersSince, roundAfter, Demand2, Demand3}
-use Rattle.desk.specs.Refusals.{perform-accepted, accepted-content, open-accepted, other-accepted}
+use Rattle.desk.specs.Run.{run, LastOpening, answersSince, roundAfter}
+use Rattle.desk.specs.Refusals.{perform-accepted, accepted-content, other-accepted}
+use Rattle.desk.specs.Listed.{opening-T}
+use Rattle.desk.specs.Demand3.{listed}
+
+-- d is the desk after such a list, and the case of its last accepted opening holds c
+
+pub record Demand2 (c : Content) (d : Desk) : Type 0 where
+  -- 'the settled table is the greatest latticed simulation': 'it meets their equation, and every other table that does lies at or below it'
+  pub settled-table : d .standing .settled ≡ true → GreatestSimulation (ops c) (model1 c) (model2 c) (shownTable c d)
+  -- 'Formula values are those of the latticed mu-calculus': u is whatever function gives these (theory's `calculus`: there is one), and a
+  -- closed formula has no outer variables, so that any values of these will do
+  pub values : (f m q : ℕ) → accepted (Call.Ask (Question.Value f m q)) d ≡ true → (u : Formula → (ℕ → ℕ → ℕ) → ℕ → ℕ) → Calculus (ops c) (modelIn c m) u
+      → asked (Question.Value f m q) d ≡ Reply.Element (u (formulaIn c f) (λ v i. ops c .bot) q)
+  -- 'A formula's value on a whole model is the meet over q of Q0(q) → value at q'
+  pub wholes : (f m : ℕ) → accepted (Call.Ask (Question.Whole f m)) d ≡ true → (u : Formula → (ℕ → ℕ → ℕ) → ℕ → ℕ) → Calculus (ops c) (modelIn c m) u
+      → asked (Question.Whole f m) d ≡ Reply.Element (bigMeet (ops c) (modelIn c m .states) (λ q. imp (ops c) (modelIn c m .initial q) (u (formulaIn c f) (λ v i. ops c .bot) q)))
+
+-- ==== the proof
 
 -- ---- 'the settled table is the greatest latticed simulation'
 
@@ -39,26 +55,12 @@ same-greatest {O} M₁ M₂ S U h g =
       greatest = λ W w q₁ l q₂ m. rw (h q₁ l q₂ m) (g .greatest W w q₁ l q₂ m);
     }
 
--- at a settled desk that an opening made and calls moved on
-pub record SettledTable (c : Content) (d : Desk) : Type 0 where
-  pub table : GreatestSimulation (ops c) (model1 c) (model2 c) (shownTable c d)
-  -- and these are the bytes that show answers
-  pub greatest : ℕ → ℕ → ℕ
-  pub isGreatest : GreatestSimulation (ops c) (model1 c) (model2 c) greatest
-  pub bytes : asked Question.Show d ≡ Reply.Shown (tableBytes c greatest)
-
-pub settled-table : (ks : List Call) (d : Desk) (w : Demand3 ks d) → run ks d .standing .settled ≡ true → SettledTable (w .opening .holds) (run ks d)
-settled-table ks d w e =
-    let c : Content = w .opening .holds in
-    let l : LastOpening ks d = w .opening in
-    let g = settled-greatest (content-sound (l .case) (l .holds) (open-accepted (l .case) (run (l .before) d) (l .holds) (l .opens) .reads) .laws) (model1 (l .holds)) (model2 (l .holds)) (w .T) (w .isT) in
-    let r : roundAfter (l .holds) (w .T) (length (answersSince l)) ≡ w .T = w .claim .settled-is .0 e in
-    record {
-      table = same-greatest (model1 (l .holds)) (model2 (l .holds)) (shownTable (l .holds) (run ks d)) (roundIn (l .holds) (w .T)) (rw r at (w .claim .shown-is)) g;
-      greatest = roundIn (l .holds) (w .T);
-      isGreatest = g;
-      bytes = rw r at (w .claim .show-next);
-    }
+settled-table : (ks : List Call) (d : Desk) (l : LastOpening ks d) → run ks d .standing .settled ≡ true → GreatestSimulation (ops (l .holds)) (model1 (l .holds)) (model2 (l .holds)) (shownTable (l .holds) (run ks d))
+settled-table ks d l e =
+    let t = opening-T l in
+    let w = listed ks d l (t .0) (t .1) in
+    let r : roundAfter (l .holds) (t .0) (length (answersSince l)) ≡ t .0 = w .settled-is .0 e in
+    same-greatest (model1 (l .holds)) (model2 (l .holds)) (shownTable (l .holds) (run ks d)) (roundIn (l .holds) (t .0)) (rw r at (w .shown-is)) (w .T-greatest)
 
 -- ---- 'Formula values are those of the latticed mu-calculus', at any desk on which the call is accepted: u is any function that gives these
 
@@ -94,7 +96,7 @@ whole-asked f m d c e u a =
     ap (λ x. x .reply) (perform-accepted (Call.Ask (Question.Whole f m)) d c e)
     ∙ ap Reply.Element (bigMeet-cong (ops c) (modelIn c m .states) _ _ (λ q l. ap (imp (ops c) (modelIn c m .initial q)) (value-by c (content-sound (take 24576 (d .store)) c (k .held .rules .reads)) u f m formula a q l)))
 
--- ==== Demand 2
+-- ---- the two together
 
 -- an accepted question works on what the store holds
 works-on : (k : Call) (d : Desk) (c : Content) → isOpen k ≡ false → storeReading (d .store) ≡ content c → accepted k d ≡ true → examined k d ≡ content c
@@ -103,10 +105,13 @@ works-on k d c o h a =
     let q : content (w .0) ≡ content c = sym (other-accepted k d (w .0) o (w .1) .held .rules .reads) ∙ h in
     w .1 ∙ q
 
-pub demand2 : (ks : List Call) (d : Desk) (w : Demand3 ks d) → Demand2 (w .opening .holds) (run ks d)
-demand2 ks d w =
+pub demand2 : (ks : List Call) (d : Desk) (l : LastOpening ks d) → Demand2 (l .holds) (run ks d)
+demand2 ks d l =
+    let c = l .holds in
+    let t = opening-T l in
+    let store = listed ks d l (t .0) (t .1) .store-holds in
     record {
-      settled-table = λ e. settled-table ks d w e .table;
-      values = λ f m q a u h. value-asked f m q (run ks d) (w .opening .holds) (works-on (Call.Ask (Question.Value f m q)) (run ks d) (w .opening .holds) refl (w .claim .store-holds) a) u h;
-      wholes = λ f m a u h. whole-asked f m (run ks d) (w .opening .holds) (works-on (Call.Ask (Question.Whole f m)) (run ks d) (w .opening .holds) refl (w .claim .store-holds) a) u h;
+      settled-table = settled-table ks d l;
+      values = λ f m q a u h. value-asked f m q (run ks d) c (works-on (Call.Ask (Question.Value f m q)) (run ks d) c refl store a) u h;
+      wholes = λ f m a u h. whole-asked f m (run ks d) c (works-on (Call.Ask (Question.Whole f m)) (run ks d) c refl store a) u h;
     }

@@ -1,0 +1,109 @@
+-- Demand 1, of every call on every desk: which refusal is given and exactly when; a refusal alters nothing; every other input is accepted.
+-- What a case is refused for is casefile's `caseReading`, and casefile's Exactly says which cases are accepted. Rests on Refused, Perform, Refusals.
+use Prim.Native.Nat.{ℕ, _≤_}
+use mathlib.Core.Path.{_≡_, refl, sym, ap, _∙_}
+use mathlib.Core.Bool.{Bool, true, false}
+use mathlib.Core.Logic.{_↔_, _⊎_, inl, inr, ⊎-elim}
+use mathlib.Core.List.{List}
+use native.Mathlib.Omega.{arith}
+use Rattle.theory.specs.Test.{false-true, not-failed}
+use Rattle.refusal.specs.declared.Refusal.{Refusal}
+use Rattle.refusal.specs.declared.Refusal.the-variants.{ShortDesk, SpoiledDesk, OutOfRange}
+use Rattle.refusal.specs.Number.{numberOf}
+use Rattle.casefile.specs.Reading.{Content, refused, content, caseReading}
+use Rattle.desk.specs.Desk.{Desk, Call, isOpen}
+use Rattle.desk.specs.Refused.{short, Rules, callInRange, examined, accepted, refusedReply}
+use Rattle.desk.specs.Perform.{perform}
+use Rattle.desk.specs.Refusals.{perform-refused, is-short, open-long, in-store, open-accepted, other-accepted, Outcome, too-short, broken, outside, inside, outcome, opens-or-not, accepted-content, content-accepted, case-number}
+
+-- a content whose rules the desk keeps, and whose range the call's arguments are in (x true) or not (x false)
+abbrev pub Kept : Call → Desk → Bool → Type 0
+Kept k d x = (c : Content) × Rules d c × (callInRange k c ≡ x)
+
+pub record Demand1 (k : Call) (d : Desk) : Type 0 where
+  -- 'a refusal alters nothing'; it gives number and part, or, of show, an empty part
+  pub kept : (r : Refusal) → examined k d ≡ refused r → perform k d ≡ record { reply = refusedReply k r; desk = d }
+  -- 11 is given exactly when 'the store or a table is shorter than above'
+  pub at-11 : (examined k d ≡ refused ShortDesk) ↔ (short d ≡ true)
+  -- else open is refused for what its case is refused for, 1 to 10
+  pub at-1-to-10 : (b : List ℕ) → k ≡ Call.Open b → short d ≡ false → examined k d ≡ caseReading b
+  pub numbers : (b : List ℕ) (r : Refusal) → caseReading b ≡ refused r → (1 ≤ numberOf r) × (numberOf r ≤ 10)
+  -- the other calls get 12 'when, and only when, one of these is broken', then 13, and nothing else
+  pub at-12 : isOpen k ≡ false → (examined k d ≡ refused SpoiledDesk) ↔ ((short d ≡ false) × ((c : Content) → ¬ Rules d c))
+  pub at-13 : isOpen k ≡ false → (examined k d ≡ refused OutOfRange) ↔ ((short d ≡ false) × Kept k d false)
+  pub only : isOpen k ≡ false → (r : Refusal) → examined k d ≡ refused r → (r ≡ ShortDesk) ⊎ ((r ≡ SpoiledDesk) ⊎ (r ≡ OutOfRange))
+  -- 'Every input to which no numbered refusal of its call applies is accepted'
+  pub open-accepted : (b : List ℕ) → k ≡ Call.Open b → (accepted k d ≡ true) ↔ ((short d ≡ false) × ((c : Content) × (caseReading b ≡ content c)))
+  pub other-accepted : isOpen k ≡ false → (accepted k d ≡ true) ↔ ((short d ≡ false) × Kept k d true)
+
+-- ---- the proof
+
+refused-content : {r : Refusal} {c : Content} → refused r ≡ content c → ⊥
+refused-content e = let z : _≡_ {A = ℕ} 0 1 = cc in omega arith
+
+module _ (k : Call) (d : Desk) where
+  -- one call gets one number
+  same-number : (f g : Refusal) → examined k d ≡ refused f → examined k d ≡ refused g → numberOf f ≡ numberOf g
+  same-number f g p q = let e : f ≡ g = cc in ap numberOf e
+
+  short-other : examined k d ≡ refused ShortDesk → Outcome k d → short d ≡ true
+  short-other e (too-short s p) = s
+  short-other e (broken s n p) = absurd (omega (arith, same-number SpoiledDesk ShortDesk p e))
+  short-other e (outside c u i p) = absurd (omega (arith, same-number OutOfRange ShortDesk p e))
+  short-other e (inside c u i p) = absurd (refused-content (sym e ∙ p))
+
+  -- no case is refused with 11
+  short-only : examined k d ≡ refused ShortDesk → short d ≡ true
+  short-only e = ⊎-elim opens (λ o. short-other e (outcome k d o)) (opens-or-not k)
+    where
+      opens : (b : List ℕ) × (k ≡ Call.Open b) → short d ≡ true
+      opens (b, q) =
+          not-failed (short d)
+          (λ s. omega (arith, case-number b ShortDesk (sym (open-long b d s) ∙ ap (λ (x : Call). examined x d) (sym q) ∙ e) .1))
+
+  spoiled-only : examined k d ≡ refused SpoiledDesk → Outcome k d → (short d ≡ false) × ((c : Content) → ¬ Rules d c)
+  spoiled-only e (too-short s p) = absurd (omega (arith, same-number ShortDesk SpoiledDesk p e))
+  spoiled-only e (broken s n p) = (s, n)
+  spoiled-only e (outside c u i p) = absurd (omega (arith, same-number OutOfRange SpoiledDesk p e))
+  spoiled-only e (inside c u i p) = absurd (refused-content (sym e ∙ p))
+
+  spoiled-so : short d ≡ false → ((c : Content) → ¬ Rules d c) → Outcome k d → examined k d ≡ refused SpoiledDesk
+  spoiled-so l w (too-short s p) = absurd (false-true l s)
+  spoiled-so l w (broken s n p) = p
+  spoiled-so l w (outside c u i p) = absurd (w c (u .rules))
+  spoiled-so l w (inside c u i p) = absurd (w c (u .rules))
+
+  range-only : examined k d ≡ refused OutOfRange → Outcome k d → (short d ≡ false) × Kept k d false
+  range-only e (too-short s p) = absurd (omega (arith, same-number ShortDesk OutOfRange p e))
+  range-only e (broken s n p) = absurd (omega (arith, same-number SpoiledDesk OutOfRange p e))
+  range-only e (outside c u i p) = (u .long, (c, u .rules, i))
+  range-only e (inside c u i p) = absurd (refused-content (sym e ∙ p))
+
+  others : (r : Refusal) → examined k d ≡ refused r → Outcome k d → (r ≡ ShortDesk) ⊎ ((r ≡ SpoiledDesk) ⊎ (r ≡ OutOfRange))
+  others r e (too-short s p) = inl (cc)
+  others r e (broken s n p) = inr (inl (cc))
+  others r e (outside c u i p) = inr (inr (cc))
+  others r e (inside c u i p) = absurd (refused-content (sym e ∙ p))
+
+  pub demand1 : Demand1 k d
+  demand1 =
+      record {
+        kept = perform-refused k d;
+        at-11 = (short-only, is-short k d);
+        at-1-to-10 = λ b q s. ap (λ (x : Call). examined x d) q ∙ open-long b d s;
+        numbers = case-number;
+        at-12 = λ o. (λ e. spoiled-only e (outcome k d o), λ w. spoiled-so (w .0) (w .1) (outcome k d o));
+        at-13 = λ o. (λ e. range-only e (outcome k d o), λ w. in-store k d (w .1 .0) o (record { long = w .0; rules = w .1 .1 }) ∙ rw (w .1 .2));
+        only = λ o r e. others r e (outcome k d o);
+        open-accepted = λ b q. (
+          λ a.
+              let w = accepted-content k d a in
+              let v = open-accepted b d (w .0) (ap (λ (x : Call). examined x d) (sym q) ∙ w .1) in
+              (v .long, (w .0, v .reads)),
+          λ w. content-accepted k d (w .1 .0) (ap (λ (x : Call). examined x d) q ∙ open-long b d (w .0) ∙ w .1 .1),
+        );
+        other-accepted = λ o. (
+          λ a. let w = accepted-content k d a in let v = other-accepted k d (w .0) o (w .1) in (v .held .long, (w .0, v .held .rules, v .range)),
+          λ w. content-accepted k d (w .1 .0) (in-store k d (w .1 .0) o (record { long = w .0; rules = w .1 .1 }) ∙ rw (w .1 .2)),
+        );
+      }

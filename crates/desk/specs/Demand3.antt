@@ -1,0 +1,180 @@
+-- Demand 3: one claim about every list of calls from any desk, refused ones included, with an accepted opening in it. First the claim, a field for
+-- each part of it; then the theorem `listed`, for whatever last accepted opening and whatever T, and `demand3`, that there are these.
+-- Rests on Run, and for the proof on Listed, Next, Stands and theory's Rounds and Preservation.
+use Prim.Native.Nat.{ℕ, suc, _+_, _*_, _-_, _%_, _≤_, _<_}
+use mathlib.Core.Path.{_≡_, refl, sym, ap, _∙_, subst}
+use mathlib.Core.Bool.{true, false}
+use mathlib.Core.Logic.{_↔_}
+use mathlib.Core.List.{List, _∷_}
+use native.Mathlib.Omega.{arith}
+use lib.ListN.{length, getD}
+use Rattle.theory.specs.Lattice.{LongestChain}
+use Rattle.theory.specs.Formula.{Formula, fixpointFree, nestedAX, UniversalSentence}
+use Rattle.theory.specs.Value.{valueAt, wholeValue}
+use Rattle.theory.specs.Simulation.{SameTable, AtMostTable, Bounds, Simulation, GreatestSimulation, score, share}
+use Rattle.theory.specs.Height.{longest-chain}
+use Rattle.theory.specs.Rounds.{T-at-most, settled-greatest, below-rounds, fixed-below, F-mono}
+use Rattle.theory.specs.Preservation.{bounded-by-round, bounded-at-T}
+use Rattle.refusal.specs.declared.Refusal.the-variants.{ShortDesk, SpoiledDesk}
+use Rattle.casefile.specs.Reading.{Content, refused, content, caseReading, storeReading}
+use Rattle.rounds.specs.Table.{tableOf}
+use Rattle.desk.specs.Desk.{Desk, Question, Call, Reply}
+use Rattle.desk.specs.Case.{ops, model1, model2, N1, N2, tableSize, modelIn, formulaIn, operator, roundIn, IsT, entryAt, tableBytes}
+use Rattle.desk.specs.Refused.{short, spoiled, inRange, examined, accepted}
+use Rattle.desk.specs.Moved.{opened, shownTable}
+use Rattle.desk.specs.Perform.{perform, asked, answer, moved}
+use Rattle.desk.specs.Run.{run, openings, LastOpening, answersSince, roundAfter, answerAfter}
+use Rattle.desk.specs.Refusals.{perform-accepted, OpenAccepted, open-long, open-accepted, spoiled-exactly}
+use Rattle.desk.specs.Stands.{known-sound, Stands, opening-starts}
+use Rattle.desk.specs.Next.{at, stands-unspoiled, never, ranges-are, next-answer, shows, below-shown, shown-below, show-is, score-is, share-is, judge-yes-is, judge-no-is}
+use Rattle.desk.specs.Listed.{run-append, last-opening, opening-T, Since, since}
+
+-- c is what the case holds, `answers` are those of the accepted steps since it was opened, d is the desk after the list
+module _ (c : Content) (T : ℕ) (answers : List Reply) (d : Desk) where
+  -- 'let s be the number of accepted steps since the last such opening'
+  abbrev s : ℕ
+  s = length answers
+
+  abbrev r : ℕ
+  r = roundAfter c T s
+
+  -- two tables agree at the pairs of states; the first lies at or below the second there
+  abbrev Same : (ℕ → ℕ → ℕ) → (ℕ → ℕ → ℕ) → Type 0
+  Same = SameTable (ops c) (model1 c) (model2 c)
+
+  abbrev Below : (ℕ → ℕ → ℕ) → (ℕ → ℕ → ℕ) → Type 0
+  Below = AtMostTable (ops c) (model1 c) (model2 c)
+
+  -- 'A pair's entry is at most "not the formula's value at the pair's state of model 2, joined with its value at the pair's state of model 1"'
+  abbrev BoundedBy : Formula → Type 0
+  BoundedBy φ = Bounds (ops c) (model1 c) (model2 c) (shownTable c d) (valueAt (ops c) (model1 c) φ) (valueAt (ops c) (model2 c) φ)
+
+  pub record Claim : Type 0 where
+    -- 'after the list the standing's round is r, its next row is s modulo N1 while r is below T and 0 at T, and it is settled
+    -- exactly when r = T'
+    pub round-is : d .standing .round ≡ r
+    pub row-below-T : r < T → d .standing .row ≡ s % N1 c
+    pub row-at-T : r ≡ T → d .standing .row ≡ 0
+    pub settled-is : (d .standing .settled ≡ true) ↔ (r ≡ T)
+    -- 'The lattice, models and formulas are those in the case of the last accepted opening': so the store is read
+    pub store-holds : storeReading (d .store) ≡ content c
+    -- 'The table shown is that of round r'
+    pub shown-is : Same (shownTable c d) (roundIn c r)
+    -- 'Each entry is at or above the greatest simulation's', which is the table of round T
+    pub T-greatest : GreatestSimulation (ops c) (model1 c) (model2 c) (roundIn c T)
+    pub above : (G : ℕ → ℕ → ℕ) → GreatestSimulation (ops c) (model1 c) (model2 c) G → Below G (shownTable c d)
+    -- 'for every closed universal formula without fixpoints and with fewer than r nested AX, and once r = T for every closed universal formula'
+    pub bounded-by-round : (φ : Formula) → UniversalSentence (model1 c .propositions) φ → fixpointFree φ ≡ true → nestedAX φ < r → BoundedBy φ
+    pub bounded-at-T : r ≡ T → (φ : Formula) → UniversalSentence (model1 c .propositions) φ → BoundedBy φ
+    -- 'T is at most N1·N2·(h − 1) + 1, h being the number of elements in the lattice's longest chain'; there is such an h
+    pub h-exists : (h : ℕ) × LongestChain (ops c) h
+    pub T-most : (h : ℕ) → LongestChain (ops c) h → T ≤ tableSize c * (h - 1) + 1
+    -- 'The last accepted step since that opening, if there was one, answered Settled(T) when r = T, else Round(r) when s is a multiple of
+    -- N1, else Row.'
+    pub answered : 0 < s → getD answers (s - 1) Reply.Row ≡ answerAfter c T s
+    -- 'Neither 11 nor 12 applies to the call that comes next, whichever it is'
+    pub not-short : short d ≡ false
+    pub not-spoiled : spoiled d ≡ false
+    pub not-11 : (k : Call) → examined k d ≡ refused ShortDesk → ⊥
+    pub not-12 : (k : Call) → examined k d ≡ refused SpoiledDesk → ⊥
+    -- open is then accepted exactly when its case is, step always, and a question exactly when its arguments are in the range of that case
+    pub open-next : (b : List ℕ) → examined (Call.Open b) d ≡ caseReading b
+    pub step-next : accepted Call.Step d ≡ true
+    pub ranges : (q : Question) → accepted (Call.Ask q) d ≡ inRange q c
+    -- 'show then answers the table of round r, and value, whole, score, share and judge, when accepted, what their definitions give for
+    -- that case with round r shown.'
+    pub show-next : asked Question.Show d ≡ Reply.Shown (tableBytes c (roundIn c r))
+    pub value-next : (f m q : ℕ) → accepted (Call.Ask (Question.Value f m q)) d ≡ true
+        → asked (Question.Value f m q) d ≡ Reply.Element (valueAt (ops c) (modelIn c m) (formulaIn c f) q)
+    pub whole-next : (f m : ℕ) → accepted (Call.Ask (Question.Whole f m)) d ≡ true
+        → asked (Question.Whole f m) d ≡ Reply.Element (wholeValue (ops c) (modelIn c m) (formulaIn c f))
+    pub score-next : asked Question.Score d ≡ Reply.Element (score (ops c) (model1 c) (model2 c) (roundIn c r))
+    pub share-next : (e : ℕ) → accepted (Call.Ask (Question.Share e)) d ≡ true
+        → asked (Question.Share e) d ≡ Reply.PerCent (share (ops c) (tableSize c) (entryAt c (roundIn c r)) e)
+    pub judge-yes : (t : List ℕ) → accepted (Call.Ask (Question.Judge t)) d ≡ true
+        → (asked (Question.Judge t) d ≡ Reply.Says true) ↔ Simulation (ops c) (model1 c) (model2 c) (tableOf t (N2 c))
+    pub judge-no : (t : List ℕ) → accepted (Call.Ask (Question.Judge t)) d ≡ true
+        → (asked (Question.Judge t) d ≡ Reply.Says false) ↔ ¬ (Simulation (ops c) (model1 c) (model2 c) (tableOf t (N2 c)))
+
+-- Demand 3 of a list of calls from a desk: there is a last accepted opening and a T, and after the list the claim holds
+pub record Demand3 (ks : List Call) (d : Desk) : Type 0 where
+  pub opening : LastOpening ks d
+  pub T : ℕ
+  -- 'T is the least t above 0 for which round t equals round t − 1'
+  pub isT : IsT (opening .holds) T
+  pub claim : Claim (opening .holds) T (answersSince opening) (run ks d)
+
+-- ==== the proof
+
+module _ {c : Content} {T : ℕ} where
+  pub claimed : (answers : List Reply) (d : Desk) → Stands c T (length answers) d → ((i : ℕ) → i < length answers → getD answers i Reply.Row ≡ answerAfter c T (suc i)) → Claim c T answers d
+  unfolding answer
+  claimed answers d w each =
+      let L = known-sound (w .known) .laws in
+      let h = longest-chain (ops c) (λ a. refl) in
+      let p = at w in
+      record {
+        round-is = p .round-is;
+        row-below-T = p .row-below-T;
+        row-at-T = p .row-at-T;
+        settled-is = p .settled-is;
+        store-holds = stands-unspoiled w .rules .reads;
+        shown-is = shows w;
+        above = λ G g. below-shown w G (below-rounds L (model1 c) (model2 c) G (fixed-below L (model1 c) (model2 c) (operator c) (λ S U. F-mono L (model1 c) (model2 c)) G (g .isFixed)) (roundAfter c T (length answers)));
+        bounded-by-round = λ φ u x l. shown-below w _ (bounded-by-round L (model1 c) (model2 c) φ u x (roundAfter c T (length answers)) l);
+        bounded-at-T = λ z φ u. shown-below w _ (rw z (bounded-at-T L (model1 c) (model2 c) T (w .known .isT) φ u));
+        T-greatest = settled-greatest L (model1 c) (model2 c) T (w .known .isT);
+        h-exists = (h .0, h .2);
+        T-most = λ n l. T-at-most L (model1 c) (model2 c) n l T (w .known .isT);
+        answered = λ l. let z : suc (length answers - 1) ≡ length answers = omega arith in each (length answers - 1) (omega arith) ∙ ap (answerAfter c T) z;
+        not-short = stands-unspoiled w .long;
+        not-spoiled = spoiled-exactly d .1 (c, stands-unspoiled w .rules);
+        not-11 = λ k q. never w k ShortDesk q (omega arith) (omega arith);
+        not-12 = λ k q. never w k SpoiledDesk q (omega arith) (omega arith);
+        open-next = λ x. open-long x d (stands-unspoiled w .long);
+        step-next = ranges-are w Call.Step refl;
+        ranges = λ q. ranges-are w (Call.Ask q) refl;
+        show-next = show-is w;
+        value-next = λ f m q a. next-answer w (Call.Ask (Question.Value f m q)) refl a;
+        whole-next = λ f m a. next-answer w (Call.Ask (Question.Whole f m)) refl a;
+        score-next = score-is w;
+        share-next = share-is w;
+        judge-yes = judge-yes-is w;
+        judge-no = judge-no-is w;
+      }
+
+-- for every list of calls, every desk, whatever last accepted opening there is, and whatever is T
+pub listed : (ks : List Call) (d : Desk) (l : LastOpening ks d) (T : ℕ) → IsT (l .holds) T → Claim (l .holds) T (answersSince l) (run ks d)
+unfolding run moved
+listed ks d l T isT = subst (Claim c T (answersSince l)) (sym same) (claimed (answersSince l) (run (l .after) start) (subst (λ (n : ℕ). Stands c T n (run (l .after) start)) none (after .stands)) each)
+  where
+    c : Content
+    c = l .holds
+
+    start : Desk
+    start = perform (Call.Open (l .case)) (run (l .before) d) .desk
+
+    opening : OpenAccepted (l .case) (run (l .before) d) c
+    opening = open-accepted (l .case) (run (l .before) d) c (l .opens)
+
+    is-opened : start ≡ opened c (run (l .before) d)
+    is-opened = ap (λ x. x .desk) (perform-accepted (Call.Open (l .case)) (run (l .before) d) c (l .opens))
+
+    after : Since c T 0 (answersSince l) (run (l .after) start)
+    after = since (l .after) 0 start (subst (Stands c T 0) (sym is-opened) (opening-starts (record { case = l .case; reads = opening .reads; isT = isT }) (run (l .before) d) (opening .long))) (l .last)
+
+    none : 0 + length (answersSince l) ≡ length (answersSince l)
+    none = omega arith
+
+    each : (i : ℕ) → i < length (answersSince l) → getD (answersSince l) i Reply.Row ≡ answerAfter c T (suc i)
+    each i m = let z : 0 + suc i ≡ suc i = omega arith in after .each i m ∙ ap (answerAfter c T) z
+
+    same : run ks d ≡ run (l .after) start
+    same = ap (λ (x : List Call). run x d) (l .list) ∙ run-append (l .before) (Call.Open (l .case) ∷ l .after) d
+
+-- and there are a last opening and a T
+pub demand3 : (ks : List Call) (d : Desk) → 0 < openings ks d → Demand3 ks d
+demand3 ks d h =
+    let l = last-opening ks d h in
+    let t = opening-T l in
+    record { opening = l; T = t .0; isT = t .1; claim = listed ks d l (t .0) (t .1) }
