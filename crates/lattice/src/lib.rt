@@ -789,19 +789,6 @@ fn size(part: &[u8]) -> u8
     part[0]
 }
 
-// Every one of some bytes is below a limit.
-fn bytes_below(part: &[u8], from: usize, count: usize, limit: u8) -> bool
-    requires { ⌜ from + count ≤ length (now part) ⌝ }
-    ensures { λ r. ⌜ r ≡ allBelow count (λ i. ltb (getD (now (part .entry)) (from + i) 0) limit) ⌝ }
-{
-    for i in 0..count {
-        if limit <= part[from + i] {
-            return false;
-        }
-    }
-    true
-}
-
 // The form: refusal 4 does not apply.
 fn has_form(part: &[u8]) -> bool
     ensures { λ r. ⌜ r ≡ latticeForm (now (part .entry)) ⌝ }
@@ -823,10 +810,10 @@ fn has_form(part: &[u8]) -> bool
     if part.len() != 1 + n + n * n {
         return false;
     }
-    if !bytes_below(part, 1, n, limit) {
+    if !operations::below(part, 1, n, limit) {
         return false;
     }
-    bytes_below(part, 1 + n, n * n, 2)
+    operations::below(part, 1 + n, n * n, 2)
 }
 
 // Any number as an element.

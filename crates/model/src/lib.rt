@@ -5,7 +5,7 @@ ghost use Prim.Native.Nat.{_+_, _≤_, _<_};
 ghost use lib.ListN.{length, getD};
 ghost use Rattle.theory.specs.Part.{modelOf, ModelShape};
 ghost use Rattle.model.specs.Places.{labelRow, transitionRow};
-ghost use Rattle.model.specs.Reading.{elementsOnly, modelAnswer};
+ghost use Rattle.model.specs.Reading.{modelAnswer};
 
 // A state of a model, by its number.
 pub struct State(pub u8);
@@ -66,20 +66,6 @@ pub fn transition_row(m: &[u8], q: State) -> usize
     2 + n + n * k + s * n
 }
 
-// Every value of a model part is below n.
-fn elements_only(part: &[u8], n: u8) -> bool
-    requires { ⌜ 2 ≤ length (now part) ⌝ }
-    ensures { λ r. ⌜ r ≡ elementsOnly n (now (part .entry)) ⌝ }
-{
-    let count = part.len() - 2;
-    for i in 0..count {
-        if n <= part[2 + i] {
-            return false;
-        }
-    }
-    true
-}
-
 // Whether a part is a model over a lattice of n elements.
 pub fn check(part: &[u8], n: u8) -> ModelCheck
     ensures { λ r. ⌜ r ≡ modelAnswer n (now (part .entry)) ⌝ }
@@ -103,7 +89,7 @@ pub fn check(part: &[u8], n: u8) -> ModelCheck
     if part.len() != 2 + w + w * k + w * w {
         return ModelCheck::Refused;
     }
-    if !elements_only(part, n) {
+    if !operations::below(part, 2, part.len() - 2, n) {
         return ModelCheck::Refused;
     }
     ModelCheck::Accepted(states, propositions)

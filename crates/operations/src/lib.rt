@@ -1,6 +1,9 @@
 // Lattice elements, and the operations on them as lookups in tables.
 ghost use mathlib.Core.Path.{_≡_};
-ghost use Prim.Native.Nat.{_<_};
+ghost use Prim.Native.Nat.{_+_, _<_, _≤_};
+ghost use lib.Dec.{ltb};
+ghost use lib.ListN.{length, getD};
+ghost use Rattle.theory.specs.Test.{allBelow};
 ghost use Rattle.theory.specs.Lattice.{imp};
 ghost use Rattle.operations.specs.Table.{atMostIn, meetIn, joinIn, complementIn, opsIn};
 
@@ -19,6 +22,19 @@ pub fn index(x: u8) -> usize
     ensures { λ r. ⌜ (r ≡ x) × (r < 256) ⌝ }
 {
     x as usize
+}
+
+// Each of `count` bytes from `from` on is below a limit: with n for the limit, each is an element.
+pub fn below(s: &[u8], from: usize, count: usize, limit: u8) -> bool
+    requires { ⌜ from + count ≤ length (now s) ⌝ }
+    ensures { λ r. ⌜ r ≡ allBelow count (λ i. ltb (getD (now (s .entry)) (from + i) 0) limit) ⌝ }
+{
+    for i in 0..count {
+        if limit <= s[from + i] {
+            return false;
+        }
+    }
+    true
 }
 
 // a is at or below b.

@@ -41,23 +41,23 @@ add-if5-2 c = omega (arith, square-le (c .before .before .index .result) (c .if4
 returns-5 : tie.Need-returns-5
 returns-5 c = sym (not-passed _ (λ f. c .if5 .taken (form-out _ (c .before .before .before .index .result) (sym (c .before .before .before .before .before .before .is-panel .ensures) ∙ c .before .before .before .before .before .if2 .left) (c .before .before .before .index .ensures .0) f .exact)))
 
-bytes-below-requires : tie.Need-bytes-below-requires
-bytes-below-requires c κs = omega arith
+below-requires : tie.Need-below-requires
+below-requires c κs = omega arith
 
 returns-6 : tie.Need-returns-6
-returns-6 c = sym (form-complements _ _ (sym (c .before .before .before .before .before .before .before .before .is-panel .ensures) ∙ c .before .before .before .before .before .before .before .if2 .left) (c .before .before .before .before .before .index .ensures .0) (sym (c .before .bytes-below .ensures) ∙ not-true _ (c .if6 .taken)))
+returns-6 c = sym (form-complements _ _ (sym (c .before .before .before .before .before .before .before .before .is-panel .ensures) ∙ c .before .before .before .before .before .before .before .if2 .left) (c .before .before .before .before .before .index .ensures .0) (sym (c .before .below .ensures) ∙ not-true _ (c .if6 .taken)))
 
-add-bytes-below : tie.Need-add-bytes-below
-add-bytes-below c = omega arith
+add-below : tie.Need-add-below
+add-below c = omega arith
 
-mul-bytes-below : tie.Need-mul-bytes-below
-mul-bytes-below c = omega (arith, square-le (c .before .before .before .before .before .index .result) (c .before .before .before .if4 .left))
+mul-below : tie.Need-mul-below
+mul-below c = omega (arith, square-le (c .before .before .before .before .before .index .result) (c .before .before .before .if4 .left))
 
-bytes-below-requires-2 : tie.Need-bytes-below-requires-2
-bytes-below-requires-2 c κs = omega arith
+below-requires-2 : tie.Need-below-requires-2
+below-requires-2 c κs = omega arith
 
 returns-7 : tie.Need-returns-7
-returns-7 c = c .bytes-below2 .ensures ∙ sym (form-last _ _ (sym (c .before .before .before .before .before .before .before .before .before .is-panel .ensures) ∙ c .before .before .before .before .before .before .before .before .if2 .left) (c .before .before .before .before .before .before .index .ensures .0) (c .before .before .before .before .before .if3 .left) (c .before .before .before .before .if4 .left) (c .before .before .before .if5 .left) (sym (c .before .before .bytes-below .ensures) ∙ not-false _ (c .before .if6 .left)))
+returns-7 c = c .below2 .ensures ∙ sym (form-last _ _ (sym (c .before .before .before .before .before .before .before .before .before .is-panel .ensures) ∙ c .before .before .before .before .before .before .before .before .if2 .left) (c .before .before .before .before .before .before .index .ensures .0) (c .before .before .before .before .before .if3 .left) (c .before .before .before .before .if4 .left) (c .before .before .before .if5 .left) (sym (c .before .before .below .ensures) ∙ not-false _ (c .before .if6 .left)))
 
 pub has-form-spec : {M : Type 1} → statement M
 has-form-spec =
@@ -74,9 +74,9 @@ has-form-spec =
     mul-if5
     add-if5-2
     returns-5
-    bytes-below-requires
+    below-requires
     returns-6
-    add-bytes-below
-    mul-bytes-below
-    bytes-below-requires-2
+    add-below
+    mul-below
+    below-requires-2
     returns-7)

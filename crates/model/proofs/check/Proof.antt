@@ -1,12 +1,12 @@
 -- `model::check` meets its contract: each test that fails breaks the shape or the values.
 use Prim.Native.Nat.{_*_, _≤_}
-use mathlib.Core.Path.{sym, _∙_}
+use mathlib.Core.Path.{_≡_, sym, _∙_}
 use native.Mathlib.Omega.{arith}
 use borrow.Author.Needs.{needs}
 use borrow.Author.Tests.{not-true, not-false}
 use Rattle.theory.specs.Test.{false-true}
 use Rattle.model.specs.Places.{prod-le}
-use Rattle.model.specs.Reading.{answers-accepted, answers-refused}
+use Rattle.model.specs.Reading.{elementsOnly, answers-accepted, answers-refused}
 use Rattle.model.proofs.check.Statement.{statement}
 use Rattle.model.proofs.check.Tie as tie
 
@@ -59,14 +59,22 @@ add-if5-3 c = omega (arith, products c)
 returns-5 : tie.Need-returns-5
 returns-5 c = answers-refused _ _ (λ s v. c .if5 .taken (cc (s .exact)))
 
-elements-only-requires : tie.Need-elements-only-requires
-elements-only-requires c κs = search needs
+sub-below : tie.Need-sub-below
+sub-below c = search needs
+
+below-requires : tie.Need-below-requires
+below-requires c κs = search needs
+
+-- the test of the bytes is that of 'every value is an element'
+every-value : (c : tie.After-below) → c .below .result ≡ elementsOnly (c .before .before .before .before .before .before .before .before .before .before .before .args .n) (c .before .before .before .before .before .before .before .before .before .before .before .args .part .now)
+unfolding elementsOnly
+every-value c = c .below .ensures
 
 returns-6 : tie.Need-returns-6
-returns-6 c = answers-refused _ _ (λ s v. false-true (sym (c .before .elements-only .ensures) ∙ not-true _ (c .if6 .taken)) v)
+returns-6 c = answers-refused _ _ (λ s v. false-true (sym (every-value (c .before)) ∙ not-true _ (c .if6 .taken)) v)
 
 returns-7 : tie.Need-returns-7
-returns-7 c = answers-accepted _ _ (record { some = omega arith; states-most = omega arith; propositions-most = omega arith; exact = cc }) (sym (c .before .elements-only .ensures) ∙ not-false _ (c .if6 .left))
+returns-7 c = answers-accepted _ _ (record { some = omega arith; states-most = omega arith; propositions-most = omega arith; exact = cc }) (sym (every-value (c .before)) ∙ not-false _ (c .if6 .left))
 
 pub check-spec : {M : Type 1} → statement M
 check-spec =
@@ -86,6 +94,7 @@ check-spec =
     mul-if5-2
     add-if5-3
     returns-5
-    elements-only-requires
+    sub-below
+    below-requires
     returns-6
     returns-7)
