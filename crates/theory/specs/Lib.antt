@@ -16,5 +16,7 @@ pub mod Descent
 pub mod Fixpoint
 pub mod Height
 pub mod Rounds
+pub mod Irreducible
 pub mod Preservation
 pub mod Examples
+pub mod Sharp
