@@ -1,19 +1,22 @@
 -- Theorem 8: the worked examples of document 01 that are marked as proved, in one list, and that the definitions give their values.
--- Rests on Part, Simulation, Value, Test, Loop, Fixpoint.
+-- Rests on Part, Simulation, Value, Test, Loop, Descent, Height, Fixpoint.
 use Prim.Native.Nat.{ℕ, zero, suc, _+_, _*_, _-_, _<_}
 use mathlib.Core.Path.{_≡_, refl}
 use mathlib.Core.Bool.{Bool, true, false, not, _&&_}
+use mathlib.Core.Logic.{inl}
 use mathlib.Core.List.{List, [], _∷_, _++_}
 use native.Mathlib.Omega.{arith}
 use borrow.Author.Tests.{ltb-true, lt-ltb, eqb-true, eq-eqb, not-true}
 use lib.Dec.{ltb, eqb, lit≤}
 use lib.ListN.{length, getD}
-use Rattle.theory.specs.Lattice.{Ops, All, imp, iff, bigMeet, bigJoin}
+use Rattle.theory.specs.Lattice.{Ops, All, LongestChain, imp, iff, bigMeet, bigJoin}
 use Rattle.theory.specs.Model.{Model}
 use Rattle.theory.specs.Formula.{Formula, prop, negated, var, and, AX, EX, nu, boundBy, nestedAX}
 use Rattle.theory.specs.Value.{allNext, someNext, eval, iterate, bind, valueAt, wholeValue, SameMap}
 use Rattle.theory.specs.Simulation.{propositionPart, successorPart, F, round, SameTable, FirstUnchanged, roundOf, score, count, share}
 use Rattle.theory.specs.Part.{isMeet, isJoin, meetOf, joinOf, topOf, botOf, element, opsOf, explicitPart, modelOf}
+use Rattle.theory.specs.Descent.{steps, all-map}
+use Rattle.theory.specs.Height.{distinct-le}
 use Rattle.theory.specs.Test.{allBelow, firstBelow, all-at, all-in, and-l, and-r, and-in, false-true}
 use Rattle.theory.specs.Loop.{tab}
 use Rattle.theory.specs.Fixpoint.{body-cong, iterate-stays}
@@ -236,3 +239,19 @@ reported-holds = (refl, (refl, tt))
 
 pub examples-hold : All (All ExampleHolds) examples
 examples-hold = (example1-holds, (example2-holds, (example3-holds, (example4-holds, (example5-holds, (example6-holds, (table1-holds, (reported-holds, tt))))))))
+
+-- ---- 'T is at most N1·N2·(h − 1) + 1' is met in example 2, with h = 2: no smaller bound holds
+
+L2-longest : LongestChain (partOps L2) 2
+unfolding partOps
+L2-longest =
+    record {
+      chain = 0 ∷ 1 ∷ [];
+      isChain = record { elements = (refl, (refl, tt)); distinct = ((λ e. omega arith, tt), (tt, tt)); ordered = ((inl refl, tt), (tt, tt)) };
+      isLong = refl;
+      longest = λ l c. distinct-le 2 l (all-map _ _ (λ a t. ltb-true _ _ t) l (c .elements)) (c .distinct);
+    }
+
+pub bound-met : LongestChain (partOps L2) 2 × ExampleHolds (settlesAt L2 loop2 still2 (modelOf loop2 .states * modelOf still2 .states * steps 2 + 1))
+unfolding partOps unchangedTest roundOf F bigMeet bigJoin imp
+bound-met = (L2-longest, settles-by-test _ _ _ _ refl refl)

@@ -3,7 +3,7 @@
 use Prim.Native.Nat.{ℕ, zero, suc, _+_, _*_, _-_, _≤_, _<_, max}
 use mathlib.Core.Path.{_≡_, refl}
 use mathlib.Core.Bool.{true}
-use native.Mathlib.Nat.{not-suc-le-zero}
+use native.Mathlib.Nat.{le-of-suc-le-suc, not-suc-le-zero}
 use native.Mathlib.Omega.{arith}
 use borrow.Author.Tests.{ltb-true}
 use Rattle.theory.specs.Lattice.{Ops, Laws, AtMost, imp, iff, bigMeet, bigJoin}
@@ -71,7 +71,7 @@ module _ {A : Type 0} {O : Ops A} (L : Laws O) (M₁ M₂ : Model A) where
       (eval-by-round K J e d g (and-r (boundBy 0 f) _ c) (and-r (universal f) _ u) (and-r (overProps (M₁ .propositions) f) _ o) (and-r (fixpointFree f) _ x) r (omega arith) q₁ l q₂ m))
       (imp-meet L _ _ _ _)
   eval-by-round K J e d (AX f) c u o x zero h q₁ l q₂ m = absurd (not-suc-le-zero h)
-  eval-by-round K J e d (AX f) c u o x (suc r) h q₁ l q₂ m = bounds-next _ _ _ (eval-by-round K J e d f c u o x r (omega arith)) q₁ q₂
+  eval-by-round K J e d (AX f) c u o x (suc r) h q₁ l q₂ m = bounds-next _ _ _ (eval-by-round K J e d f c u o x r (le-of-suc-le-suc h)) q₁ q₂
   eval-by-round K J e d (EX f) c u o x r h q₁ l q₂ m = absurd (false-true refl u)
   eval-by-round K J e d (mu f) c u o x r h q₁ l q₂ m = absurd (false-true refl x)
   eval-by-round K J e d (nu f) c u o x r h q₁ l q₂ m = absurd (false-true refl x)
