@@ -1,9 +1,9 @@
 -- A descending sequence of finite tables over a lattice changes only so often: by the length of the longest chain.
 -- The general part of theorem 4. Rests on Lattice, Simulation (count), Test.
 use Prim.Native.Nat.{ℕ, zero, suc, _+_, _*_, _-_, _≤_, _<_, zero-le}
-use mathlib.Core.Path.{_≡_, refl, ap}
+use mathlib.Core.Path.{_≡_, refl}
 use mathlib.Core.Bool.{Bool, true, false, not}
-use mathlib.Core.Logic.{_⊎_, inl, inr, _≢_, ⊎-swap, ⊎-map}
+use mathlib.Core.Logic.{_⊎_, inl, inr, ⊎-swap, ⊎-map}
 use mathlib.Core.List.{List, [], _∷_, map}
 use native.Mathlib.Nat.{suc-mul, not-suc-le-zero, le-refl, le-trans, mul-assoc}
 use native.Mathlib.Omega.{arith}

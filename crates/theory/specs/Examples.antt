@@ -12,8 +12,8 @@ use lib.ListN.{length, getD}
 use Rattle.theory.specs.Lattice.{Ops, All, LongestChain, imp, iff, bigMeet, bigJoin}
 use Rattle.theory.specs.Model.{Model}
 use Rattle.theory.specs.Formula.{Formula, prop, negated, var, and, AX, EX, nu, boundBy, nestedAX}
-use Rattle.theory.specs.Value.{allNext, someNext, eval, iterate, bind, valueAt, wholeValue, SameMap}
-use Rattle.theory.specs.Simulation.{propositionPart, successorPart, F, round, SameTable, FirstUnchanged, roundOf, score, count, share}
+use Rattle.theory.specs.Value.{eval, iterate, bind, valueAt, wholeValue, SameMap}
+use Rattle.theory.specs.Simulation.{F, round, SameTable, FirstUnchanged, roundOf, score, share}
 use Rattle.theory.specs.Part.{isMeet, isJoin, meetOf, joinOf, topOf, botOf, element, opsOf, explicitPart, modelOf}
 use Rattle.theory.specs.Descent.{steps, all-map}
 use Rattle.theory.specs.Height.{distinct-le}

@@ -11,8 +11,8 @@ use native.Mathlib.Omega.{arith}
 use lib.ListN.{length}
 use Rattle.theory.specs.Lattice.{Ops, Laws, AtMost, Element, Chain, LongestChain, imp}
 use Rattle.theory.specs.Model.{Model}
-use Rattle.theory.specs.Value.{allNext, someNext}
-use Rattle.theory.specs.Simulation.{successorPart, F, round, roundOf, SameTable, AtMostTable, FixedBy, GreatestFixedBy, FirstUnchangedOf, FirstUnchanged, Simulation, GreatestSimulation, score}
+use Rattle.theory.specs.Value.{someNext}
+use Rattle.theory.specs.Simulation.{successorPart, F, round, roundOf, SameTable, AtMostTable, FixedBy, FirstUnchangedOf, FirstUnchanged, GreatestSimulation, score}
 use Rattle.theory.specs.Folds.{meet-mono, bigMeet-cong, bigJoin-cong}
 use Rattle.theory.specs.Descent.{First, Unlowered, lowerings, first-unlowered, lowerings-le, downwards, apart-length}
 use Rattle.theory.specs.Fixpoint.{allNext-cong, someNext-cong, allNext-mono, someNext-mono, chain-size}
