@@ -4,8 +4,7 @@ ghost use Prim.Native.Nat.{_+_, _<_, _≤_};
 ghost use lib.Dec.{ltb};
 ghost use lib.ListN.{length, getD};
 ghost use Rattle.theory.specs.Test.{allBelow};
-ghost use Rattle.theory.specs.Lattice.{imp};
-ghost use Rattle.operations.specs.Table.{atMostIn, meetIn, joinIn, complementIn, opsIn};
+ghost use Rattle.operations.specs.Table.{atMostIn, meetIn, joinIn, complementIn};
 
 // An element of the lattice, by its number.
 pub struct Element(pub u8);

@@ -1,7 +1,7 @@
 -- The parts of an entry of F, and score, from what the loops find in the bytes of models and tables. Rests on Table,
 -- theory's Folds, Part, Simulation, and model's Places.
 use Prim.Native.Nat.{ℕ, _+_, _*_, _≤_}
-use mathlib.Core.Path.{_≡_}
+use mathlib.Core.Path.{_≡_, ap, ap₂, _∙_}
 use mathlib.Core.List.{List}
 use native.Mathlib.Nat.{add-assoc}
 use lib.ListN.{length, getD}
@@ -11,7 +11,7 @@ use Rattle.theory.specs.Part.{modelOf}
 use Rattle.theory.specs.Value.{allNext, someNext}
 use Rattle.theory.specs.Simulation.{propositionPart, successorPart, score}
 use Rattle.operations.specs.declared.Lattice.{Lattice}
-use Rattle.operations.specs.Table.{opsIn}
+use Rattle.operations.specs.Table.{meetIn, joinIn, complementIn, opsIn}
 use Rattle.model.specs.Places.{labelRow, transitionRow}
 use Rattle.rounds.specs.Table.{tableOf, iffIn, Shaped, matched}
 
@@ -21,6 +21,13 @@ label-at m q row i e = rw (e, add-assoc)
 
 transition-at : (m : List ℕ) (q row i : ℕ) → row ≡ transitionRow m q → getD m (row + i) 0 ≡ modelOf m .transition q i
 transition-at m q row i e = rw (e, add-assoc)
+
+-- → and ↔ from what the lookups give
+pub implies-next : (t : List ℕ) (a y z r : ℕ) → r ≡ joinIn t (complementIn t a) y → y ≡ z → r ≡ joinIn t (complementIn t a) z
+implies-next t a y z r e f = e ∙ ap (joinIn t (complementIn t a)) f
+
+pub both-ways : (t : List ℕ) (a b x y r : ℕ) → x ≡ joinIn t (complementIn t a) b → y ≡ joinIn t (complementIn t b) a → r ≡ meetIn t x y → r ≡ iffIn t a b
+both-ways t a b x y r e f g = g ∙ ap₂ (meetIn t) e f
 
 -- a table for n₁ by n₂ states is held
 pub held-by : (m₁ m₂ s : List ℕ) (n₁ n₂ : ℕ) → Shaped m₁ m₂ s → n₁ ≡ getD m₁ 0 0 → n₂ ≡ getD m₂ 0 0 → n₁ * n₂ ≤ length s

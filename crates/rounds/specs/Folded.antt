@@ -24,10 +24,10 @@ pub folded-none : {A : Type 0} {g : A → A → A} {start : A} {f : ℕ → A} �
 unfolding fold
 folded-none = record { eq = refl }
 
--- one turn
-pub folded-more : {A : Type 0} {g : A → A → A} {start : A} {f : ℕ → A} {n : ℕ} {x y : A} → Folded g start f n x → y ≡ g x (f n) → Folded g start f (n + 1) y
+-- one turn, in which the value v is added
+pub folded-more : {A : Type 0} {g : A → A → A} {start : A} {f : ℕ → A} {n : ℕ} {x v y : A} → Folded g start f n x → v ≡ f n → y ≡ g x v → Folded g start f (n + 1) y
 unfolding fold
-folded-more u e = record { eq = e ∙ rw (add-one, ← u .eq) }
+folded-more u d e = record { eq = e ∙ rw (add-one, d, ← u .eq) }
 
 module _ {A : Type 0} (O : Ops A) where
   meet-fold : (n : ℕ) (f : ℕ → A) → fold (O .meet) (O .top) f n ≡ bigMeet O n f
@@ -61,8 +61,9 @@ pub one-most : (b : Bool) → one b ≤ 1
 one-most true = omega arith
 one-most false = omega arith
 
-pub counted-more : {f : ℕ → Bool} {n c d : ℕ} → Counted f n c → d ≡ c + one (f n) → Counted f (n + 1) d
-counted-more {f} {n} {c} {d} u e = record { eq = e ∙ rw (count-more n f, ← u .eq); most = omega (arith, u .most, one-most (f n)) }
+-- one turn, whose test gives b
+pub counted-more : {f : ℕ → Bool} {n c d : ℕ} {b : Bool} → Counted f n c → b ≡ f n → d ≡ one b → Counted f (n + 1) (c + d)
+counted-more {f} {n} {c} {d} {b} u t e = record { eq = rw (e, t, count-more n f, ← u .eq); most = omega (arith, u .most, one-most b) }
 
 pub counted-all : {f : ℕ → Bool} {i n c : ℕ} → Counted f i c → i ≤ n → n ≤ i → Counted f n c
 counted-all {i = i} {n = n} u p q = let e : i ≡ n = omega arith in rw e at u

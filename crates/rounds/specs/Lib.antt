@@ -1,6 +1,7 @@
 -- Tables held as bytes. Definitions first, then the theorems on them.
 -- ---- what a reader must believe
 pub mod Table
+pub mod Share
 -- ---- theorems
 pub mod Round
 -- ---- for the code

@@ -9,10 +9,10 @@ ghost use lib.Dec.{eqb};
 ghost use lib.ListN.{length, getD};
 ghost use Rattle.theory.specs.Lattice.{bigJoin};
 ghost use Rattle.theory.specs.Part.{modelOf, ModelShape};
-ghost use Rattle.theory.specs.Simulation.{propositionPart, successorPart, F, score, one, share};
-ghost use Rattle.operations.specs.declared.Lattice.{Lattice};
+ghost use Rattle.theory.specs.Simulation.{propositionPart, successorPart, F, score, one};
 ghost use Rattle.operations.specs.Table.{atMostIn, meetIn, opsIn};
 ghost use Rattle.rounds.specs.Folded.{Counted};
+ghost use Rattle.rounds.specs.Share.{shareIn};
 ghost use Rattle.rounds.specs.Table.{tableOf, iffIn, Shaped, matched, rowWritten, rowSame, rowChanged, simulationTest};
 
 // a ↔ b, the meet of a → b and b → a.
@@ -236,7 +236,7 @@ fn count_from(t: &[u8; 12352], e: Element, s: &[u8], n: usize) -> usize
 // The per cent of the first n entries of s that are at or above e, halves up.
 pub fn share(t: &[u8; 12352], e: Element, s: &[u8], n: usize) -> u8
     requires { ⌜ (0 < n) × (n ≤ 4096) × (n ≤ length (now s)) ⌝ }
-    ensures { λ r. ⌜ ((l : Lattice) → r ≡ share (opsIn (now (t .entry)) l) n (λ i. getD (now (s .entry)) i 0) (e .0)) ⌝ }
+    ensures { λ r. ⌜ r ≡ shareIn (now (t .entry)) (e .0) (now (s .entry)) n ⌝ }
 {
     let c = count_from(t, e, s, n);
     ((200 * c + n) / (2 * n)) as u8

@@ -1,9 +1,9 @@
 -- A descending sequence of finite tables over a lattice changes only so often: by the length of the longest chain.
 -- The general part of theorem 4. Rests on Lattice, Simulation (count), Test.
 use Prim.Native.Nat.{ℕ, zero, suc, _+_, _*_, _-_, _≤_, _<_, zero-le}
-use mathlib.Core.Path.{_≡_, refl, ap}
+use mathlib.Core.Path.{_≡_, refl}
 use mathlib.Core.Bool.{Bool, true, false, not}
-use mathlib.Core.Logic.{_⊎_, inl, inr, _≢_, ⊎-swap, ⊎-map}
+use mathlib.Core.Logic.{_⊎_, inl, inr, ⊎-swap, ⊎-map}
 use mathlib.Core.List.{List, [], _∷_, map}
 use native.Mathlib.Nat.{suc-mul, not-suc-le-zero, le-refl, le-trans, mul-assoc}
 use native.Mathlib.Omega.{arith}
@@ -11,6 +11,14 @@ use lib.ListN.{length, length-map}
 use Rattle.theory.specs.Lattice.{Ops, Laws, AtMost, Chain, All, Pairwise}
 use Rattle.theory.specs.Simulation.{one, count}
 use Rattle.theory.specs.Test.{below-suc, decide, false-true}
+
+-- ---- a chain of h elements has h − 1 steps from one of them to the next
+
+abbrev pub steps : ℕ → ℕ
+steps h = h - 1
+
+steps-le : {a h : ℕ} → suc a ≤ h → a ≤ steps h
+steps-le p = omega arith
 
 -- ---- sums of f 0, .., f (n - 1)
 
@@ -167,11 +175,11 @@ module _ {A : Type 0} (W : Preorder A) where
 
   -- a sequence of m by n tables, each entry descending, where no list of values apart has more than h
   module _ (h : ℕ) (height : (l : List A) → Pairwise (Apart test) l → length l ≤ h) (m n : ℕ) (s : ℕ → ℕ → ℕ → A) (down : (t q : ℕ) → q < m → (r : ℕ) → r < n → test (s (suc t) q r) (s t q r) ≡ true) where
-    lowered-le : (t q : ℕ) → q < m → (r : ℕ) → r < n → lowered test (λ i. s i q r) t ≤ h - 1
-    lowered-le t q l r k = omega (arith, had-length (λ i. s i q r) t, height (had (λ i. s i q r) t) (had-apart (λ i. s i q r) (λ i. down i q l r k) t))
+    lowered-le : (t q : ℕ) → q < m → (r : ℕ) → r < n → lowered test (λ i. s i q r) t ≤ steps h
+    lowered-le t q l r k = steps-le (rw had-length at (height (had (λ i. s i q r) t) (had-apart (λ i. s i q r) (λ i. down i q l r k) t)))
 
-    -- in all of its steps together the sequence lowers at most m * n * (h - 1) entries
-    pub lowerings-le : (t : ℕ) → lowerings test m n s t ≤ m * n * (h - 1)
+    -- all together, its tables lower at most m * n * (h - 1) entries
+    pub lowerings-le : (t : ℕ) → lowerings test m n s t ≤ m * n * steps h
     unfolding lowerings
     lowerings-le t = rw mul-assoc (sum-le m _ _ (λ q l. sum-le n _ _ (λ r k. lowered-le t q l r k)))
 
@@ -210,7 +218,7 @@ module _ {A : Type 0} (W : Preorder A) where
         go (inr v) e = omega arith
 
     -- so there is a first step that lowers nothing, and its number is at most m * n * (h - 1)
-    pub first-unlowered : (t : ℕ) × (t ≤ m * n * (h - 1)) × First (Unlowered test m n s) t
+    pub first-unlowered : (t : ℕ) × (t ≤ m * n * steps h) × First (Unlowered test m n s) t
     first-unlowered = first-within (Unlowered test m n s) _ (λ t. ⊎-map (λ a. a) (λ w. w .0) (unlowered? t)) (λ t w. le-trans (grows t w) (lowerings-le t))
 
 -- ---- in a lattice, downwards and upwards

@@ -1,24 +1,32 @@
 -- Theorem 8: the worked examples of document 01 that are marked as proved, in one list, and that the definitions give their values.
--- Rests on Part, Simulation, Value, Test, Loop, Fixpoint.
+-- Rests on Part, Simulation, Value, Test, Loop, Descent, Height, Fixpoint.
 use Prim.Native.Nat.{ℕ, zero, suc, _+_, _*_, _-_, _<_}
 use mathlib.Core.Path.{_≡_, refl}
 use mathlib.Core.Bool.{Bool, true, false, not, _&&_}
+use mathlib.Core.Logic.{inl}
 use mathlib.Core.List.{List, [], _∷_, _++_}
 use native.Mathlib.Omega.{arith}
 use borrow.Author.Tests.{ltb-true, lt-ltb, eqb-true, eq-eqb, not-true}
 use lib.Dec.{ltb, eqb, lit≤}
 use lib.ListN.{length, getD}
-use Rattle.theory.specs.Lattice.{Ops, All, imp, iff, bigMeet, bigJoin}
+use Rattle.theory.specs.Lattice.{Ops, All, LongestChain, imp, iff, bigMeet, bigJoin}
 use Rattle.theory.specs.Model.{Model}
-use Rattle.theory.specs.Formula.{Formula, prop, negated, var, and, AX, EX, nu, boundBy}
-use Rattle.theory.specs.Value.{allNext, someNext, eval, iterate, bind, valueAt, wholeValue, SameMap}
-use Rattle.theory.specs.Simulation.{propositionPart, successorPart, F, round, SameTable, FirstUnchanged, roundOf, score, count, share}
+use Rattle.theory.specs.Formula.{Formula, prop, negated, var, and, AX, EX, nu, boundBy, nestedAX}
+use Rattle.theory.specs.Value.{eval, iterate, bind, valueAt, wholeValue, SameMap}
+use Rattle.theory.specs.Simulation.{F, round, SameTable, FirstUnchanged, roundOf, score, share}
 use Rattle.theory.specs.Part.{isMeet, isJoin, meetOf, joinOf, topOf, botOf, element, opsOf, explicitPart, modelOf}
+use Rattle.theory.specs.Descent.{steps, all-map}
+use Rattle.theory.specs.Height.{distinct-le}
 use Rattle.theory.specs.Test.{allBelow, firstBelow, all-at, all-in, and-l, and-r, and-in, false-true}
 use Rattle.theory.specs.Loop.{tab}
 use Rattle.theory.specs.Fixpoint.{body-cong, iterate-stays}
 
 -- ---- what an example says; lattices and models are given by the bytes of their parts
+
+-- the lattice of a part's bytes
+unfoldable pub partOps : List ℕ → Ops ℕ
+unfolding meetOf joinOf topOf botOf isMeet isJoin element allBelow firstBelow
+partOps l = opsOf (explicitPart l)
 
 -- the N₁·N₂ entries of a table, row by row
 abbrev pub entries : (ℕ → ℕ → ℕ) → ℕ → ℕ → List ℕ
@@ -32,6 +40,8 @@ pub data Example : Type 0 where
   settlesAt : (lattice model₁ model₂ : List ℕ) (T : ℕ) → Example
   -- the value of a formula at a state
   valueIs : (lattice model : List ℕ) (φ : Formula) (q v : ℕ) → Example
+  -- the nested AX of a formula
+  nestedIs : (φ : Formula) (n : ℕ) → Example
   -- the entry of round r at a pair is not at most 'not the formula's value in model 2, joined with its value in model 1'
   exceeds : (lattice model₁ model₂ : List ℕ) (r : ℕ) (φ : Formula) (q₁ q₂ : ℕ) → Example
   -- the value of a formula on a whole model, and the score of round r
@@ -41,13 +51,15 @@ pub data Example : Type 0 where
   shareIs : (lattice table : List ℕ) (l share : ℕ) → Example
 
 abbrev pub ExampleHolds : Example → Type 0
-ExampleHolds (roundIs l m₁ m₂ r t) = entries (round (opsOf (explicitPart l)) (modelOf m₁) (modelOf m₂) r) (modelOf m₁ .states) (modelOf m₂ .states) ≡ t
-ExampleHolds (settlesAt l m₁ m₂ T) = FirstUnchanged (opsOf (explicitPart l)) (modelOf m₁) (modelOf m₂) T
-ExampleHolds (valueIs l m φ q v) = valueAt (opsOf (explicitPart l)) (modelOf m) φ q ≡ v
-ExampleHolds (exceeds l m₁ m₂ r φ q₁ q₂) = opsOf (explicitPart l) .atMost (round (opsOf (explicitPart l)) (modelOf m₁) (modelOf m₂) r q₁ q₂) (imp (opsOf (explicitPart l)) (valueAt (opsOf (explicitPart l)) (modelOf m₂) φ q₂) (valueAt (opsOf (explicitPart l)) (modelOf m₁) φ q₁)) ≡ false
-ExampleHolds (wholeIs l m φ v) = wholeValue (opsOf (explicitPart l)) (modelOf m) φ ≡ v
-ExampleHolds (scoreIs l m₁ m₂ r v) = score (opsOf (explicitPart l)) (modelOf m₁) (modelOf m₂) (round (opsOf (explicitPart l)) (modelOf m₁) (modelOf m₂) r) ≡ v
-ExampleHolds (shareIs l t a s) = share (opsOf (explicitPart l)) (length t) (λ i. getD t i 0) a ≡ s
+ExampleHolds (roundIs l m₁ m₂ r t) = entries (round (partOps l) (modelOf m₁) (modelOf m₂) r) (modelOf m₁ .states) (modelOf m₂ .states) ≡ t
+ExampleHolds (settlesAt l m₁ m₂ T) = FirstUnchanged (partOps l) (modelOf m₁) (modelOf m₂) T
+ExampleHolds (valueIs l m φ q v) = valueAt (partOps l) (modelOf m) φ q ≡ v
+ExampleHolds (nestedIs φ n) = nestedAX φ ≡ n
+ExampleHolds (exceeds l m₁ m₂ r φ q₁ q₂) =
+    partOps l .atMost (round (partOps l) (modelOf m₁) (modelOf m₂) r q₁ q₂) (imp (partOps l) (valueAt (partOps l) (modelOf m₂) φ q₂) (valueAt (partOps l) (modelOf m₁) φ q₁)) ≡ false
+ExampleHolds (wholeIs l m φ v) = wholeValue (partOps l) (modelOf m) φ ≡ v
+ExampleHolds (scoreIs l m₁ m₂ r v) = score (partOps l) (modelOf m₁) (modelOf m₂) (round (partOps l) (modelOf m₁) (modelOf m₂) r) ≡ v
+ExampleHolds (shareIs l t a s) = share (partOps l) (length t) (λ i. getD t i 0) a ≡ s
 
 -- ---- the lattices: 'L2 is 0 below 1; L3 is 0 below 1 below 2 with not-1 = 1', one element, and the subsets of {a, b, c}
 
@@ -106,46 +118,50 @@ always = nu (and (prop 0) (AX (var 0)))
 abbrev pub only : List ℕ
 only = 1 ∷ 0 ∷ 0 ∷ 0 ∷ []
 
--- ---- the examples
+-- ---- the examples, by their numbers in document 01
 
-abbrev pub examples : List Example
-examples =
-    -- 1: 'L3, both models one state, p = 1, no transitions: entry 1, T = 2.'
-    roundIs L3 middleP middleP 2 (1 ∷ [])
-    ∷ settlesAt L3 middleP middleP 2
-    -- 2: 'L2, no propositions; model 1 loops at 1, model 2 has no transition: entry 0, T = 2.'
-    ∷ roundIs L2 loop2 still2 2 (0 ∷ [])
-    ∷ settlesAt L2 loop2 still2 2
-    -- 2: 'Models exchanged: entry 1, T = 1.'
-    ∷ roundIs L2 still2 loop2 1 (1 ∷ [])
-    ∷ settlesAt L2 still2 loop2 1
-    -- 3: 'L3, no propositions; model 1 loops at 1, model 2 has no transition: entry 1.' T, which the example leaves open, is 2.
-    ∷ roundIs L3 loop3 still3 2 (1 ∷ [])
-    ∷ settlesAt L3 loop3 still3 2
-    -- 4: 'L2; model 1: 0 to 1, p = 0, 1; model 2: 0 to 1, p = 0, 0. Round 1 is 1 0 / 0 0, round 2 all 0, T = 3. AX of not-p has
-    -- value 1 at state 0 of model 2 and 0 in model 1, so round 1 does not bound it.'
-    ∷ roundIs L2 stepP stepNoP 1 (1 ∷ 0 ∷ 0 ∷ 0 ∷ [])
-    ∷ roundIs L2 stepP stepNoP 2 (0 ∷ 0 ∷ 0 ∷ 0 ∷ [])
-    ∷ settlesAt L2 stepP stepNoP 3
-    ∷ valueIs L2 stepNoP (AX (negated 0)) 0 1
-    ∷ valueIs L2 stepP (AX (negated 0)) 0 0
-    ∷ exceeds L2 stepP stepNoP 1 (AX (negated 0)) 0 0
-    -- 5: 'Subsets of {a, b, c}; from q0 two transitions of {b, c}, p there {b} and {b, c}: AX p at q0 is {a, b}, EX p is {b, c}'
-    ∷ valueIs subsets branches (AX (prop 0)) 0 3
-    ∷ valueIs subsets branches (EX (prop 0)) 0 6
-    -- 6: 'One element, n = 1: T = 1.' For all models: T-of-one-element in Rounds.
-    ∷ settlesAt L1 only only 1
-    -- 6: 'Share of 1 in 8 is 13, of 3 in 8 is 38.'
-    ∷ shareIs L2 (0 ∷ 0 ∷ 1 ∷ 0 ∷ 0 ∷ 0 ∷ 0 ∷ 0 ∷ []) 1 13
-    ∷ shareIs L2 (1 ∷ 0 ∷ 1 ∷ 0 ∷ 0 ∷ 0 ∷ 0 ∷ 1 ∷ []) 1 38
-    -- Table 1 of 000: νz.p∧AXz is {a, b}, {b} and {b}
-    ∷ valueIs subsets reaches always 0 3
-    ∷ valueIs subsets reaches always 1 2
-    ∷ valueIs subsets reaches always 2 2
-    -- what report prints for example 1 with formula p: score 1, and whole value 1 on both models
-    ∷ scoreIs L3 middleP middleP 2 1
-    ∷ wholeIs L3 middleP (prop 0) 1
-    ∷ []
+-- 'L3, both models one state, p = 1, no transitions: entry 1, T = 2.'
+abbrev pub example1 : List Example
+example1 = roundIs L3 middleP middleP 2 (1 ∷ []) ∷ settlesAt L3 middleP middleP 2 ∷ []
+
+-- 'L2, no propositions; model 1 loops at 1, model 2 has no transition: entry 0, T = 2. Models exchanged: entry 1, T = 1.'
+abbrev pub example2 : List Example
+example2 =
+    roundIs L2 loop2 still2 2 (0 ∷ []) ∷ settlesAt L2 loop2 still2 2
+    ∷ roundIs L2 still2 loop2 1 (1 ∷ []) ∷ settlesAt L2 still2 loop2 1 ∷ []
+
+-- 'L3, no propositions; model 1 loops at 1, model 2 has no transition: entry 1.' T, which the example leaves open, is 2.
+abbrev pub example3 : List Example
+example3 = roundIs L3 loop3 still3 2 (1 ∷ []) ∷ settlesAt L3 loop3 still3 2 ∷ []
+
+-- 'L2; model 1: 0 to 1, p = 0, 1; model 2: 0 to 1, p = 0, 0. Round 1 is 1 0 / 0 0, round 2 all 0, T = 3. AX of not-p has value 1 at
+-- state 0 of model 2 and 0 in model 1, so round 1 does not bound it.' It has 1 nested AX: fewer than r is needed, r is too many.
+abbrev pub example4 : List Example
+example4 =
+    roundIs L2 stepP stepNoP 1 (1 ∷ 0 ∷ 0 ∷ 0 ∷ []) ∷ roundIs L2 stepP stepNoP 2 (0 ∷ 0 ∷ 0 ∷ 0 ∷ []) ∷ settlesAt L2 stepP stepNoP 3
+    ∷ valueIs L2 stepNoP (AX (negated 0)) 0 1 ∷ valueIs L2 stepP (AX (negated 0)) 0 0
+    ∷ exceeds L2 stepP stepNoP 1 (AX (negated 0)) 0 0 ∷ nestedIs (AX (negated 0)) 1 ∷ []
+
+-- 'Subsets of {a, b, c}; from q0 two transitions of {b, c}, p there {b} and {b, c}: AX p at q0 is {a, b}, EX p is {b, c}'
+abbrev pub example5 : List Example
+example5 = valueIs subsets branches (AX (prop 0)) 0 3 ∷ valueIs subsets branches (EX (prop 0)) 0 6 ∷ []
+
+-- 'One element, n = 1: T = 1.' For all models: T-of-one-element in Rounds. 'Share of 1 in 8 is 13, of 3 in 8 is 38.'
+abbrev pub example6 : List Example
+example6 =
+    settlesAt L1 only only 1
+    ∷ shareIs L2 (0 ∷ 0 ∷ 1 ∷ 0 ∷ 0 ∷ 0 ∷ 0 ∷ 0 ∷ []) 1 13 ∷ shareIs L2 (1 ∷ 0 ∷ 1 ∷ 0 ∷ 0 ∷ 0 ∷ 0 ∷ 1 ∷ []) 1 38 ∷ []
+
+-- Table 1 of 000: νz.p∧AXz is {a, b}, {b} and {b}
+abbrev pub table1 : List Example
+table1 = valueIs subsets reaches always 0 3 ∷ valueIs subsets reaches always 1 2 ∷ valueIs subsets reaches always 2 2 ∷ []
+
+-- what report prints for example 1 with formula p: score 1, and whole value 1 on both models
+abbrev pub reported : List Example
+reported = scoreIs L3 middleP middleP 2 1 ∷ wholeIs L3 middleP (prop 0) 1 ∷ []
+
+abbrev pub examples : List (List Example)
+examples = example1 ∷ example2 ∷ example3 ∷ example4 ∷ example5 ∷ example6 ∷ table1 ∷ reported ∷ []
 
 -- ---- T by a test that is computed
 
@@ -166,42 +182,76 @@ module _ (O : Ops ℕ) (M₁ M₂ : Model ℕ) where
         least = λ t p l s. false-true (not-true _ (all-at T _ w t l)) (passed t p s);
       }
 
--- ---- Table 1 of 000, row by row
+-- ---- each example
+
+example1-holds : All ExampleHolds example1
+unfolding partOps unchangedTest roundOf F bigMeet bigJoin imp iff tab
+example1-holds = (refl, (settles-by-test _ _ _ 2 refl refl, tt))
+
+example2-holds : All ExampleHolds example2
+unfolding partOps unchangedTest roundOf F bigMeet bigJoin imp iff tab
+example2-holds = (refl, (settles-by-test _ _ _ 2 refl refl, (refl, (settles-by-test _ _ _ 1 refl refl, tt))))
+
+example3-holds : All ExampleHolds example3
+unfolding partOps unchangedTest roundOf F bigMeet bigJoin imp iff tab
+example3-holds = (refl, (settles-by-test _ _ _ 2 refl refl, tt))
+
+example4-holds : All ExampleHolds example4
+unfolding partOps unchangedTest roundOf F valueAt eval nestedAX bigMeet bigJoin imp iff tab
+example4-holds = (refl, (refl, (settles-by-test _ _ _ 3 refl refl, (refl, (refl, (refl, (refl, tt)))))))
+
+example5-holds : All ExampleHolds example5
+unfolding partOps valueAt eval bigMeet bigJoin imp
+example5-holds = (refl, (refl, tt))
+
+example6-holds : All ExampleHolds example6
+unfolding partOps unchangedTest roundOf F bigMeet bigJoin imp iff share
+example6-holds = (settles-by-test _ _ _ 1 refl refl, (refl, (refl, tt)))
 
 -- row t of the table: the body applied t times, from top; 21 is states * (n - 1)
 abbrev z : ℕ → ℕ → ℕ
-z t = iterate t (λ x. eval (opsOf (explicitPart subsets)) (modelOf reaches) 21 (and (prop 0) (AX (var 0))) (bind x (λ v q. 0))) (λ q. 7)
+z t = iterate t (λ x. eval (partOps subsets) (modelOf reaches) 21 (and (prop 0) (AX (var 0))) (bind x (λ v q. 0))) (λ q. 7)
 
 -- 'A fixed-point is reached when z2 = z3'
-z-fixed : SameMap (opsOf (explicitPart subsets)) (modelOf reaches) (z 3) (z 2)
-unfolding iterate bind eval allNext bigMeet imp meetOf joinOf topOf isMeet isJoin element allBelow firstBelow
+z-fixed : SameMap (partOps subsets) (modelOf reaches) (z 3) (z 2)
+unfolding partOps eval bigMeet imp
 z-fixed zero l = refl
 z-fixed (suc zero) l = refl
 z-fixed (suc (suc zero)) l = refl
 z-fixed (suc (suc (suc q))) l = absurd (omega arith)
 
-table1 : (q : ℕ) → q < 3 → valueAt (opsOf (explicitPart subsets)) (modelOf reaches) always q ≡ z 2 q
-unfolding valueAt eval topOf botOf allBelow firstBelow boundBy
-table1 = iterate-stays (opsOf (explicitPart subsets)) (modelOf reaches) _ (body-cong (opsOf (explicitPart subsets)) (modelOf reaches) 21 0 (and (prop 0) (AX (var 0))) refl (λ v q. 0)) (λ q. 7) 2 z-fixed 21 (lit≤ tt)
+value-z : (q : ℕ) → q < 3 → valueAt (partOps subsets) (modelOf reaches) always q ≡ z 2 q
+unfolding partOps valueAt eval boundBy
+value-z =
+    iterate-stays (partOps subsets) (modelOf reaches) _
+    (body-cong (partOps subsets) (modelOf reaches) 21 0 (and (prop 0) (AX (var 0))) refl (λ v q. 0))
+    (λ q. 7) 2 z-fixed 21 (lit≤ tt)
+
+table1-holds : All ExampleHolds table1
+unfolding partOps eval bigMeet imp
+table1-holds = (value-z 0 (lit≤ tt), (value-z 1 (lit≤ tt), (value-z 2 (lit≤ tt), tt)))
+
+reported-holds : All ExampleHolds reported
+unfolding partOps roundOf F wholeValue score eval bigMeet bigJoin imp iff
+reported-holds = (refl, (refl, tt))
 
 -- ---- Theorem 8
 
--- a pair, so that the proofs stand in the order of the list
-abbrev _&_ : {P Q : Type 0} → P → Q → P × Q
-_&_ p q = (p, q)
+pub examples-hold : All (All ExampleHolds) examples
+examples-hold = (example1-holds, (example2-holds, (example3-holds, (example4-holds, (example5-holds, (example6-holds, (table1-holds, (reported-holds, tt))))))))
 
-infixr 10 _&_
-pub examples-hold : All ExampleHolds examples
-unfolding unchangedTest roundOf F propositionPart successorPart allNext someNext eval iterate bind valueAt wholeValue score bigMeet bigJoin imp iff meetOf joinOf topOf botOf isMeet isJoin element allBelow firstBelow count share tab
-examples-hold =
-    refl & settles-by-test _ _ _ 2 refl refl
-    & refl & settles-by-test _ _ _ 2 refl refl
-    & refl & settles-by-test _ _ _ 1 refl refl
-    & refl & settles-by-test _ _ _ 2 refl refl
-    & refl & refl & settles-by-test _ _ _ 3 refl refl & refl & refl & refl
-    & refl & refl
-    & settles-by-test _ _ _ 1 refl refl
-    & refl & refl
-    & table1 0 (lit≤ tt) & table1 1 (lit≤ tt) & table1 2 (lit≤ tt)
-    & refl & refl
-    & tt
+-- ---- 'T is at most N1·N2·(h − 1) + 1' is met in example 2, with h = 2: no smaller bound holds
+
+L2-longest : LongestChain (partOps L2) 2
+unfolding partOps
+L2-longest =
+    record {
+      chain = 0 ∷ 1 ∷ [];
+      isChain = record { elements = (refl, (refl, tt)); distinct = ((λ e. omega arith, tt), (tt, tt)); ordered = ((inl refl, tt), (tt, tt)) };
+      isLong = refl;
+      longest = λ l c. distinct-le 2 l (all-map _ _ (λ a t. ltb-true _ _ t) l (c .elements)) (c .distinct);
+    }
+
+pub bound-met : LongestChain (partOps L2) 2 × ExampleHolds (settlesAt L2 loop2 still2 (modelOf loop2 .states * modelOf still2 .states * steps 2 + 1))
+unfolding partOps unchangedTest roundOf F bigMeet bigJoin imp
+bound-met = (L2-longest, settles-by-test _ _ _ _ refl refl)

@@ -1,16 +1,16 @@
 -- Theorem 2: values are monotone in the environment; a fixpoint's value is the least (greatest) map that its body sends to itself;
 -- the number of applications of a body does not matter from states * (n - 1) on; so values are those of the latticed mu-calculus.
 -- Rests on Value, Calculus, Folds, Descent.
-use Prim.Native.Nat.{ℕ, zero, suc, _+_, _*_, _-_, _≤_, _<_}
+use Prim.Native.Nat.{ℕ, zero, suc, _*_, _-_, _≤_, _<_}
 use mathlib.Core.Path.{_≡_, refl, sym, ap₂, _∙_}
-use mathlib.Core.Bool.{Bool, true, false, _&&_}
+use mathlib.Core.Bool.{true}
 use mathlib.Core.List.{List}
 use native.Mathlib.Nat.{mul-one, le-refl, le-trans, not-suc-le-zero}
 use native.Mathlib.Decide.{le-ind}
 use native.Mathlib.Omega.{arith}
 use borrow.Author.Tests.{ltb-true}
 use lib.ListN.{length}
-use Rattle.theory.specs.Lattice.{Ops, Laws, AtMost, Element, Chain, imp, bigMeet, bigJoin}
+use Rattle.theory.specs.Lattice.{Ops, Laws, AtMost, Element, Chain}
 use Rattle.theory.specs.Model.{Model, Valued}
 use Rattle.theory.specs.Formula.{Formula, bottom, top, prop, negated, var, or, and, AX, EX, mu, nu, boundBy, overProps, closed}
 use Rattle.theory.specs.Value.{iterate, bind, allNext, someNext, eval, enough, valueAt, ToElements, SameMap, AtMostMap, LeastFixpoint, GreatestFixpoint}

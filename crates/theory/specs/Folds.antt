@@ -1,6 +1,6 @@
 -- Theorem 1: bounds, monotonicity and distribution of finite meets and joins, the De Morgan laws, and the laws of → and ↔.
 -- Rests on Lattice, Test.
-use Prim.Native.Nat.{ℕ, zero, suc, _≤_, _<_}
+use Prim.Native.Nat.{ℕ, zero, suc, _<_}
 use mathlib.Core.Path.{_≡_, refl}
 use native.Mathlib.Nat.{le-refl, not-suc-le-zero}
 use native.Mathlib.Omega.{arith}

@@ -1,13 +1,13 @@
 -- The rest of theorem 4: in a lattice on the numbers below n there is a longest chain, of at most n elements.
 -- Rests on Lattice, Simulation (one), Test, Descent.
-use Prim.Native.Nat.{ℕ, zero, suc, _+_, _*_, _≤_, _<_, zero-le}
+use Prim.Native.Nat.{ℕ, zero, suc, _+_, _≤_, _<_, zero-le}
 use mathlib.Core.Path.{_≡_, refl, sym, ap, _∙_}
 use mathlib.Core.Bool.{Bool, true, false}
 use mathlib.Core.Logic.{_⊎_, inl, inr, _≢_, ⊎-swap}
 use mathlib.Core.List.{List, [], _∷_}
 use native.Mathlib.Nat.{le-refl, le-trans, mul-one}
 use native.Mathlib.Omega.{arith}
-use borrow.Author.Tests.{ltb-true, lt-ltb, eqb-true, eq-eqb, ne-eqb, eqb-false}
+use borrow.Author.Tests.{ltb-true, eqb-true, eq-eqb, ne-eqb, eqb-false}
 use lib.Dec.{eqb, ltb}
 use lib.ListN.{length}
 use Rattle.theory.specs.Lattice.{Ops, AtMost, Element, All, Pairwise, Chain, LongestChain}

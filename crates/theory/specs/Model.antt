@@ -1,6 +1,5 @@
 -- Latticed Kripke structures. Rests on Lattice.
 use Prim.Native.Nat.{ℕ, _<_}
-use mathlib.Core.Path.{_≡_}
 use Rattle.theory.specs.Lattice.{Ops, Element}
 
 -- A latticed Kripke structure (000, section 2: states, initial values Q0, transition values R, a value of each proposition at

@@ -1,14 +1,14 @@
 -- Theorems 6 and 7: what a table bounds. Theorem 3 of 000 by rounds and for every table at or below its F, and theorem 6.1 of 000.
 -- Rests on Value, Simulation, Folds, Fixpoint, Rounds.
-use Prim.Native.Nat.{ℕ, zero, suc, _+_, _*_, _-_, _≤_, _<_, max}
+use Prim.Native.Nat.{ℕ, zero, suc, _<_, max}
 use mathlib.Core.Path.{_≡_, refl}
 use mathlib.Core.Bool.{true}
-use native.Mathlib.Nat.{not-suc-le-zero}
+use native.Mathlib.Nat.{le-of-suc-le-suc, not-suc-le-zero}
 use native.Mathlib.Omega.{arith}
 use borrow.Author.Tests.{ltb-true}
-use Rattle.theory.specs.Lattice.{Ops, Laws, AtMost, imp, iff, bigMeet, bigJoin}
+use Rattle.theory.specs.Lattice.{Ops, Laws, AtMost, imp, bigMeet, bigJoin}
 use Rattle.theory.specs.Model.{Model}
-use Rattle.theory.specs.Formula.{Formula, bottom, top, prop, negated, var, or, and, AX, EX, mu, nu, closed, boundBy, universal, fixpointFree, overProps, nestedAX, UniversalSentence}
+use Rattle.theory.specs.Formula.{Formula, bottom, top, prop, negated, var, or, and, AX, EX, mu, nu, boundBy, universal, fixpointFree, overProps, nestedAX, UniversalSentence}
 use Rattle.theory.specs.Value.{iterate, bind, allNext, someNext, eval, enough, valueAt, wholeValue}
 use Rattle.theory.specs.Simulation.{propositionPart, successorPart, F, roundOf, round, AtMostTable, Bounds, FirstUnchanged, score}
 use Rattle.theory.specs.Folds.{bigMeet-le, bigMeet-mono, bigJoin-lub, join-bigMeet, meet-mono, join-mono, imp-mono, imp-meet, imp-join, imp-bot, imp-top, imp-neg, iff-l, iff-r, de-morgan-join}
@@ -71,7 +71,7 @@ module _ {A : Type 0} {O : Ops A} (L : Laws O) (M₁ M₂ : Model A) where
       (eval-by-round K J e d g (and-r (boundBy 0 f) _ c) (and-r (universal f) _ u) (and-r (overProps (M₁ .propositions) f) _ o) (and-r (fixpointFree f) _ x) r (omega arith) q₁ l q₂ m))
       (imp-meet L _ _ _ _)
   eval-by-round K J e d (AX f) c u o x zero h q₁ l q₂ m = absurd (not-suc-le-zero h)
-  eval-by-round K J e d (AX f) c u o x (suc r) h q₁ l q₂ m = bounds-next _ _ _ (eval-by-round K J e d f c u o x r (omega arith)) q₁ q₂
+  eval-by-round K J e d (AX f) c u o x (suc r) h q₁ l q₂ m = bounds-next _ _ _ (eval-by-round K J e d f c u o x r (le-of-suc-le-suc h)) q₁ q₂
   eval-by-round K J e d (EX f) c u o x r h q₁ l q₂ m = absurd (false-true refl u)
   eval-by-round K J e d (mu f) c u o x r h q₁ l q₂ m = absurd (false-true refl x)
   eval-by-round K J e d (nu f) c u o x r h q₁ l q₂ m = absurd (false-true refl x)

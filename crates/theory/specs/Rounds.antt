@@ -11,8 +11,8 @@ use native.Mathlib.Omega.{arith}
 use lib.ListN.{length}
 use Rattle.theory.specs.Lattice.{Ops, Laws, AtMost, Element, Chain, LongestChain, imp}
 use Rattle.theory.specs.Model.{Model}
-use Rattle.theory.specs.Value.{allNext, someNext}
-use Rattle.theory.specs.Simulation.{successorPart, F, round, roundOf, SameTable, AtMostTable, FixedBy, GreatestFixedBy, FirstUnchangedOf, FirstUnchanged, Simulation, GreatestSimulation, score}
+use Rattle.theory.specs.Value.{someNext}
+use Rattle.theory.specs.Simulation.{successorPart, F, round, roundOf, SameTable, AtMostTable, FixedBy, FirstUnchangedOf, FirstUnchanged, GreatestSimulation, score}
 use Rattle.theory.specs.Folds.{meet-mono, bigMeet-cong, bigJoin-cong}
 use Rattle.theory.specs.Descent.{First, Unlowered, lowerings, first-unlowered, lowerings-le, downwards, apart-length}
 use Rattle.theory.specs.Fixpoint.{allNext-cong, someNext-cong, allNext-mono, someNext-mono, chain-size}
@@ -33,6 +33,13 @@ module _ {A : Type 0} (O : Ops A) (M₁ M₂ : Model A) where
   unfolding roundOf
   round-next r q₁ q₂ = refl
 
+  -- T is one number, for any operator on tables
+  pub T-unique : (G : (ℕ → ℕ → A) → ℕ → ℕ → A) (T U : ℕ) → FirstUnchangedOf O M₁ M₂ G T → FirstUnchangedOf O M₁ M₂ G U → T ≡ U
+  T-unique G T U f g =
+      let x : ¬ (U < T) = λ l. f .least U (g .above0) l (g .unchanged) in
+      let y : ¬ (T < U) = λ l. g .least T (f .above0) l (f .unchanged) in
+      omega arith
+
   -- ---- an operator that reads its table only at the pairs of states
 
   module _ (G : (ℕ → ℕ → A) → ℕ → ℕ → A) (cong : (S U : ℕ → ℕ → A) → SameTable O M₁ M₂ S U → (q₁ q₂ : ℕ) → G S q₁ q₂ ≡ G U q₁ q₂) where
@@ -51,13 +58,6 @@ module _ {A : Type 0} (O : Ops A) (M₁ M₂ : Model A) where
     pub fixed-at-T : (T : ℕ) → FirstUnchangedOf O M₁ M₂ G T → FixedBy O M₁ M₂ G (roundOf O M₁ M₂ G T)
     unfolding roundOf
     fixed-at-T T f q₁ l q₂ m = sym (stays T f (suc T) (omega arith) q₁ l q₂ m)
-
-    -- T is one number
-    pub T-unique : (T U : ℕ) → FirstUnchangedOf O M₁ M₂ G T → FirstUnchangedOf O M₁ M₂ G U → T ≡ U
-    T-unique T U f g =
-        let x : ¬ (U < T) = λ l. f .least U (g .above0) l (g .unchanged) in
-        let y : ¬ (T < U) = λ l. g .least T (f .above0) l (f .unchanged) in
-        omega arith
 
 module _ {A : Type 0} {O : Ops A} (L : Laws O) (M₁ M₂ : Model A) where
   pub F-mono : {S U : ℕ → ℕ → A} → AtMostTable O M₁ M₂ S U → (q₁ q₂ : ℕ) → AtMost O (F O M₁ M₂ S q₁ q₂) (F O M₁ M₂ U q₁ q₂)
@@ -118,8 +118,8 @@ module _ {A : Type 0} {O : Ops A} (L : Laws O) (M₁ M₂ : Model A) where
                   (λ q₁ k q₂ m. subst (λ (n : ℕ). AtMost O (roundOf O M₁ M₂ G n q₁ q₂) (roundOf O M₁ M₂ G (suc t) q₁ q₂)) (sub-one (suc t)) (rw (← s q₁ k q₂ m) (L .rfl _)))
 
       -- whatever T is, the bound holds of it
-      pub T-within : (cong : (S U : ℕ → ℕ → A) → SameTable O M₁ M₂ S U → (q₁ q₂ : ℕ) → G S q₁ q₂ ≡ G U q₁ q₂) (h : ℕ) → ((l : List A) → Chain O l → length l ≤ h) → (T : ℕ) → FirstUnchangedOf O M₁ M₂ G T → T ≤ M₁ .states * M₂ .states * (h - 1) + 1
-      T-within cong h longest T f = let w = exists-T h longest in omega (arith, w .1, T-unique O M₁ M₂ G cong T (w .0) f (w .2))
+      pub T-within : (h : ℕ) → ((l : List A) → Chain O l → length l ≤ h) → (T : ℕ) → FirstUnchangedOf O M₁ M₂ G T → T ≤ M₁ .states * M₂ .states * (h - 1) + 1
+      T-within h longest T f = let w = exists-T h longest in omega (arith, w .1, T-unique O M₁ M₂ G T (w .0) f (w .2))
 
   -- ==== for F
 
@@ -138,10 +138,10 @@ module _ {A : Type 0} {O : Ops A} (L : Laws O) (M₁ M₂ : Model A) where
   T-exists h c = exists-T (F O M₁ M₂) (λ S U. F-mono) F-element h (c .longest)
 
   pub T-at-most : (h : ℕ) → LongestChain O h → (T : ℕ) → FirstUnchanged O M₁ M₂ T → T ≤ M₁ .states * M₂ .states * (h - 1) + 1
-  T-at-most h c = T-within (F O M₁ M₂) (λ S U. F-mono) F-element (λ S U. F-cong O M₁ M₂) h (c .longest)
+  T-at-most h c = T-within (F O M₁ M₂) (λ S U. F-mono) F-element h (c .longest)
 
   pub T-at-most-size : (T : ℕ) → FirstUnchanged O M₁ M₂ T → T ≤ M₁ .states * M₂ .states * (O .size - 1) + 1
-  T-at-most-size = T-within (F O M₁ M₂) (λ S U. F-mono) F-element (λ S U. F-cong O M₁ M₂) (O .size) (chain-size L)
+  T-at-most-size = T-within (F O M₁ M₂) (λ S U. F-mono) F-element (O .size) (chain-size L)
 
   -- worked example 6: 'One element, n = 1: T = 1', for any two models
   pub T-of-one-element : O .size ≡ 1 → FirstUnchanged O M₁ M₂ 1

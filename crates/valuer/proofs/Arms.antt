@@ -10,7 +10,7 @@ use borrow.Author.Tests.{ltb-true}
 use lib.ListN.{length, getD, replicate, getD-replicate, length-append}
 use Rattle.theory.specs.Lattice.{imp}
 use Rattle.theory.specs.Folds.{bigMeet-cong}
-use Rattle.theory.specs.Formula.{Formula, bottom, top, and, boundBy, overProps}
+use Rattle.theory.specs.Formula.{Formula, bottom, top, boundBy, overProps}
 use Rattle.theory.specs.Fixpoint.{allNext-cong, someNext-cong}
 use Rattle.theory.specs.Loop.{Filled}
 use Rattle.theory.specs.Part.{modelOf}

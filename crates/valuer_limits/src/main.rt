@@ -4,7 +4,7 @@ use formula::FormulaCheck;
 use operations::Element;
 use operations::Lattice;
 ghost use mathlib.Core.Path.{_≡_};
-ghost use Prim.Native.Nat.{_≤_, _<_};
+ghost use Prim.Native.Nat.{_<_};
 ghost use lib.ListN.{length, getD};
 ghost use Rattle.theory.specs.Part.{ModelShape};
 

@@ -36,7 +36,7 @@ loop-less : tie.Need-loop-less Inv-loop μ-loop
 loop-less c = omega arith
 
 loop-again : tie.Need-loop-again Inv-loop μ-loop
-loop-again c = (omega arith, counted-more (c .before .before .before .before .loop .inv .1) (cc))
+loop-again c = (omega arith, counted-more (c .before .before .before .before .loop .inv .1) (c .before .at-most .ensures) (c .one-if .ensures))
 
 returns : tie.Need-returns Inv-loop μ-loop
 returns c = counted-all (c .before .loop .inv .1) (c .before .loop .inv .0) (c .loop-test .left)

@@ -43,7 +43,7 @@ loop-less : tie.Need-loop-less Inv-loop μ-loop
 loop-less c = omega arith
 
 loop-again : tie.Need-loop-again Inv-loop μ-loop
-loop-again c = (omega arith, folded-more (c .before .before .before .before .before .loop .inv .1) (cc))
+loop-again c = (omega arith, folded-more (c .before .before .before .before .before .loop .inv .1) (c .before .meet .ensures) (c .join .ensures))
 
 returns : tie.Need-returns Inv-loop μ-loop
 returns c = folded-join _ (c .before .loop .inv .1) (c .before .loop .inv .0) (c .loop-test .left)

@@ -7,6 +7,7 @@ use Rattle.theory.specs.Lattice.{imp, bigJoin}
 use Rattle.operations.specs.Table.{meetIn, joinIn, complementIn, opsIn}
 use Rattle.model.specs.Places.{row-le}
 use Rattle.rounds.specs.Folded.{Folded, folded-none, folded-more, folded-meet}
+use Rattle.rounds.specs.Entry.{implies-next}
 use Rattle.rounds.proofs.matching.Statement.{statement}
 use Rattle.rounds.proofs.matching.Tie as tie
 
@@ -48,7 +49,14 @@ loop-less : tie.Need-loop-less Inv-loop μ-loop
 loop-less c = search needs
 
 loop-again : tie.Need-loop-again Inv-loop μ-loop
-loop-again c = (omega arith, folded-more (c .before .before .before .before .before .loop .inv .1) (cc))
+loop-again c =
+    let a = c .before .before .before .before .before .before .before .before .before .before .args in
+    let b = c .before .before .before in (
+      omega arith,
+      folded-more (b .before .before .loop .inv .1)
+          (implies-next (a .t .now) (getD (a .a .now) (a .at1 + b .before .before .loop .q) 0) (b .join-of-meets .result .0) _ _ (c .before .implies .ensures) (b .join-of-meets .ensures))
+          (c .meet .ensures),
+    )
 
 returns : tie.Need-returns Inv-loop μ-loop
 unfolding imp

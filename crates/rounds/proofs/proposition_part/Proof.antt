@@ -55,7 +55,7 @@ loop-less : tie.Need-loop-less Inv-loop μ-loop
 loop-less c = search needs
 
 loop-again : tie.Need-loop-again Inv-loop μ-loop
-loop-again c = (omega arith, folded-more (c .before .before .before .before .before .loop .inv .1) (cc))
+loop-again c = (omega arith, folded-more (c .before .before .before .before .before .loop .inv .1) (c .before .equivalent .ensures) (c .meet .ensures))
 
 returns : tie.Need-returns Inv-loop μ-loop
 returns c =

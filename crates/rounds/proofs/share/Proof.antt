@@ -1,7 +1,7 @@
 -- `rounds::share` meets its contract: the count, as a per cent. Assumes nothing.
 use native.Mathlib.Omega.{arith}
-use Rattle.theory.specs.Simulation.{share}
 use Rattle.rounds.specs.Folded.{percent-fits}
+use Rattle.rounds.specs.Share.{share-counted}
 use borrow.Author.Needs.{needs}
 use Rattle.rounds.proofs.share.Statement.{statement}
 use Rattle.rounds.proofs.share.Tie as tie
@@ -27,8 +27,9 @@ cast-result c =
     record { fits = percent-fits {t = b .args .n} (b .pre .0) (omega (arith, c .count-from .ensures .most)) }
 
 returns : tie.Need-returns
-unfolding share
-returns c l = rw (← c .count-from .ensures .eq)
+returns c =
+    let a = c .before .before .args in
+    share-counted (a .t .now) (a .e .0) (a .s .now) (a .n) _ (c .count-from .ensures)
 
 pub share-spec : {M : Type 1} → statement M
 share-spec =
