@@ -31,25 +31,26 @@ pub record AcceptedCase (b : List ℕ) (s : Sizes) (t : List ℕ) : Type 0 where
   pub parts : PartsAre b holds
   pub short : length (gapless (partsOf b)) ≤ 16618
 
+unfoldable pub accepted-as : (b : List ℕ) (c : Content) (s : Sizes) (t : List ℕ) → caseReading b ≡ content c → s ≡ sizesOf c → opsIn t (s .lattice) ≡ opsOf (c .lattice) → AcceptedCase b s t
+accepted-as b c s t e q p =
+    record {
+      holds = c;
+      reads = e;
+      sizes = q;
+      tables = p;
+      laws = rw p (content-sound b c e .laws);
+      sound = content-sound b c e;
+      placed = accepted-placed b c e;
+      parts = parts-are b c e;
+      short = written-most b c e;
+    }
+
 pub when-accepted : (b : List ℕ) (r : CaseCheck) (s : Sizes) (t : List ℕ) → CaseAnswered b r t → r ≡ Accepted s → AcceptedCase b s t
 when-accepted b r s t w k = go (caseReading b) refl (sym k ∙ w .answer)
   where
     go : (x : CaseReading) → caseReading b ≡ x → Accepted s ≡ caseAnswer x → AcceptedCase b s t
     go (refused f) e h = absurd (let z : _≡_ {A = ℕ} 0 1 = cc in omega arith)
-    go (content c) e h =
-        let q : s ≡ sizesOf c = cc in
-        let p : opsIn t (s .lattice) ≡ opsOf (c .lattice) = rw q (w .tables c e) in
-        record {
-          holds = c;
-          reads = e;
-          sizes = q;
-          tables = p;
-          laws = rw p (content-sound b c e .laws);
-          sound = content-sound b c e;
-          placed = accepted-placed b c e;
-          parts = parts-are b c e;
-          short = written-most b c e;
-        }
+    go (content c) e h = let q : s ≡ sizesOf c = cc in accepted-as b c s t e q (rw q (w .tables c e))
 
 -- after the answer that it is refused
 pub when-refused : (b : List ℕ) (r : CaseCheck) (f : Refusal) (t : List ℕ) → CaseAnswered b r t → r ≡ Refused f → caseReading b ≡ refused f
