@@ -8,8 +8,7 @@ use native.Mathlib.Omega.{arith}
 use borrow.Author.Tests.{ltb-true, ltb-false, leb-true, lt-ltb, le-ltb, le-leb, not-false}
 use lib.Dec.{ltb, leb}
 use lib.ListN.{length}
-use Rattle.theory.specs.Test.{and-l, and-r, first-is, first-unique}
-use Rattle.model.specs.Reading.{all-four}
+use Rattle.theory.specs.Test.{and-l, and-r, all-four, first-is, first-unique}
 use Rattle.refusal.specs.declared.Refusal.the-variants.{CaseSize, Directory, PartPlace}
 use Rattle.casefile.specs.Directory.{partCount, directoryEnd, partStart, partSize, partEnd, endBefore, placed, sizeTest, directoryTest, misplaced, partAt, partsFrom}
 use Rattle.casefile.specs.Reading.{Content, CaseReading, partsReading, caseReading, refused, content}

@@ -10,6 +10,7 @@ pub mod Agree
 pub mod Form
 pub mod PanelLattice
 pub mod Caller
+pub mod Examples
 -- ---- for the code
 pub mod Scan
 pub mod Distributive

@@ -11,7 +11,7 @@ use lib.Dec.{ltb, leb, eqb}
 use lib.ListN.{length, getD}
 use Rattle.theory.specs.Model.{Valued}
 use Rattle.theory.specs.Part.{LatticePart, opsOf, modelOf, modelLength, ModelShape}
-use Rattle.theory.specs.Test.{allBelow, and-l, and-r, and-in, all-at, all-in, not-passed}
+use Rattle.theory.specs.Test.{allBelow, and-l, and-r, and-in, all-four, all-at, all-in, not-passed}
 use Rattle.model.specs.Places.{row-le}
 use Rattle.model.specs.declared.ModelCheck.{ModelCheck}
 use Rattle.model.specs.declared.ModelCheck.the-variants.{Refused, Accepted}
@@ -37,19 +37,6 @@ unfolding modelTest
 modelAnswer n b = cond (modelTest n b) (Accepted (getD b 0 0) (getD b 1 0)) Refused
 
 -- ---- an accepted part has its shape
-
--- four tests, all passed
-pub record FourPassed (a b c d : Bool) : Type 0 where
-  pub first : a ≡ true
-  pub second : b ≡ true
-  pub third : c ≡ true
-  pub fourth : d ≡ true
-
-pub all-four : (a b c d : Bool) → (a && b && c && d) ≡ true → FourPassed a b c d
-all-four a b c d t =
-    let u = and-l (a && b && c) d t in
-    let v = and-l (a && b) c u in
-    record { first = and-l a b v; second = and-r a b v; third = and-r (a && b) c u; fourth = and-r (a && b && c) d t }
 
 pub shape-of : (b : List ℕ) → sizesTest b ≡ true → ModelShape b
 shape-of b t =

@@ -51,6 +51,19 @@ and-r false b t = cc
 pub and-in : (a b : Bool) → a ≡ true → b ≡ true → (a && b) ≡ true
 and-in a b p q = rw (p, q)
 
+-- four tests, all passed
+pub record FourPassed (a b c d : Bool) : Type 0 where
+  pub first : a ≡ true
+  pub second : b ≡ true
+  pub third : c ≡ true
+  pub fourth : d ≡ true
+
+pub all-four : (a b c d : Bool) → (a && b && c && d) ≡ true → FourPassed a b c d
+all-four a b c d t =
+    let u = and-l (a && b && c) d t in
+    let v = and-l (a && b) c u in
+    record { first = and-l a b v; second = and-r a b v; third = and-r (a && b) c u; fourth = and-r (a && b && c) d t }
+
 pub and-false : (a : Bool) → (a && false) ≡ false
 and-false true = refl
 and-false false = refl

@@ -1,0 +1,27 @@
+-- The lattices of the worked examples are accepted: the bytes that stand in theory's Examples are lattice parts, by computation.
+-- Rests on theory's Examples and Reading.
+use mathlib.Core.Path.{_≡_, refl}
+use Rattle.theory.specs.Part.{isMeet, isJoin, meetOf, joinOf, explicitPart}
+use Rattle.theory.specs.Test.{allBelow, firstBelow}
+use Rattle.theory.specs.Examples.{L1, L2, L3, subsets}
+use Rattle.lattice.specs.Reading.{isPanel, latticeOf, explicitForm, latticeForm, reflexive, antisymmetric, transitive, partialOrder, bounded, distributive, complementRules, require, partReading, accepted, latticeReading}
+
+-- one element
+pub L1-accepted : latticeReading L1 ≡ accepted (explicitPart L1)
+unfolding isMeet isJoin meetOf joinOf allBelow firstBelow isPanel latticeOf explicitForm latticeForm reflexive antisymmetric transitive partialOrder bounded distributive complementRules require partReading latticeReading
+L1-accepted = refl
+
+-- 'L2 is 0 below 1'
+pub L2-accepted : latticeReading L2 ≡ accepted (explicitPart L2)
+unfolding isMeet isJoin meetOf joinOf allBelow firstBelow isPanel latticeOf explicitForm latticeForm reflexive antisymmetric transitive partialOrder bounded distributive complementRules require partReading latticeReading
+L2-accepted = refl
+
+-- 'L3 is 0 below 1 below 2 with not-1 = 1'
+pub L3-accepted : latticeReading L3 ≡ accepted (explicitPart L3)
+unfolding isMeet isJoin meetOf joinOf allBelow firstBelow isPanel latticeOf explicitForm latticeForm reflexive antisymmetric transitive partialOrder bounded distributive complementRules require partReading latticeReading
+L3-accepted = refl
+
+-- 'Subsets of {a, b, c}'
+pub subsets-accepted : latticeReading subsets ≡ accepted (explicitPart subsets)
+unfolding isMeet isJoin meetOf joinOf allBelow firstBelow isPanel latticeOf explicitForm latticeForm reflexive antisymmetric transitive partialOrder bounded distributive complementRules require partReading latticeReading
+subsets-accepted = refl
