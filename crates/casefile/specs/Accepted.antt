@@ -131,6 +131,45 @@ case-exactly b c = (λ e. let a = accepted-case b c e in (a .placed, a .parts, a
         let q : partAt b 0 ∷ partAt b 1 ∷ partAt b 2 ∷ partsFrom b 3 (partCount b - 3) ≡ contentParts c = sym (parts-four b (p .directory .count-least)) ∙ s in
         placed-reading b p ∙ cc (q, parts-read c r)
 
+-- ---- the formulas of formula parts
+
+-- as many formulas as parts, and each part is read as its formula
+pub record FormulasRead (k : ℕ) (ps : List (List ℕ)) (φs : List Formula) : Type 0 where
+  pub as-many : length φs ≡ length ps
+  pub each : (f : ℕ) → f < length φs → formulaReading k (getD ps f []) ≡ FormulaReading.read (getD φs f bottom)
+
+-- one part more, and one less
+read-more : (k : ℕ) (p : List ℕ) (ps : List (List ℕ)) (φ : Formula) (φs : List Formula) → formulaReading k p ≡ FormulaReading.read φ → FormulasRead k ps φs → FormulasRead k (p ∷ ps) (φ ∷ φs)
+read-more k p ps φ φs e h = record { as-many = ap suc (h .as-many); each = each }
+  where
+    each : (f : ℕ) → f < length (φ ∷ φs) → formulaReading k (getD (p ∷ ps) f []) ≡ FormulaReading.read (getD (φ ∷ φs) f bottom)
+    each zero l = e
+    each (suc f) l = h .each f (le-of-suc-le-suc l)
+
+read-less : (k : ℕ) (p : List ℕ) (ps : List (List ℕ)) (φ : Formula) (φs : List Formula) → FormulasRead k (p ∷ ps) (φ ∷ φs) → (formulaReading k p ≡ FormulaReading.read φ) × FormulasRead k ps φs
+read-less k p ps φ φs h = (h .each 0 (omega arith), record { as-many = omega (arith, h .as-many); each = λ f l. h .each (suc f) (omega arith) })
+
+pub formulas-read : (k i : ℕ) (ps : List (List ℕ)) (φs : List Formula) → formulasReading k i ps ≡ read φs → FormulasRead k ps φs
+unfolding formulasReading
+formulas-read k i [] φs e = let q : φs ≡ [] = cc in rw q (record { as-many = refl; each = λ f l. absurd (not-suc-le-zero l) })
+formulas-read k i (p ∷ ps) φs e = go (formulaReading k p) refl (formulasReading k (suc i) ps) (formulas-read k (suc i) ps) e
+  where
+    go : (x : FormulaReading) → formulaReading k p ≡ x → (y : FormulasReading) → ((ψs : List Formula) → y ≡ read ψs → FormulasRead k ps ψs) → readOne i x y ≡ read φs → FormulasRead k (p ∷ ps) φs
+    go FormulaReading.refused f y h u = absurd (let z : _≡_ {A = ℕ} 0 1 = cc in omega arith)
+    go (FormulaReading.read φ) f (refusedAt j) h u = absurd (let z : _≡_ {A = ℕ} 0 1 = cc in omega arith)
+    go (FormulaReading.read φ) f (read ψs) h u = let q : φs ≡ φ ∷ ψs = cc in rw q (read-more k p ps φ ψs f (h ψs refl))
+
+read-formulas : (k i : ℕ) (ps : List (List ℕ)) (φs : List Formula) → FormulasRead k ps φs → formulasReading k i ps ≡ read φs
+unfolding formulasReading
+read-formulas k i [] [] h = refl
+read-formulas k i [] (φ ∷ φs) h = absurd (omega (arith, h .as-many))
+read-formulas k i (p ∷ ps) [] h = absurd (omega (arith, h .as-many))
+read-formulas k i (p ∷ ps) (φ ∷ φs) h = let w = read-less k p ps φ φs h in simp (w .0, read-formulas k (suc i) ps φs (w .1))
+
+-- Parts are read as formulas exactly when there are as many of both and each part is read as its formula; i is the first part's number.
+pub formulas-exactly : (k i : ℕ) (ps : List (List ℕ)) (φs : List Formula) → (formulasReading k i ps ≡ read φs) ↔ FormulasRead k ps φs
+formulas-exactly k i ps φs = (formulas-read k i ps φs, read-formulas k i ps φs)
+
 -- ---- lengths
 
 form-passes : (l : List ℕ) (P : LatticePart) → latticeReading l ≡ LatticeReading.accepted P → latticeForm l ≡ true
@@ -156,28 +195,11 @@ model-most : (b : List ℕ) → ModelShape b → length b ≤ 5186
 model-most b s =
     omega (arith, s .exact, s .states-most, prod-le (getD b 0 0) (getD b 1 0) 64 16 (s .states-most) (s .propositions-most), prod-le (getD b 0 0) (getD b 0 0) 64 64 (s .states-most) (s .states-most))
 
--- the formulas of formula parts: as many, each part is read as its formula, and has at most 255 bytes
-pub record FormulasRead (k : ℕ) (ps : List (List ℕ)) (φs : List Formula) : Type 0 where
-  pub as-many : length φs ≡ length ps
-  pub short : All (λ p. length p ≤ 255) ps
-  pub each : (f : ℕ) → f < length φs → formulaReading k (getD ps f []) ≡ FormulaReading.read (getD φs f bottom)
-
-each-more : (k : ℕ) (p : List ℕ) (ps : List (List ℕ)) (φ : Formula) (φs : List Formula) → formulaReading k p ≡ FormulaReading.read φ → FormulasRead k ps φs → (f : ℕ) → f < length (φ ∷ φs) → formulaReading k (getD (p ∷ ps) f []) ≡ FormulaReading.read (getD (φ ∷ φs) f bottom)
-each-more k p ps φ φs e h zero l = e
-each-more k p ps φ φs e h (suc f) l = h .each f (le-of-suc-le-suc l)
-
-pub formulas-read : (k i : ℕ) (ps : List (List ℕ)) (φs : List Formula) → formulasReading k i ps ≡ read φs → FormulasRead k ps φs
-unfolding formulasReading
-formulas-read k i [] φs e = let q : φs ≡ [] = cc in rw q (record { as-many = refl; short = tt; each = λ f l. absurd (not-suc-le-zero l) })
-formulas-read k i (p ∷ ps) φs e = go (formulaReading k p) refl (formulasReading k (suc i) ps) (formulas-read k (suc i) ps) e
-  where
-    go : (x : FormulaReading) → formulaReading k p ≡ x → (y : FormulasReading) → ((ψs : List Formula) → y ≡ read ψs → FormulasRead k ps ψs) → readOne i x y ≡ read φs → FormulasRead k (p ∷ ps) φs
-    go FormulaReading.refused f y h u = absurd (let z : _≡_ {A = ℕ} 0 1 = cc in omega arith)
-    go (FormulaReading.read φ) f (refusedAt j) h u = absurd (let z : _≡_ {A = ℕ} 0 1 = cc in omega arith)
-    go (FormulaReading.read φ) f (read ψs) h u =
-        let q : φs ≡ φ ∷ ψs = cc in
-        let w = h ψs refl in
-        rw q (record { as-many = ap suc (w .as-many); short = (formula-part k p φ f .most, w .short); each = each-more k p ps φ ψs f w })
+-- a part that is read as a formula has at most 255 bytes
+formulas-short : (k : ℕ) (ps : List (List ℕ)) (φs : List Formula) → FormulasRead k ps φs → All (λ p. length p ≤ 255) ps
+formulas-short k [] φs h = tt
+formulas-short k (p ∷ ps) [] h = absurd (omega (arith, h .as-many))
+formulas-short k (p ∷ ps) (φ ∷ φs) h = let w = read-less k p ps φ φs h in (formula-part k p φ (w .0) .most, formulas-short k ps φs (w .1))
 
 joined-most : (ps : List (List ℕ)) → All (λ p. length p ≤ 255) ps → length (joined ps) ≤ 255 * length ps
 unfolding joined
@@ -197,7 +219,7 @@ gapless-most b c e = go (accepted-case b c e)
     go : Accepted b c → length (gapless (contentParts c)) ≤ 16618
     go a =
         let r = a .reads in
-        let s = formulas-read (getD (c .model1Bytes) 1 0) 3 (c .formulaBytes) (c .formulas) (r .formulas-read) .short in
+        let s = formulas-short _ _ _ (formulas-read (getD (c .model1Bytes) 1 0) 3 (c .formulaBytes) (c .formulas) (r .formulas-read)) in
         omega (
           arith,
           gapless-length (contentParts c),

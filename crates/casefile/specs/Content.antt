@@ -1,8 +1,8 @@
 -- What an accepted case gives to whoever works with its lattice, its models and its formulas. Rests on Accepted.
-use Prim.Native.Nat.{ℕ, zero, suc, _+_, _*_, _≤_, _<_}
+use Prim.Native.Nat.{ℕ, suc, _+_, _*_, _≤_, _<_}
 use mathlib.Core.Path.{_≡_, sym, ap, _∙_}
 use mathlib.Core.List.{List, []}
-use native.Mathlib.Nat.{le-of-suc-le-suc, not-suc-le-zero, mul-pos}
+use native.Mathlib.Nat.{mul-pos}
 use native.Mathlib.Omega.{arith}
 use lib.ListN.{length, getD}
 use Rattle.theory.specs.Lattice.{Laws}
@@ -11,8 +11,9 @@ use Rattle.theory.specs.Part.{opsOf, modelOf, ModelShape}
 use Rattle.lattice.specs.Accepted.{accepted-is-lattice, accepted-sound}
 use Rattle.model.specs.Places.{prod-le}
 use Rattle.model.specs.Reading.{accepted-shape, accepted-valued}
-use Rattle.casefile.specs.Directory.{partCount, partAt, partsFrom}
+use Rattle.casefile.specs.Directory.{partCount, partAt}
 use Rattle.casefile.specs.Reading.{Content, contentParts, caseReading, content}
+use Rattle.casefile.specs.Placed.{part-of}
 use Rattle.casefile.specs.Accepted.{PartsRead, formulas-read, parts-length, accepted-case, FormulasRead}
 
 pub record ContentSound (c : Content) : Type 0 where
@@ -49,17 +50,9 @@ content-sound b c e = go (accepted-case b c e .reads)
           formulas = formulas-read (getD (c .model1Bytes) 1 0) 3 (c .formulaBytes) (c .formulas) (r .formulas-read);
         }
 
--- the parts of a case, by their numbers
-parts-at : (b : List ℕ) (n i j : ℕ) → j < n → getD (partsFrom b i n) j [] ≡ partAt b (i + j)
-unfolding partsFrom
-parts-at b zero i j l = absurd (not-suc-le-zero l)
-parts-at b (suc n) i zero l = let e : i ≡ i + 0 = omega arith in ap (partAt b) e
-parts-at b (suc n) i (suc j) l = let e : suc i + j ≡ i + suc j = omega arith in parts-at b n (suc i) j (le-of-suc-le-suc l) ∙ ap (partAt b) e
-
+-- a part of the case, by its number
 pub part-is : (b : List ℕ) (c : Content) → caseReading b ≡ content c → (i : ℕ) → i < partCount b → partAt b i ≡ getD (contentParts c) i []
-part-is b c e i l =
-    let z : 0 + i ≡ i = omega arith in
-    ap (partAt b) (sym z) ∙ sym (parts-at b (partCount b) 0 i l) ∙ ap (λ (ps : List (List ℕ)). getD ps i []) (accepted-case b c e .parts)
+part-is b c e i l = sym (part-of b i l) ∙ ap (λ (ps : List (List ℕ)). getD ps i []) (accepted-case b c e .parts)
 
 -- the count of parts
 pub count-is : (b : List ℕ) (c : Content) → caseReading b ≡ content c → partCount b ≡ 3 + length (c .formulas)

@@ -6,8 +6,10 @@ pub mod Gapless
 pub mod Answer
 -- ---- theorems; Placed has the conditions that functions on an accepted case ask for
 pub mod Placed
+pub mod Unread
 pub mod Laid
 pub mod Accepted
+pub mod Exactly
 pub mod Content
 pub mod Caller
 pub mod Examples

@@ -1,16 +1,17 @@
 -- What holds of a case whose size, directory and places are right. Rests on Directory and Reading.
-use Prim.Native.Nat.{ℕ, _-_, _≤_, _<_}
-use mathlib.Core.Path.{_≡_, refl, sym}
+use Prim.Native.Nat.{ℕ, zero, suc, _+_, _-_, _≤_, _<_}
+use mathlib.Core.Path.{_≡_, refl, sym, ap, _∙_}
 use mathlib.Core.Bool.{Bool, true, false, cond, not, _&&_}
-use mathlib.Core.List.{List}
-use native.Mathlib.Nat.{le-refl}
+use mathlib.Core.Logic.{⊎-elim}
+use mathlib.Core.List.{List, []}
+use native.Mathlib.Nat.{le-refl, eq-or-lt-of-le, le-of-suc-le-suc, not-suc-le-zero}
 use native.Mathlib.Omega.{arith}
 use borrow.Author.Tests.{ltb-true, ltb-false, leb-true, lt-ltb, le-ltb, le-leb, not-false}
 use lib.Dec.{ltb, leb}
-use lib.ListN.{length}
+use lib.ListN.{length, getD}
 use Rattle.theory.specs.Test.{and-l, and-r, all-four, first-is, first-unique}
 use Rattle.refusal.specs.declared.Refusal.the-variants.{CaseSize, Directory, PartPlace}
-use Rattle.casefile.specs.Directory.{partCount, directoryEnd, partStart, partSize, partEnd, endBefore, placed, sizeTest, directoryTest, misplaced, partAt, partsFrom}
+use Rattle.casefile.specs.Directory.{partCount, directoryEnd, partStart, partSize, partEnd, endBefore, placed, sizeTest, directoryTest, misplaced, partAt, partsFrom, partsOf}
 use Rattle.casefile.specs.Reading.{Content, CaseReading, partsReading, caseReading, refused, content}
 
 -- part i stands where it may
@@ -97,3 +98,29 @@ accepted-placed b c e = go (sizeTest b) refl (directoryTest b) refl (ltb (mispla
     go true s false q m r x = absurd (let z : _≡_ {A = ℕ} 0 1 = cc in omega arith)
     go true s true q true r x = absurd (let z : _≡_ {A = ℕ} 0 1 = cc in omega arith)
     go true s true q false r x = record { directory = has-directory b s q; each = none-misplaced b r }
+
+-- ---- the order of the parts
+
+-- a part ends before every later part starts
+pub parts-apart : (b : List ℕ) → Placed b → (i j : ℕ) → i < j → j < partCount b → partEnd b i ≤ partStart b j
+parts-apart b p i zero l m = absurd (omega arith)
+parts-apart b p i (suc j) l m =
+    ⊎-elim
+    (λ (e : i ≡ j). rw e (p .each (suc j) m .after-part))
+    (λ (k : i < j). omega (arith, parts-apart b p i j k (omega arith), p .each (suc j) m .after-part))
+    (eq-or-lt-of-le (le-of-suc-le-suc l))
+
+-- 'sorted by offset'
+pub parts-sorted : (b : List ℕ) → Placed b → (i j : ℕ) → i < j → j < partCount b → partStart b i < partStart b j
+parts-sorted b p i j l m = omega (arith, parts-apart b p i j l m, p .each i (omega arith) .some)
+
+-- ---- the parts by their numbers
+
+parts-at : (b : List ℕ) (n i j : ℕ) → j < n → getD (partsFrom b i n) j [] ≡ partAt b (i + j)
+unfolding partsFrom
+parts-at b zero i j l = absurd (not-suc-le-zero l)
+parts-at b (suc n) i zero l = let e : i ≡ i + 0 = omega arith in ap (partAt b) e
+parts-at b (suc n) i (suc j) l = let e : suc i + j ≡ i + suc j = omega arith in parts-at b n (suc i) j (le-of-suc-le-suc l) ∙ ap (partAt b) e
+
+pub part-of : (b : List ℕ) (i : ℕ) → i < partCount b → getD (partsOf b) i [] ≡ partAt b i
+part-of b i l = let z : 0 + i ≡ i = omega arith in parts-at b (partCount b) 0 i l ∙ ap (partAt b) z
