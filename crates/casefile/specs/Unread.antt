@@ -37,9 +37,9 @@ first-cong n f g h = go (first-is n f)
         first-unique n g (firstBelow n f)
         (record { most = w .most; passes = λ l. sym (h _ l) ∙ w .passes l; earlier = λ i l. sym (h i (omega (arith, w .most))) ∙ w .earlier i l })
 
--- a byte of a part
-part-byte : (b : List ℕ) (i j : ℕ) → j < partSize b i → getD (partAt b i) j 0 ≡ getD b (partStart b i + j) 0
-part-byte b i j l = getD-take (partSize b i) (drop (partStart b i) b) j 0 l ∙ getD-drop (partStart b i) b j 0
+-- a byte of n bytes from `at` on
+byte-from : (b : List ℕ) (at n j : ℕ) → j < n → getD (take n (drop at b)) j 0 ≡ getD b (at + j) 0
+byte-from b at n j l = getD-take n (drop at b) j 0 l ∙ getD-drop at b j 0
 
 -- ---- the directory: where its bytes are the same, the places of the parts are
 
@@ -90,17 +90,17 @@ module _ (b d : List ℕ) (s : SameWhereRead b d) where
       (simp (length-take, length-drop, starts i l, sizes i l, s .same-length))
       (λ j m.
       let t : j < partSize b i = omega (arith, simp length-take at m) in
-      part-byte b i j t
+      byte-from b (partStart b i) (partSize b i) j t
       ∙ s .same-part i l (partStart b i + j) (omega arith) (omega arith)
       ∙ ap (λ x. getD d (x + j) 0) (starts i l)
-      ∙ sym (part-byte d i j (rw (← sizes i l) t)))
+      ∙ sym (byte-from d (partStart d i) (partSize d i) j (rw (← sizes i l) t)))
 
   parts-same : (i n : ℕ) → i + n ≤ partCount b → partsFrom b i n ≡ partsFrom d i n
   unfolding partsFrom
   parts-same i zero l = refl
   parts-same i (suc n) l = ap₂ _∷_ (part-same i (omega arith)) (parts-same (suc i) n (omega arith))
 
-  -- after the directory, of which only the count of parts matters here
+  -- where the count of parts is right
   rest-same : directoryTest b ≡ true → afterDirectory b ≡ afterDirectory d
   rest-same t =
       let least : 3 ≤ partCount b = leb-true 3 (partCount b) (and-l (leb 3 (partCount b)) (leb (partCount b) 11) (and-l (leb 3 (partCount b) && leb (partCount b) 11) (leb (directoryEnd b) (length b)) t)) in
@@ -138,9 +138,9 @@ module _ (b d : List ℕ) (n : length b ≡ length d) (e : take (directoryEnd b)
       let a : partStart b i + j ≡ at = omega arith in
       let t : j < partSize b i = omega arith in
       ap (λ x. getD b x 0) (sym a)
-      ∙ sym (part-byte b i j t)
+      ∙ sym (byte-from b (partStart b i) (partSize b i) j t)
       ∙ ap (λ x. getD x j 0) (part-at i l)
-      ∙ part-byte d i j (rw (← size-same b d directory-at i l) t)
+      ∙ byte-from d (partStart d i) (partSize d i) j (rw (← size-same b d directory-at i l) t)
       ∙ ap (λ x. getD d (x + j) 0) (sym (start-same b d directory-at i l))
       ∙ ap (λ x. getD d x 0) a
 
