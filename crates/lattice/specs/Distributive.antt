@@ -1,4 +1,4 @@
--- Distributivity is tested for each two elements that are not in order, once: for the others it tables-hold in every lattice. Rests on theory's
+-- Distributivity is tested for each two elements that are not in order, once: for the others it holds in every lattice. Rests on theory's
 -- Part and Test, Reading, Bounds, Accepted, Agree.
 use Prim.Native.Nat.{ℕ, _≤_, _<_}
 use mathlib.Core.Path.{_≡_, refl, sym, ap, ap₂, _∙_}

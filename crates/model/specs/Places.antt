@@ -2,10 +2,10 @@
 use Prim.Native.Nat.{ℕ, suc, _+_, _*_, _≤_, _<_}
 use mathlib.Core.Path.{_≡_, refl}
 use mathlib.Core.List.{List}
-use native.Mathlib.Nat.{suc-mul, mul-le-mul-right, mul-le-mul}
+use native.Mathlib.Nat.{add-assoc, suc-mul, mul-le-mul-right, mul-le-mul}
 use native.Mathlib.Omega.{arith}
 use lib.ListN.{length, getD}
-use Rattle.theory.specs.Part.{ModelShape}
+use Rattle.theory.specs.Part.{modelOf, ModelShape}
 
 -- row q, of n rows of w values, ends within them
 pub row-le : (q n w : ℕ) → q < n → q * w + w ≤ n * w
@@ -20,6 +20,13 @@ labelRow b q = 2 + getD b 0 0 + q * getD b 1 0
 
 abbrev pub transitionRow : List ℕ → ℕ → ℕ
 transitionRow b q = 2 + getD b 0 0 + getD b 0 0 * getD b 1 0 + q * getD b 0 0
+
+-- value i of a row is that of proposition i, or of the transition to state i
+pub label-at : (b : List ℕ) (q row i : ℕ) → row ≡ labelRow b q → getD b (row + i) 0 ≡ modelOf b .label q i
+label-at b q row i e = rw (e, add-assoc)
+
+pub transition-at : (b : List ℕ) (q row i : ℕ) → row ≡ transitionRow b q → getD b (row + i) 0 ≡ modelOf b .transition q i
+transition-at b q row i e = rw (e, add-assoc)
 
 -- what the code computes of a row's place, from n states, k propositions and state s
 pub record RowFacts (b : List ℕ) (q n k s : ℕ) : Type 0 where

@@ -55,6 +55,16 @@ pub fn label_row(m: &[u8], q: State) -> usize
     2 + n + s * k
 }
 
+// The value of a proposition at a state.
+pub fn label(m: &[u8], q: State, p: Proposition) -> Element
+    requires { ⌜ ModelShape (now m) × (q .0 < getD (now m) 0 0) × (p .0 < getD (now m) 1 0) ⌝ }
+    ensures { λ r. ⌜ r .0 ≡ modelOf (now (m .entry)) .label (q .0) (p .0) ⌝ }
+{
+    let row = label_row(m, q);
+    let column = operations::index(p.0);
+    Element(m[row + column])
+}
+
 // Where the transition values of a state begin; there are N of them.
 pub fn transition_row(m: &[u8], q: State) -> usize
     requires { ⌜ ModelShape (now m) × (q .0 < getD (now m) 0 0) ⌝ }
@@ -64,6 +74,16 @@ pub fn transition_row(m: &[u8], q: State) -> usize
     let k = operations::index(m[1]);
     let s = operations::index(q.0);
     2 + n + n * k + s * n
+}
+
+// The value of the transition from q to r.
+pub fn transition(m: &[u8], q: State, r: State) -> Element
+    requires { ⌜ ModelShape (now m) × (q .0 < getD (now m) 0 0) × (r .0 < getD (now m) 0 0) ⌝ }
+    ensures { λ e. ⌜ e .0 ≡ modelOf (now (m .entry)) .transition (q .0) (r .0) ⌝ }
+{
+    let row = transition_row(m, q);
+    let column = operations::index(r.0);
+    Element(m[row + column])
 }
 
 // Whether a part is a model over a lattice of n elements.

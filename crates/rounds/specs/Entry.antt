@@ -3,7 +3,6 @@
 use Prim.Native.Nat.{ℕ, _+_, _*_, _≤_}
 use mathlib.Core.Path.{_≡_, ap, ap₂, _∙_}
 use mathlib.Core.List.{List}
-use native.Mathlib.Nat.{add-assoc}
 use lib.ListN.{length, getD}
 use Rattle.theory.specs.Lattice.{imp, iff, bigMeet}
 use Rattle.theory.specs.Folds.{bigMeet-cong, bigJoin-cong}
@@ -12,15 +11,8 @@ use Rattle.theory.specs.Value.{allNext, someNext}
 use Rattle.theory.specs.Simulation.{propositionPart, successorPart, score}
 use Rattle.operations.specs.declared.Lattice.{Lattice}
 use Rattle.operations.specs.Table.{meetIn, joinIn, complementIn, opsIn}
-use Rattle.model.specs.Places.{labelRow, transitionRow}
+use Rattle.model.specs.Places.{labelRow, transitionRow, label-at, transition-at}
 use Rattle.rounds.specs.Table.{tableOf, iffIn, Shaped, matched}
-
--- value i of a row of a model part
-label-at : (m : List ℕ) (q row i : ℕ) → row ≡ labelRow m q → getD m (row + i) 0 ≡ modelOf m .label q i
-label-at m q row i e = rw (e, add-assoc)
-
-transition-at : (m : List ℕ) (q row i : ℕ) → row ≡ transitionRow m q → getD m (row + i) 0 ≡ modelOf m .transition q i
-transition-at m q row i e = rw (e, add-assoc)
 
 -- → and ↔ from what the lookups give
 pub implies-next : (t : List ℕ) (a y z r : ℕ) → r ≡ joinIn t (complementIn t a) y → y ≡ z → r ≡ joinIn t (complementIn t a) z

@@ -32,11 +32,9 @@ fn labels(m: &[u8], p: Proposition) -> [u8; 64]
     ensures { λ r. ⌜ Filled (λ q. modelOf (now (m .entry)) .label q (p .0)) (getD (now (m .entry)) 0 0) r ⌝ }
 {
     let n = model::states(m);
-    let column = operations::index(p.0);
     let mut out = [0u8; 64];
     for q in 0..n {
-        let row = model::label_row(m, state(q));
-        out[q] = m[row + column];
+        out[q] = model::label(m, state(q), p).0;
     }
     out
 }
@@ -97,13 +95,12 @@ fn all_next_at(t: &[u8; 12352], l: Lattice, m: &[u8], x: &[u8; 64], q: State) ->
     ensures { λ r. ⌜ r .0 ≡ allNext (opsIn (now (t .entry)) l) (modelOf (now (m .entry))) (λ s. getD (now (x .entry)) s 0) (q .0) ⌝ }
 {
     let n = model::states(m);
-    let row = model::transition_row(m, q);
-    let mut so_far = l.top.0;
+    let mut so_far = l.top;
     for s in 0..n {
-        let step = all_step(t, Element(m[row + s]), Element(x[s]));
-        so_far = operations::meet(t, Element(so_far), step).0;
+        let step = all_step(t, model::transition(m, q, state(s)), Element(x[s]));
+        so_far = operations::meet(t, so_far, step);
     }
-    Element(so_far)
+    so_far
 }
 
 // EX of x at one state: the join over all q' of R(q, q') met with x(q').
@@ -112,13 +109,12 @@ fn some_next_at(t: &[u8; 12352], l: Lattice, m: &[u8], x: &[u8; 64], q: State) -
     ensures { λ r. ⌜ r .0 ≡ someNext (opsIn (now (t .entry)) l) (modelOf (now (m .entry))) (λ s. getD (now (x .entry)) s 0) (q .0) ⌝ }
 {
     let n = model::states(m);
-    let row = model::transition_row(m, q);
-    let mut so_far = l.bottom.0;
+    let mut so_far = l.bottom;
     for s in 0..n {
-        let step = some_step(t, Element(m[row + s]), Element(x[s]));
-        so_far = operations::join(t, Element(so_far), step).0;
+        let step = some_step(t, model::transition(m, q, state(s)), Element(x[s]));
+        so_far = operations::join(t, so_far, step);
     }
-    Element(so_far)
+    so_far
 }
 
 // AX of x at all states.
@@ -341,12 +337,12 @@ fn from_initial(t: &[u8; 12352], l: Lattice, m: &[u8], x: &[u8; 64]) -> Element
     ensures { λ r. ⌜ r .0 ≡ fromInitial (opsIn (now (t .entry)) l) (modelOf (now (m .entry))) (λ q. getD (now (x .entry)) q 0) ⌝ }
 {
     let n = model::states(m);
-    let mut so_far = l.top.0;
+    let mut so_far = l.top;
     for q in 0..n {
         let step = operations::implies(t, model::initial(m, state(q)), Element(x[q]));
-        so_far = operations::meet(t, Element(so_far), step).0;
+        so_far = operations::meet(t, so_far, step);
     }
-    Element(so_far)
+    so_far
 }
 
 // The value of a formula part on the whole model.

@@ -8,8 +8,8 @@ use Rattle.lattice.proofs.complement_entry.Tie as tie
 is-panel-requires : tie.Need-is-panel-requires
 is-panel-requires c κs = search needs
 
-sub-result : tie.Need-sub-result
-sub-result c = panel-complement _ _ (sym (c .before .before .is-panel .ensures) ∙ c .before .if1 .taken) (c .before .before .before .before .pre .1) .0
+sub-t5 : tie.Need-sub-t5
+sub-t5 c = panel-complement _ _ (sym (c .before .before .is-panel .ensures) ∙ c .before .if1 .taken) (c .before .before .before .before .pre .1) .0
 
 returns : tie.Need-returns
 returns c = panel-complement _ _ (sym (c .before .before .is-panel .ensures) ∙ c .before .if1 .taken) (c .before .before .before .before .pre .1) .1
@@ -17,11 +17,11 @@ returns c = panel-complement _ _ (sym (c .before .before .is-panel .ensures) ∙
 index-requires : tie.Need-index-requires
 index-requires c κs = search needs
 
-add-result : tie.Need-add-result
-add-result c = search needs
+add-t6 : tie.Need-add-t6
+add-t6 c = search needs
 
-shared-slice-read-result : tie.Need-shared-slice-read-result
-shared-slice-read-result c = rw (c .before .index .ensures .0) (explicit-complement _ _ (c .before .before .before .before .before .pre .0) (sym (c .before .before .before .is-panel .ensures) ∙ c .before .before .if1 .left) (c .before .before .before .before .before .pre .1) .0)
+shared-slice-read-t8 : tie.Need-shared-slice-read-t8
+shared-slice-read-t8 c = rw (c .before .index .ensures .0) (explicit-complement _ _ (c .before .before .before .before .before .pre .0) (sym (c .before .before .before .is-panel .ensures) ∙ c .before .before .if1 .left) (c .before .before .before .before .before .pre .1) .0)
 
 returns-2 : tie.Need-returns-2
 returns-2 c = rw (c .before .index .ensures .0) (explicit-complement _ _ (c .before .before .before .before .before .pre .0) (sym (c .before .before .before .is-panel .ensures) ∙ c .before .before .if1 .left) (c .before .before .before .before .before .pre .1) .1)
@@ -31,9 +31,9 @@ complement-entry-spec =
     tie.close
     (tie.spec
     is-panel-requires
-    sub-result
+    sub-t5
     returns
     index-requires
-    add-result
-    shared-slice-read-result
+    add-t6
+    shared-slice-read-t8
     returns-2)

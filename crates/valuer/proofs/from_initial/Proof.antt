@@ -3,12 +3,13 @@ use mathlib.Core.Path.{_∙_}
 use Prim.Native.Nat.{_≤_, _-_}
 use native.Mathlib.Omega.{arith}
 use borrow.Author.Needs.{needs}
+use Rattle.theory.specs.Part.{modelOf}
 use Rattle.valuer.proofs.Loops.{Met, met-none, met-more, met-initial}
 use Rattle.valuer.proofs.from_initial.Statement.{statement}
 use Rattle.valuer.proofs.from_initial.Tie as tie
 
 abbrev Inv-loop : tie.InvT-loop
-Inv-loop t m x n so-far₀ q₀ so-far q = (q ≤ n) × Met t m x 2 so-far₀ q so-far
+Inv-loop t m x n so-far₀ q₀ so-far q = (q ≤ n) × Met t x (modelOf m .initial) (so-far₀ .0) q (so-far .0)
 
 abbrev μ-loop : tie.MeasureT-loop
 μ-loop t m x n so-far₀ q₀ so-far q = n - q
@@ -23,7 +24,7 @@ state-requires : tie.Need-state-requires Inv-loop μ-loop
 state-requires c κs = omega arith
 
 initial-requires : tie.Need-initial-requires Inv-loop μ-loop
-initial-requires c κs = (c .before .before .before .before .before .pre, omega arith)
+initial-requires c κs = (c .before .before .before .before .before .before .pre, omega arith)
 
 element-copy-out-t14 : tie.Need-element-copy-out-t14 Inv-loop μ-loop
 element-copy-out-t14 c = omega arith
@@ -46,7 +47,7 @@ loop-again c =
 
 returns : tie.Need-returns Inv-loop μ-loop
 returns c =
-    met-initial (c .before .before .before .before .args .l) (c .before .loop .inv .1) (c .before .loop .inv .0) (c .loop-test .left) (c .before .before .states .ensures)
+    met-initial (c .before .before .before .before .before .args .l) (c .before .before .before .before .before .args .m .now) (c .before .loop .inv .1) (c .before .loop .inv .0) (c .loop-test .left) (c .before .before .before .states .ensures)
 
 pub from-initial-spec : {M : Type 1} → statement M
 from-initial-spec =

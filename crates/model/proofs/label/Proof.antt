@@ -1,0 +1,26 @@
+-- `model::label` meets its contract: the row's place and the column.
+use borrow.Author.Needs.{needs}
+use Rattle.model.specs.Places.{label-at}
+use Rattle.model.proofs.label.Statement.{statement}
+use Rattle.model.proofs.label.Tie as tie
+
+label-row-requires : tie.Need-label-row-requires
+label-row-requires c κs = search needs
+
+index-requires : tie.Need-index-requires
+index-requires c κs = search needs
+
+add-t6 : tie.Need-add-t6
+add-t6 c = search needs
+
+shared-slice-read-t8 : tie.Need-shared-slice-read-t8
+shared-slice-read-t8 c = search needs
+
+returns : tie.Need-returns
+returns c =
+    let a = c .before .before .before .before .args in
+    rw (← c .before .index .ensures .0) (label-at (a .m .now) (a .q .0) (c .before .before .label-row .result) (c .before .index .result) (c .before .before .label-row .ensures .0))
+
+pub label-spec : {M : Type 1} → statement M
+label-spec =
+    tie.close (tie.spec label-row-requires index-requires add-t6 shared-slice-read-t8 returns)

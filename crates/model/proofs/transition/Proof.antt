@@ -1,0 +1,26 @@
+-- `model::transition` meets its contract: the row's place and the column.
+use borrow.Author.Needs.{needs}
+use Rattle.model.specs.Places.{transition-at}
+use Rattle.model.proofs.transition.Statement.{statement}
+use Rattle.model.proofs.transition.Tie as tie
+
+transition-row-requires : tie.Need-transition-row-requires
+transition-row-requires c κs = search needs
+
+index-requires : tie.Need-index-requires
+index-requires c κs = search needs
+
+add-t6 : tie.Need-add-t6
+add-t6 c = search needs
+
+shared-slice-read-t8 : tie.Need-shared-slice-read-t8
+shared-slice-read-t8 c = search needs
+
+returns : tie.Need-returns
+returns c =
+    let a = c .before .before .before .before .args in
+    rw (← c .before .index .ensures .0) (transition-at (a .m .now) (a .q .0) (c .before .before .transition-row .result) (c .before .index .result) (c .before .before .transition-row .ensures .0))
+
+pub transition-spec : {M : Type 1} → statement M
+transition-spec =
+    tie.close (tie.spec transition-row-requires index-requires add-t6 shared-slice-read-t8 returns)
