@@ -5,10 +5,11 @@ use mathlib.Core.Bool.{Bool, true, false, cond, _&&_}
 use native.Mathlib.Nat.{le-refl, not-suc-le-zero}
 use native.Mathlib.Numerals.{add-one}
 use native.Mathlib.Omega.{arith}
-use borrow.Author.Tests.{ltb-true, lt-ltb, eqb-true, eqb-false}
-use lib.Dec.{ltb, eqb}
-use Rattle.theory.specs.Test.{below-suc, allBelow, _⇒_, and-l, and-r, and-in, ⇒-elim, ⇒-in, false-true, all-at, all-in, first-is}
+use Rattle.theory.specs.Test.{below-suc, allBelow, _⇒_, and-l, and-r, and-in, ⇒-elim, ⇒-in, false-true, all-at, all-in}
 use Rattle.theory.specs.Part.{LatticePart, isMeet, meetOf}
+use Rattle.operations.specs.declared.Element.{Element}
+use Rattle.lattice.specs.declared.Found.{Found}
+use Rattle.lattice.specs.declared.Found.the-variants.{At, Nothing}
 use Rattle.lattice.specs.Bounds.{first-only, MeetAt, Antisymmetric, meet-in, meet-out, meet-is, meet-same}
 
 -- the order in which the bound wanted is a meet: the order itself for a meet, the same the other way round for a join (true)
@@ -25,14 +26,19 @@ joinOrMeet false join meet = meet
 abbrev pub lower : (ℕ → ℕ → Bool) → ℕ → ℕ → ℕ → Bool
 lower le a b c = le c a && le c b
 
--- the candidate after c, where m was the one before; n is none
-unfoldable pub better : ℕ → (ℕ → ℕ → Bool) → ℕ → ℕ → ℕ → ℕ → ℕ
-better n le a b c m = cond (lower le a b c) (cond (eqb m n) c (cond (le m c) c m)) m
+-- an element is found, by its number
+abbrev pub at : ℕ → Found
+at m = At (record { 0 = m })
+
+-- the candidate after c, where f was the one before
+unfoldable pub better : (ℕ → ℕ → Bool) → ℕ → ℕ → ℕ → Found → Found
+better le a b c Nothing = cond (lower le a b c) (at c) Nothing
+better le a b c (At m) = cond (lower le a b c) (cond (le (m .0) c) (at c) (At m)) (At m)
 
 -- the candidate after the first k numbers
-unfoldable pub candidate : ℕ → (ℕ → ℕ → Bool) → ℕ → ℕ → ℕ → ℕ
-candidate n le a b zero = n
-candidate n le a b (suc k) = better n le a b k (candidate n le a b k)
+unfoldable pub candidate : (ℕ → ℕ → Bool) → ℕ → ℕ → ℕ → Found
+candidate le a b zero = Nothing
+candidate le a b (suc k) = better le a b k (candidate le a b k)
 
 -- where c is at or below a and b, it is at or below m
 abbrev pub under : (ℕ → ℕ → Bool) → ℕ → ℕ → ℕ → ℕ → Bool
@@ -41,32 +47,52 @@ under le a b m c = lower le a b c ⇒ le c m
 unfoldable pub greatest : ℕ → (ℕ → ℕ → Bool) → ℕ → ℕ → ℕ → Bool
 greatest n le a b m = allBelow n (under le a b m)
 
--- the candidate where it passes, else n
-unfoldable pub scanFrom : ℕ → (ℕ → ℕ → Bool) → ℕ → ℕ → ℕ
-scanFrom n le a b = cond (ltb (candidate n le a b n) n && greatest n le a b (candidate n le a b n)) (candidate n le a b n) n
+-- a candidate where it passes
+unfoldable pub tested : ℕ → (ℕ → ℕ → Bool) → ℕ → ℕ → Found → Found
+tested n le a b Nothing = Nothing
+tested n le a b (At m) = cond (greatest n le a b (m .0)) (At m) Nothing
+
+unfoldable pub scanFrom : ℕ → (ℕ → ℕ → Bool) → ℕ → ℕ → Found
+scanFrom n le a b = tested n le a b (candidate le a b n)
 
 -- the lower of two elements in order, else what the scans find
-unfoldable pub boundFrom : ℕ → (ℕ → ℕ → Bool) → ℕ → ℕ → ℕ
-boundFrom n le a b = cond (le a b) a (cond (le b a) b (scanFrom n le a b))
+unfoldable pub boundFrom : ℕ → (ℕ → ℕ → Bool) → ℕ → ℕ → Found
+boundFrom n le a b = cond (le a b) (at a) (cond (le b a) (at b) (scanFrom n le a b))
+
+-- what is found is the element v, or that there is none, where v is not below n
+abbrev pub Finds : ℕ → ℕ → Found → Type 0
+Finds n v Nothing = n ≤ v
+Finds n v (At m) = (m .0 ≡ v) × (m .0 < n)
 
 -- ---- for the loop
 
-pub candidate-none : (n : ℕ) (le : ℕ → ℕ → Bool) (a b : ℕ) → n ≡ candidate n le a b 0
+pub candidate-none : (le : ℕ → ℕ → Bool) (a b : ℕ) → Nothing ≡ candidate le a b 0
 unfolding candidate
-candidate-none n le a b = refl
+candidate-none le a b = refl
 
-pub candidate-more : (n : ℕ) (le : ℕ → ℕ → Bool) (a b k : ℕ) → candidate n le a b (k + 1) ≡ better n le a b k (candidate n le a b k)
+pub candidate-more : (le : ℕ → ℕ → Bool) (a b k : ℕ) → candidate le a b (k + 1) ≡ better le a b k (candidate le a b k)
 unfolding candidate
-candidate-more n le a b k = rw add-one
+candidate-more le a b k = rw add-one
+
+-- a number that is not at or below a and b leaves the candidate
+pub better-not : (le : ℕ → ℕ → Bool) (a b c : ℕ) (f : Found) → lower le a b c ≡ false → f ≡ better le a b c f
+unfolding better
+better-not le a b c Nothing e = simp e
+better-not le a b c (At m) e = simp e
 
 -- ---- what the scans find
 
 module _ (P : LatticePart) (s : Antisymmetric P) (a b : ℕ) where
-  -- m is none or at or below a and b; a meet among the first k numbers is m
+  -- m is at or below a and b; a meet among the first k numbers is m
   record Candidate (k m : ℕ) : Type 0 where
-    most : m ≤ P .size
-    low : m < P .size → lower (P .order) a b m ≡ true
+    inside : m < P .size
+    low : lower (P .order) a b m ≡ true
     found : (i : ℕ) → i < k → MeetAt P a b i → m ≡ i
+
+  -- the candidate after the first k numbers; where there is none, no meet is among them
+  abbrev After : ℕ → Found → Type 0
+  After k Nothing = (i : ℕ) → i < k → ¬ MeetAt P a b i
+  After k (At m) = Candidate k (m .0)
 
   meet-low : (m : ℕ) → MeetAt P a b m → lower (P .order) a b m ≡ true
   meet-low m v = and-in _ _ (v .left) (v .right)
@@ -80,49 +106,50 @@ module _ (P : LatticePart) (s : Antisymmetric P) (a b : ℕ) where
   low-meet : (c m : ℕ) → c < P .size → lower (P .order) a b c ≡ true → MeetAt P a b m → P .order c m ≡ true
   low-meet c m l t v = v .greatest c l (and-l (P .order c a) _ t) (and-r (P .order c a) _ t)
 
-  step : (k m : ℕ) → k < P .size → Candidate k m → Candidate (suc k) (better (P .size) (P .order) a b k m)
+  step : (k : ℕ) (f : Found) → k < P .size → After k f → After (suc k) (better (P .order) a b k f)
   unfolding better
-  step k m l w = go (lower (P .order) a b k) refl (eqb m (P .size)) refl (P .order m k) refl
+  step k Nothing l w = go (lower (P .order) a b k) refl
     where
-      go : (x : Bool) → lower (P .order) a b k ≡ x → (y : Bool) → eqb m (P .size) ≡ y → (z : Bool) → P .order m k ≡ z → Candidate (suc k) (cond x (cond y k (cond z k m)) m)
-      go false x y ey z ez =
+      go : (x : Bool) → lower (P .order) a b k ≡ x → After (suc k) (cond x (at k) Nothing)
+      go false x = below-suc {P = λ i. ¬ MeetAt P a b i} w (λ v. false-true x (meet-low k v))
+      go true x =
           record {
-            most = w .most;
+            inside = l;
+            low = x;
+            found = below-suc {P = λ i. MeetAt P a b i → k ≡ i} (λ i j v. absurd (w i j v)) (λ v. refl);
+          }
+  step k (At m) l w = go (lower (P .order) a b k) refl (P .order (m .0) k) refl
+    where
+      go : (x : Bool) → lower (P .order) a b k ≡ x → (z : Bool) → P .order (m .0) k ≡ z → After (suc k) (cond x (cond z (at k) (At m)) (At m))
+      go false x z ez =
+          record {
+            inside = w .inside;
             low = w .low;
-            found = below-suc {P = λ i. MeetAt P a b i → m ≡ i} (w .found) (λ v. absurd (false-true x (meet-low k v)));
+            found = below-suc {P = λ i. MeetAt P a b i → m .0 ≡ i} (w .found) (λ v. absurd (false-true x (meet-low k v)));
           }
-      go true x true ey z ez =
-          let e : m ≡ P .size = eqb-true _ _ ey in
+      go true x true ez =
           record {
-            most = omega arith;
-            low = λ j. x;
-            found = below-suc {P = λ i. MeetAt P a b i → k ≡ i} (λ i j v. absurd (omega (arith, w .found i j v))) (λ v. refl);
-          }
-      go true x false ey true ez =
-          record {
-            most = omega arith;
-            low = λ j. x;
+            inside = l;
+            low = x;
             found = below-suc {P = λ i. MeetAt P a b i → k ≡ i}
                 (λ i j v. s .same k i l (omega arith) (low-meet k i l x v) (rw (w .found i j v) at ez))
                 (λ v. refl);
           }
-      go true x false ey false ez =
-          let d : m ≡ P .size → ⊥ = eqb-false _ _ ey in
-          let j : m < P .size = omega (arith, w .most) in
+      go true x false ez =
           record {
-            most = w .most;
+            inside = w .inside;
             low = w .low;
-            found = below-suc {P = λ i. MeetAt P a b i → m ≡ i} (w .found) (λ v. absurd (false-true ez (low-meet m k j (w .low j) v)));
+            found = below-suc {P = λ i. MeetAt P a b i → m .0 ≡ i} (w .found) (λ v. absurd (false-true ez (low-meet (m .0) k (w .inside) (w .low) v)));
           }
 
-  scanned : (k : ℕ) → k ≤ P .size → Candidate k (candidate (P .size) (P .order) a b k)
+  scanned : (k : ℕ) → k ≤ P .size → After k (candidate (P .order) a b k)
   unfolding candidate
-  scanned zero l = record { most = le-refl _; low = λ j. absurd (omega arith); found = λ i j v. absurd (not-suc-le-zero j) }
+  scanned zero l = λ i j v. not-suc-le-zero j
   scanned (suc k) l = step k _ l (scanned k (omega arith))
 
-  scan-is-meet : scanFrom (P .size) (P .order) a b ≡ meetOf P a b
-  unfolding scanFrom greatest meetOf
-  scan-is-meet = go (candidate (P .size) (P .order) a b (P .size)) (scanned (P .size) (le-refl _))
+  scan-is-meet : Finds (P .size) (meetOf P a b) (scanFrom (P .size) (P .order) a b)
+  unfolding scanFrom tested greatest meetOf
+  scan-is-meet = go (candidate (P .order) a b (P .size)) (scanned (P .size) (le-refl _))
     where
       passes : (m : ℕ) → MeetAt P a b m → allBelow (P .size) (under (P .order) a b m) ≡ true
       passes m v = all-in (P .size) _ (λ c l. ⇒-in (lower (P .order) a b c) _ (λ t. low-meet c m l t v))
@@ -135,27 +162,23 @@ module _ (P : LatticePart) (s : Antisymmetric P) (a b : ℕ) where
             greatest = λ c l p q. ⇒-elim (lower (P .order) a b c) _ (all-at (P .size) _ g c l) (and-in _ _ p q);
           }
 
-      end : (m : ℕ) → Candidate (P .size) m → (x : Bool) → (ltb m (P .size) && allBelow (P .size) (under (P .order) a b m)) ≡ x → cond x m (P .size) ≡ meetOf P a b
-      end m w true x =
-          let l : m < P .size = ltb-true _ _ (and-l (ltb m (P .size)) _ x) in
-          let v = isAt m (w .low l) (and-r (ltb m (P .size)) _ x) in
-          meet-only m l v
-      end m w false x =
-          let f = first-is (P .size) (isMeet P a b) in
-          let none : ¬ (meetOf P a b < P .size) = λ l.
-          let v = meet-is P a b l in
-          let e : m ≡ meetOf P a b = w .found _ l v in
-          false-true x (rw e (and-in _ _ (lt-ltb _ _ l) (passes _ v))) in
-          omega (arith, f .most)
+      -- no meet among all numbers: none is found
+      none : ((i : ℕ) → i < P .size → ¬ MeetAt P a b i) → P .size ≤ meetOf P a b
+      none h = let x : ¬ (meetOf P a b < P .size) = λ l. h _ l (meet-is P a b l) in omega arith
 
-      go : (m : ℕ) → Candidate (P .size) m → cond (ltb m (P .size) && allBelow (P .size) (under (P .order) a b m)) m (P .size) ≡ meetOf P a b
-      go m w = end m w (ltb m (P .size) && allBelow (P .size) (under (P .order) a b m)) refl
+      end : (m : Element) → Candidate (P .size) (m .0) → (x : Bool) → allBelow (P .size) (under (P .order) a b (m .0)) ≡ x → Finds (P .size) (meetOf P a b) (cond x (At m) Nothing)
+      end m w true x = (meet-only (m .0) (w .inside) (isAt (m .0) (w .low) x), w .inside)
+      end m w false x = none (λ i l v. let e : m .0 ≡ i = w .found i l v in false-true x (rw e (passes i v)))
 
-  pub bound-is-meet : a < P .size → b < P .size → P .order a a ≡ true → P .order b b ≡ true → boundFrom (P .size) (P .order) a b ≡ meetOf P a b
+      go : (f : Found) → After (P .size) f → Finds (P .size) (meetOf P a b) (tested (P .size) (P .order) a b f)
+      go Nothing w = none w
+      go (At m) w = end m w (allBelow (P .size) (under (P .order) a b (m .0))) refl
+
+  pub bound-is-meet : a < P .size → b < P .size → P .order a a ≡ true → P .order b b ≡ true → Finds (P .size) (meetOf P a b) (boundFrom (P .size) (P .order) a b)
   unfolding boundFrom
   bound-is-meet l m p q = go (P .order a b) refl (P .order b a) refl
     where
-      go : (x : Bool) → P .order a b ≡ x → (y : Bool) → P .order b a ≡ y → cond x a (cond y b (scanFrom (P .size) (P .order) a b)) ≡ meetOf P a b
-      go true e y f = meet-only a l (record { left = p; right = e; greatest = λ c i h k. h })
-      go false e true f = meet-only b m (record { left = f; right = q; greatest = λ c i h k. k })
+      go : (x : Bool) → P .order a b ≡ x → (y : Bool) → P .order b a ≡ y → Finds (P .size) (meetOf P a b) (cond x (at a) (cond y (at b) (scanFrom (P .size) (P .order) a b)))
+      go true e y f = (meet-only a l (record { left = p; right = e; greatest = λ c i h k. h }), l)
+      go false e true f = (meet-only b m (record { left = f; right = q; greatest = λ c i h k. k }), m)
       go false e false f = scan-is-meet

@@ -16,11 +16,14 @@ use Rattle.theory.specs.Test.{below-suc, not-passed}
 use Rattle.theory.specs.Part.{LatticePart, meetOf, joinOf, topOf, botOf, element, opsOf}
 use Rattle.operations.specs.Table.{cell, atMostIn, meetIn, joinIn, complementIn, opsIn}
 use Rattle.operations.specs.declared.Lattice.{Lattice}
+use Rattle.operations.specs.declared.Element.{Element}
+use Rattle.lattice.specs.declared.Found.{Found}
+use Rattle.lattice.specs.declared.Found.the-variants.{At, Nothing}
 use Rattle.lattice.specs.Bounds.{one-test, element-lt, element-id, element-same, reversed, join-reversed, Antisymmetric}
 use Rattle.lattice.specs.Reading.{bounded}
 use Rattle.lattice.specs.Accepted.{Formed, Ordered, Bounded, bounded-out, bounded-in}
 use Rattle.lattice.specs.Agree.{SameOrder, meet-same-order, join-same-order, meet-comm, join-comm, by-number}
-use Rattle.lattice.specs.Scan.{orderFor, boundFrom, bound-is-meet}
+use Rattle.lattice.specs.Scan.{orderFor, at, boundFrom, Finds, bound-is-meet}
 
 -- What belongs at place k of the tables of a lattice: the order, the meets and the joins, each 64 rows of 64, then the complements.
 -- The operations read any number as an element, so that k / 64 and k stand for the row and the column.
@@ -40,9 +43,9 @@ abbrev pub placeOf : ℕ → ℕ → ℕ
 placeOf n k = k / 4096 * 4096 + (min (element n (k / 64)) (element n k) * 64 + max (element n (k / 64)) (element n k))
 
 -- the meet or join at place k: copied from an earlier place, or found from the order
-unfoldable pub boundAt : ℕ → List ℕ → ℕ → ℕ
+unfoldable pub boundAt : ℕ → List ℕ → ℕ → Found
 boundAt n t k =
-    cond (ltb (placeOf n k) k) (getD t (placeOf n k) 0)
+    cond (ltb (placeOf n k) k) (at (getD t (placeOf n k) 0))
     (boundFrom n (orderFor (leb 8192 k) (atMostIn t)) (element n (k / 64)) (element n k))
 
 -- ---- a place by its region
@@ -134,12 +137,13 @@ module _ (P : LatticePart) (w : Formed P) (o : Ordered P) where
   self : (a : ℕ) → a < P .size → padded .order a a ≡ true
   self a l = same-padded .orders a a l l ∙ o .rfl a l
 
-  meet-scanned : (a b : ℕ) → a < P .size → b < P .size → boundFrom (P .size) (orderFor false (opsOf P .atMost)) a b ≡ meetOf P a b
-  meet-scanned a b l m = bound-is-meet padded anti-padded a b l m (self a l) (self b m) ∙ meet-same-order padded P same-padded a b l m
+  meet-scanned : (a b : ℕ) → a < P .size → b < P .size → Finds (P .size) (meetOf P a b) (boundFrom (P .size) (orderFor false (opsOf P .atMost)) a b)
+  meet-scanned a b l m = rw (meet-same-order padded P same-padded a b l m) at (bound-is-meet padded anti-padded a b l m (self a l) (self b m))
 
-  join-scanned : (a b : ℕ) → a < P .size → b < P .size → boundFrom (P .size) (orderFor true (opsOf P .atMost)) a b ≡ joinOf P a b
+  join-scanned : (a b : ℕ) → a < P .size → b < P .size → Finds (P .size) (joinOf P a b) (boundFrom (P .size) (orderFor true (opsOf P .atMost)) a b)
   join-scanned a b l m =
-      bound-is-meet (reversed padded) anti-reversed a b l m (self a l) (self b m) ∙ sym (join-reversed padded a b) ∙ join-same-order padded P same-padded a b l m
+      rw (sym (join-reversed padded a b) ∙ join-same-order padded P same-padded a b l m) at
+      (bound-is-meet (reversed padded) anti-reversed a b l m (self a l) (self b m))
 
   -- a place and the place of its elements hold the same
   same-place : (k : ℕ) → 4096 ≤ k → k < 12288 → tableEntry (opsOf P) (placeOf (P .size) k) ≡ tableEntry (opsOf P) k
@@ -168,25 +172,6 @@ module _ (P : LatticePart) (w : Formed P) (o : Ordered P) where
           let h = ltb-false k 8192 e in
           at-join _ _ (omega (arith, x, y, z)) (omega (arith, x, y, z)) ∙ ap₂ (joinOf P) row column ∙ by-number (joinOf P) (join-comm P) _ _ ∙ sym (at-join _ k h m)
 
-  -- what is found at a place, or copied, is what belongs there
-  pub bound-at : (t : List ℕ) (k : ℕ) → 4096 ≤ k → k < 12288 → Filled (tableEntry (opsOf P)) k t → boundAt (P .size) t k ≡ tableEntry (opsOf P) k
-  unfolding boundAt
-  bound-at t k l m f = go (ltb (placeOf (P .size) k) k) refl (leb 8192 k) refl
-    where
-      le : atMostIn t ≡ opsOf P .atMost
-      le = filled-order P t k f l
-
-      go : (p : Bool) → ltb (placeOf (P .size) k) k ≡ p → (u : Bool) → leb 8192 k ≡ u → cond p (getD t (placeOf (P .size) k) 0) (boundFrom (P .size) (orderFor u (atMostIn t)) (element (P .size) (k / 64)) (element (P .size) k)) ≡ tableEntry (opsOf P) k
-      go true e u v = f .at _ (ltb-true _ _ e) ∙ same-place k l m
-      go false e true v =
-          ap (λ h. boundFrom (P .size) (orderFor true h) (element (P .size) (k / 64)) (element (P .size) k)) le
-          ∙ join-scanned _ _ (element-lt _ _ (w .some)) (element-lt _ _ (w .some))
-          ∙ sym (at-join _ k (leb-true 8192 k v) m)
-      go false e false v =
-          ap (λ h. boundFrom (P .size) (orderFor false h) (element (P .size) (k / 64)) (element (P .size) k)) le
-          ∙ meet-scanned _ _ (element-lt _ _ (w .some)) (element-lt _ _ (w .some))
-          ∙ sym (at-meet _ k l (leb-false 8192 k v))
-
 -- ---- the loop that fills the meets and the joins
 
 -- what it leaves: whether every two elements have both, and where they do, the tables so far
@@ -202,27 +187,49 @@ pub record BoundsUpTo (P : LatticePart) (k : ℕ) (t : List ℕ) : Type 0 where
 pub bounds-none : (P : LatticePart) (t : List ℕ) → Filled (tableEntry (opsOf P)) 4096 t → BoundsUpTo P 4096 t
 bounds-none P t f = record { filled = f; inside = λ j l m. absurd (omega arith) }
 
--- n is the part's size, and v is what the code found at place k
-module _ (P : LatticePart) (w : Formed P) (o : Ordered P) (t : List ℕ) (n k v : ℕ) (l : 4096 ≤ k) (m : k < 12288) (u : BoundsUpTo P k t) (s : n ≡ P .size) (e : v ≡ boundAt n t k) where
-  right : v ≡ tableEntry (opsOf P) k
-  right = e ∙ ap (λ n. boundAt n t k) s ∙ bound-at P w o t k l m (u .filled)
+-- n is the part's size, and f is what the code found at place k
+module _ (P : LatticePart) (w : Formed P) (o : Ordered P) (t : List ℕ) (n k : ℕ) (f : Found) (l : 4096 ≤ k) (m : k < 12288) (u : BoundsUpTo P k t) (s : n ≡ P .size) (e : f ≡ boundAt n t k) where
+  -- what is found at a place, or copied, is what belongs there
+  bound-at : Finds (P .size) (tableEntry (opsOf P) k) (boundAt (P .size) t k)
+  unfolding boundAt
+  bound-at = go (ltb (placeOf (P .size) k) k) refl (leb 8192 k) refl
+    where
+      le : atMostIn t ≡ opsOf P .atMost
+      le = filled-order P t k (u .filled) l
 
-  pub bounds-more : v < n → k < length t → BoundsUpTo P (k + 1) (set t k v)
-  bounds-more h b =
+      x : element (P .size) (k / 64) < P .size
+      x = element-lt (P .size) (k / 64) (w .some)
+
+      y : element (P .size) k < P .size
+      y = element-lt (P .size) k (w .some)
+
+      go : (p : Bool) → ltb (placeOf (P .size) k) k ≡ p → (u : Bool) → leb 8192 k ≡ u → Finds (P .size) (tableEntry (opsOf P) k) (cond p (at (getD t (placeOf (P .size) k) 0)) (boundFrom (P .size) (orderFor u (atMostIn t)) (element (P .size) (k / 64)) (element (P .size) k)))
+      go true d r v =
+          let c = u .filled .at _ (ltb-true _ _ d) in
+          (c ∙ same-place P w o k l m, rw c (u .inside (placeOf (P .size) k) (omega arith) (ltb-true _ _ d)))
+      go false d true v = rw (le, at-join (opsOf P) k (leb-true 8192 k v) m) (join-scanned P w o _ _ x y)
+      go false d false v = rw (le, at-meet (opsOf P) k l (leb-false 8192 k v)) (meet-scanned P w o _ _ x y)
+
+  right : Finds n (tableEntry (opsOf P) k) f
+  right = rw (e, s) bound-at
+
+  pub bounds-more : (v : Element) → f ≡ At v → k < length t → BoundsUpTo P (k + 1) (set t k (v .0))
+  bounds-more v z b =
+      let h : (v .0 ≡ tableEntry (opsOf P) k) × (v .0 < n) = rw z at right in
       record {
-        filled = filled-more (u .filled) b right;
-        inside = λ j x y. below-suc {P = λ j. 4096 ≤ j → tableEntry (opsOf P) j < P .size} (λ j z x. u .inside j x z) (λ x. rw (right, s) at h) j (rw add-one at y) x;
+        filled = filled-more (u .filled) b (h .0);
+        inside = λ j x y. below-suc {P = λ j. 4096 ≤ j → tableEntry (opsOf P) j < P .size} (λ j z x. u .inside j x z) (λ x. rw (h .0, s) at (h .1)) j (rw add-one at y) x;
       }
 
-  pub bounds-fail : n ≤ v → false ≡ bounded P
-  bounds-fail h = sym (not-passed _ (λ x. go (bounded-out P x) (ltb k 8192) refl))
+  pub bounds-fail : f ≡ Nothing → false ≡ bounded P
+  bounds-fail z = sym (not-passed _ (λ x. go (bounded-out P x) (ltb k 8192) refl))
     where
-      q : v ≡ tableEntry (opsOf P) k
-      q = right
+      q : n ≤ tableEntry (opsOf P) k
+      q = rw z at right
 
       go : Bounded P → (b : Bool) → ltb k 8192 ≡ b → ⊥
-      go d true c = let z = d .meet-lt _ _ (element-lt (P .size) (k / 64) (w .some)) (element-lt (P .size) k (w .some)) in omega (arith, q ∙ at-meet _ k l (ltb-true _ _ c))
-      go d false c = let z = d .join-lt _ _ (element-lt (P .size) (k / 64) (w .some)) (element-lt (P .size) k (w .some)) in omega (arith, q ∙ at-join _ k (ltb-false _ _ c) m)
+      go d true c = let z = d .meet-lt _ _ (element-lt (P .size) (k / 64) (w .some)) (element-lt (P .size) k (w .some)) in omega (arith, q, at-meet (opsOf P) k l (ltb-true _ _ c))
+      go d false c = let z = d .join-lt _ _ (element-lt (P .size) (k / 64) (w .some)) (element-lt (P .size) k (w .some)) in omega (arith, q, at-join (opsOf P) k (ltb-false _ _ c) m)
 
 pub bounds-done : (P : LatticePart) (w : Formed P) (t : List ℕ) (k : ℕ) → 12288 ≤ k → BoundsUpTo P k t → true ≡ bounded P
 bounds-done P w t k l u =

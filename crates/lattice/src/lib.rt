@@ -27,6 +27,12 @@ pub enum LatticeCheck {
     Accepted(Lattice),
 }
 
+// What a search for a meet or a join finds.
+enum Found {
+    At(Element),
+    Nothing,
+}
+
 // The rules that are tested for every two elements.
 enum Rule {
     Order,
@@ -141,28 +147,33 @@ fn is_lower(t: &[u8; 12352], up: bool, a: Element, b: Element, c: Element) -> bo
     false
 }
 
-// The candidate for the meet after c: c where it is at or below both and the candidate so far (n for none) is none or at or below it.
-fn better_of(t: &[u8; 12352], n: u8, up: bool, a: Element, b: Element, m: u8, c: u8) -> u8
-    ensures { λ r. ⌜ r ≡ better n (orderFor up (atMostIn (now (t .entry)))) (a .0) (b .0) c m ⌝ }
+// The candidate for the meet after c, where m was the one before: c where it is at or below both, and m is none or at or below it.
+fn better_of(t: &[u8; 12352], up: bool, a: Element, b: Element, m: Found, c: Element) -> Found
+    ensures { λ r. ⌜ r ≡ better (orderFor up (atMostIn (now (t .entry)))) (a .0) (b .0) (c .0) m ⌝ }
 {
-    if is_lower(t, up, a, b, Element(c)) {
-        if m == n {
-            return c;
+    if is_lower(t, up, a, b, c) {
+        match m {
+            Found::At(e) => {
+                if below(t, up, e, c) {
+                    Found::At(c)
+                } else {
+                    m
+                }
+            }
+            Found::Nothing => Found::At(c),
         }
-        if below(t, up, Element(m), Element(c)) {
-            return c;
-        }
+    } else {
+        m
     }
-    m
 }
 
-// The one element that can be the meet; n for none.
-fn candidate_of(t: &[u8; 12352], n: u8, up: bool, a: Element, b: Element) -> u8
-    ensures { λ r. ⌜ r ≡ candidate n (orderFor up (atMostIn (now (t .entry)))) (a .0) (b .0) n ⌝ }
+// The one element that can be the meet.
+fn candidate_of(t: &[u8; 12352], n: u8, up: bool, a: Element, b: Element) -> Found
+    ensures { λ r. ⌜ r ≡ candidate (orderFor up (atMostIn (now (t .entry)))) (a .0) (b .0) n ⌝ }
 {
-    let mut m = n;
+    let mut m = Found::Nothing;
     for c in 0..n {
-        m = better_of(t, n, up, a, b, m, c);
+        m = better_of(t, up, a, b, m, Element(c));
     }
     m
 }
@@ -189,28 +200,32 @@ fn is_greatest(t: &[u8; 12352], n: u8, up: bool, a: Element, b: Element, m: Elem
     true
 }
 
-// The candidate where it passes; n where there is no meet.
-fn scan(t: &[u8; 12352], n: u8, up: bool, a: Element, b: Element) -> u8
+// The candidate where it passes.
+fn scan(t: &[u8; 12352], n: u8, up: bool, a: Element, b: Element) -> Found
     ensures { λ r. ⌜ r ≡ scanFrom n (orderFor up (atMostIn (now (t .entry)))) (a .0) (b .0) ⌝ }
 {
     let m = candidate_of(t, n, up, a, b);
-    if m < n {
-        if is_greatest(t, n, up, a, b, Element(m)) {
-            return m;
+    match m {
+        Found::At(e) => {
+            if is_greatest(t, n, up, a, b, e) {
+                m
+            } else {
+                Found::Nothing
+            }
         }
+        Found::Nothing => Found::Nothing,
     }
-    n
 }
 
-// The meet of a and b; n where there is none. Of two elements in order it is the lower one.
-fn bound(t: &[u8; 12352], n: u8, up: bool, a: Element, b: Element) -> u8
+// The meet of a and b, if there is one. Of two elements in order it is the lower one.
+fn bound(t: &[u8; 12352], n: u8, up: bool, a: Element, b: Element) -> Found
     ensures { λ r. ⌜ r ≡ boundFrom n (orderFor up (atMostIn (now (t .entry)))) (a .0) (b .0) ⌝ }
 {
     if below(t, up, a, b) {
-        return a.0;
+        return Found::At(a);
     }
     if below(t, up, b, a) {
-        return b.0;
+        return Found::At(b);
     }
     scan(t, n, up, a, b)
 }
@@ -228,7 +243,7 @@ fn greater(i: usize, j: usize) -> usize
 }
 
 // What belongs at a place of the meets or the joins. It repeats an earlier place where that stands for the same two elements.
-fn bound_at(t: &[u8; 12352], n: u8, k: usize) -> u8
+fn bound_at(t: &[u8; 12352], n: u8, k: usize) -> Found
     requires { ⌜ (4096 ≤ k) × (k < 12288) ⌝ }
     ensures { λ r. ⌜ r ≡ boundAt n (now (t .entry)) k ⌝ }
 {
@@ -238,7 +253,7 @@ fn bound_at(t: &[u8; 12352], n: u8, k: usize) -> u8
     let j = operations::index(b.0);
     let place = k / 4096 * 4096 + (lesser(i, j) * 64 + greater(i, j));
     if place < k {
-        return t[place];
+        return Found::At(Element(t[place]));
     }
     bound(t, n, 8192 <= k, a, b)
 }
@@ -291,11 +306,10 @@ fn fill_bounds(part: &[u8], t: &mut [u8; 12352]) -> bool
     let _ = entries(t);
     let n = size(part);
     for k in 4096..12288 {
-        let v = bound_at(t, n, k);
-        if n <= v {
+        let Found::At(e) = bound_at(t, n, k) else {
             return false;
-        }
-        t[k] = v;
+        };
+        t[k] = e.0;
     }
     true
 }

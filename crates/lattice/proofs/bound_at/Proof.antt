@@ -38,8 +38,8 @@ add-place c = search needs
 add-place-2 : tie.Need-add-place-2
 add-place-2 c = search needs
 
-element-copy-out-result : tie.Need-element-copy-out-result
-element-copy-out-result c = search needs
+element-copy-out-t18 : tie.Need-element-copy-out-t18
+element-copy-out-t18 c = search needs
 
 returns : tie.Need-returns
 unfolding boundAt
@@ -76,7 +76,7 @@ bound-at-spec =
     greater-requires
     add-place
     add-place-2
-    element-copy-out-result
+    element-copy-out-t18
     returns
     bound-requires
     returns-2)

@@ -10,13 +10,13 @@ use Rattle.lattice.proofs.candidate_of.Statement.{statement}
 use Rattle.lattice.proofs.candidate_of.Tie as tie
 
 abbrev Inv-loop : tie.InvT-loop
-Inv-loop t n up a b m₀ c₀ m c = (c ≤ n) × (m ≡ candidate n (orderFor up (atMostIn t)) (a .0) (b .0) c)
+Inv-loop t n up a b m₀ c₀ m c = (c ≤ n) × (m ≡ candidate (orderFor up (atMostIn t)) (a .0) (b .0) c)
 
 abbrev μ-loop : tie.MeasureT-loop
 μ-loop t n up a b m₀ c₀ m c = n - c
 
 loop-holds : tie.Need-loop-holds Inv-loop μ-loop
-loop-holds c = (omega arith, candidate-none _ _ _ _)
+loop-holds c = (omega arith, candidate-none _ _ _)
 
 better-of-requires : tie.Need-better-of-requires Inv-loop μ-loop
 better-of-requires c κs = search needs
@@ -28,10 +28,10 @@ loop-less : tie.Need-loop-less Inv-loop μ-loop
 loop-less c = omega arith
 
 loop-again : tie.Need-loop-again Inv-loop μ-loop
-loop-again c = (omega arith, c .better-of .ensures ∙ ap (better _ _ _ _ _) (c .before .before .loop .inv .1) ∙ sym (candidate-more _ _ _ _ _))
+loop-again c = (omega arith, c .better-of .ensures ∙ ap (better _ _ _ _) (c .before .before .loop .inv .1) ∙ sym (candidate-more _ _ _ _))
 
 returns : tie.Need-returns Inv-loop μ-loop
-returns c = c .before .loop .inv .1 ∙ reached (candidate _ _ _ _) (c .before .loop .inv .0) (c .loop-test .left)
+returns c = c .before .loop .inv .1 ∙ reached (candidate _ _ _) (c .before .loop .inv .0) (c .loop-test .left)
 
 pub candidate-of-spec : {M : Type 1} → statement M
 candidate-of-spec =

@@ -29,12 +29,18 @@ loop-holds c = (omega arith, omega arith, c .before .before .entries-arg2 .given
 bound-at-requires : tie.Need-bound-at-requires Inv-loop μ-loop
 bound-at-requires c κs = omega arith
 
+enum-known-e : tie.Need-enum-known-e Inv-loop μ-loop
+enum-known-e c = search needs
+
+enum-told : tie.Need-enum-told Inv-loop μ-loop
+enum-told c = search needs
+
 returns : tie.Need-returns Inv-loop μ-loop
 returns c =
-    let i = c .before .before .before .before .loop .inv in
-    let p = c .before .before .before .before .before .before .before .before .before .before .pre in
+    let i = c .before .before .before .before .before .loop .inv in
+    let p = c .before .before .before .before .before .before .before .before .before .before .before .pre in
     record {
-      says = bounds-fail _ (formed _ (p .0)) (ordered-out _ (p .1)) _ _ _ _ (i .0) (c .before .before .before .loop-test .taken) (i .3) (c .before .before .before .before .before .size .ensures) (c .before .bound-at .ensures) (c .if1 .taken);
+      says = bounds-fail _ (formed _ (p .0)) (ordered-out _ (p .1)) _ _ _ _ (i .0) (c .before .before .before .before .loop-test .taken) (i .3) (c .before .before .before .before .before .before .size .ensures) (c .before .before .bound-at .ensures) (c .enum-told .given .1);
       filled = λ x. absurd (false-true refl x);
     }
 
@@ -49,9 +55,9 @@ loop-less c = omega arith
 
 loop-again : tie.Need-loop-again Inv-loop μ-loop
 loop-again c =
-    let i = c .before .before .before .before .loop .inv in
-    let p = c .before .before .before .before .before .before .before .before .before .before .pre in
-    (omega arith, omega arith, simp length-set (i .2), bounds-more _ (formed _ (p .0)) (ordered-out _ (p .1)) _ _ _ _ (i .0) (c .before .before .before .loop-test .taken) (i .3) (c .before .before .before .before .before .size .ensures) (c .before .bound-at .ensures) (c .if1 .left) (omega (arith, i .2)))
+    let i = c .before .before .before .before .before .before .loop .inv in
+    let p = c .before .before .before .before .before .before .before .before .before .before .before .before .pre in
+    (omega arith, omega arith, simp length-set (i .2), bounds-more _ (formed _ (p .0)) (ordered-out _ (p .1)) _ _ _ _ (i .0) (c .before .before .before .before .before .loop-test .taken) (i .3) (c .before .before .before .before .before .before .before .size .ensures) (c .before .before .before .bound-at .ensures) _ (c .before .e .given .1) (omega (arith, i .2)))
 
 returns-2 : tie.Need-returns-2 Inv-loop μ-loop
 returns-2 c =
@@ -68,6 +74,8 @@ fill-bounds-spec =
     size-requires
     loop-holds
     bound-at-requires
+    enum-known-e
+    enum-told
     returns
     element-write-t
     add-k
