@@ -153,13 +153,7 @@ fn better_of(t: &[u8; 12352], up: bool, a: Element, b: Element, m: Found, c: Ele
 {
     if is_lower(t, up, a, b, c) {
         match m {
-            Found::At(e) => {
-                if below(t, up, e, c) {
-                    Found::At(c)
-                } else {
-                    m
-                }
-            }
+            Found::At(e) => { if below(t, up, e, c) { Found::At(c) } else { m } }
             Found::Nothing => Found::At(c),
         }
     } else {

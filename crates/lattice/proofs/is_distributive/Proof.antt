@@ -8,7 +8,9 @@ use Rattle.lattice.proofs.is_distributive.Tie as tie
 
 returns : tie.Need-returns
 unfolding distributePair
-returns c = simp (le-leb _ _ (c .if1 .taken))
+returns c =
+    let a = c .before .before .before .args in
+    simp (le-leb (a .b .0) (a .c .0) (c .if1 .taken))
 
 at-most-requires : tie.Need-at-most-requires
 at-most-requires c κs = search needs

@@ -1,12 +1,21 @@
 -- `valuer::variable` meets its contract: by the variable's number.
+use Prim.Native.Nat.{ℕ}
+use mathlib.Core.Path.{_≡_}
+use mathlib.Core.List.{List}
 use borrow.Author.Tests.{ne-eqb}
 use Rattle.valuer.specs.Node.{slotOf}
 use Rattle.valuer.proofs.variable.Statement.{statement}
 use Rattle.valuer.proofs.variable.Tie as tie
 
-returns : tie.Need-returns
+-- variable 0 is the nearest binder's
+slot-near : (near mid far : List ℕ) (v : ℕ) → v ≡ 0 → near ≡ slotOf near mid far v
 unfolding slotOf
-returns c = simp (c .before .if1 .taken)
+slot-near near mid far v e = simp e
+
+returns : tie.Need-returns
+returns c =
+    let a = c .before .before .args in
+    slot-near (a .near .now) (a .mid .now) (a .far .now) (a .v) (c .before .if1 .taken)
 
 returns-2 : tie.Need-returns-2
 unfolding slotOf
