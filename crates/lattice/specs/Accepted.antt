@@ -9,13 +9,13 @@ use native.Mathlib.Omega.{arith}
 use borrow.Author.Tests.{ltb-true, lt-ltb, leb-true, eqb-true, eq-eqb}
 use lib.Dec.{ltb, leb, eqb}
 use lib.ListN.{length, getD}
-use Rattle.theory.specs.Test.{below-suc, allBelow, and-l, and-r, and-in, ⇒-elim, ⇒-in, all-at, all-in}
+use Rattle.theory.specs.Test.{below-suc, allBelow, _⇒_, and-l, and-r, and-in, ⇒-elim, ⇒-in, all-at, all-in}
 use Rattle.theory.specs.Lattice.{Ops, Laws}
 use Rattle.theory.specs.Descent.{all-map}
 use Rattle.theory.specs.Part.{LatticePart, meetOf, joinOf, topOf, botOf, element, opsOf, explicitPart}
 use Rattle.refusal.specs.declared.Refusal.{Refusal}
 use Rattle.lattice.specs.Panel.{panelPart}
-use Rattle.lattice.specs.Reading.{LatticeReading, accepted, isPanel, latticeOf, explicitForm, latticeForm, reflexive, antisymmetric, transitive, partialOrder, bounded, distributive, complementRules, require, partReading, latticeReading}
+use Rattle.lattice.specs.Reading.{LatticeReading, accepted, isPanel, latticeOf, explicitForm, latticeForm, all3, reflexive, antisymmetric, transitive, partialOrder, bounded, distributive, complementRules, require, partReading, latticeReading}
 use Rattle.theory.specs.Height.{distinct-le}
 use Rattle.lattice.specs.Bounds.{element-lt, element-id, all2-at, all2-in, all3-at, all3-in, reversed, join-reversed, meet-reversed, bot-reversed, MeetAt, Antisymmetric, meet-is, meet-some, meet-same, TopAt, top-only, boundUpTo}
 
@@ -36,11 +36,12 @@ pub record Ordered (P : LatticePart) : Type 0 where
 pub ordered-out : (P : LatticePart) → partialOrder (P .size) (P .order) ≡ true → Ordered P
 unfolding partialOrder reflexive antisymmetric transitive
 ordered-out P t =
+    let tr : all3 (P .size) (λ a b c. P .order a b ⇒ P .order b c ⇒ P .order a c) ≡ true = and-r (reflexive (P .size) (P .order) && antisymmetric (P .size) (P .order)) _ t in
     let ra : (reflexive (P .size) (P .order) && antisymmetric (P .size) (P .order)) ≡ true = and-l (reflexive (P .size) (P .order) && antisymmetric (P .size) (P .order)) _ t in
     record {
       rfl = all-at (P .size) _ (and-l (reflexive (P .size) (P .order)) _ ra);
       anti = record { same = λ a b l m p q. eqb-true a b (⇒-elim (P .order b a) _ (⇒-elim (P .order a b) _ (all2-at (P .size) _ (and-r (reflexive (P .size) (P .order)) _ ra) a b l m) p) q) };
-      trans = λ a b c l m k p q. ⇒-elim (P .order b c) _ (⇒-elim (P .order a b) _ (all3-at (P .size) _ (and-r (reflexive (P .size) (P .order) && antisymmetric (P .size) (P .order)) _ t) a b c l m k) p) q;
+      trans = λ a b c l m k p q. ⇒-elim (P .order b c) _ (⇒-elim (P .order a b) _ (all3-at (P .size) _ tr a b c l m k) p) q;
     }
 
 pub ordered-in : (P : LatticePart) → Ordered P → partialOrder (P .size) (P .order) ≡ true

@@ -23,9 +23,13 @@ loop-holds c = (omega arith, all-none _)
 steps-to-requires : tie.Need-steps-to-requires Inv-loop μ-loop
 steps-to-requires c κs = search needs
 
+-- the test of c is that of a, b and c
+tested : (c : tie.After-steps-to Inv-loop μ-loop) → c .steps-to .result ≡ stepsTo (atMostIn (c .before .before .before .args .t .now)) (c .before .before .before .args .a .0) (c .before .before .before .args .b .0) (c .before .before .loop .c)
+tested c = c .steps-to .ensures
+
 returns : tie.Need-returns Inv-loop μ-loop
 unfolding above
-returns c = sym (all-fails _ _ _ (c .before .before .loop-test .taken) (sym (c .before .steps-to .ensures) ∙ not-true _ (c .if1 .taken)))
+returns c = sym (all-fails _ _ _ (c .before .before .loop-test .taken) (sym (tested (c .before)) ∙ not-true _ (c .if1 .taken)))
 
 add-c : tie.Need-add-c Inv-loop μ-loop
 add-c c = omega arith
@@ -34,7 +38,7 @@ loop-less : tie.Need-loop-less Inv-loop μ-loop
 loop-less c = omega arith
 
 loop-again : tie.Need-loop-again Inv-loop μ-loop
-loop-again c = (omega arith, all-more _ _ (c .before .before .before .loop .inv .1) (sym (c .before .steps-to .ensures) ∙ not-false _ (c .if1 .left)))
+loop-again c = (omega arith, all-more _ _ (c .before .before .before .loop .inv .1) (sym (tested (c .before)) ∙ not-false _ (c .if1 .left)))
 
 returns-2 : tie.Need-returns-2 Inv-loop μ-loop
 unfolding above
