@@ -13,7 +13,8 @@ use Rattle.casefile.specs.Reading.{refused, caseReading}
 use Rattle.casefile.specs.Gapless.{gapless}
 use Rattle.casefile.specs.Accepted.{accepted-case}
 use Rattle.casefile.specs.Caller.{AcceptedCase}
-use Rattle.theory.specs.Written.{written, written-none, written-byte}
+use Rattle.theory.specs.Written.{written-none, written-byte}
+use Rattle.theory.specs.Lists.{written}
 use Rattle.desk.specs.Desk.{Desk, Standing, Call, Reply}
 use Rattle.desk.specs.Refused.{short, numberReply}
 use Rattle.desk.specs.Moved.{opened}

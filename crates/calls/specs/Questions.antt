@@ -1,8 +1,8 @@
 -- What the questions are answered, from what the code found. Rests on Held, rounds' Table and valuer's Values.
-use Prim.Native.Nat.{ℕ, suc, _+_, _*_, _≤_, _<_}
+use Prim.Native.Nat.{ℕ, _+_, _*_, _≤_, _<_}
 use mathlib.Core.Path.{_≡_, refl, sym, ap, ap₂, _∙_}
 use mathlib.Core.Bool.{Bool, true, false, cond, _&&_, _||_}
-use mathlib.Core.List.{List, []}
+use mathlib.Core.List.{List}
 use native.Mathlib.Omega.{arith}
 use borrow.Author.Tests.{ltb-true, eqb-true}
 use lib.Dec.{ltb, eqb}
@@ -10,15 +10,16 @@ use lib.ListN.{length, getD, take}
 use Rattle.theory.specs.Model.{Model}
 use Rattle.theory.specs.Part.{modelOf, ModelShape}
 use Rattle.theory.specs.Simulation.{F, score}
-use Rattle.theory.specs.Test.{and-l, and-r, and-in}
+use Rattle.theory.specs.TestLaws.{and-l, and-r, and-in}
 use Rattle.operations.specs.Table.{opsIn}
 use Rattle.formula.specs.Bytes.{read, formulaReading}
 use Rattle.casefile.specs.declared.Sizes.{Sizes}
 use Rattle.casefile.specs.Directory.{partCount, partAt}
-use Rattle.casefile.specs.Placed.{Placed}
+use Rattle.casefile.specs.Conditions.{Placed}
 use Rattle.valuer.specs.Values.{Reads, ValueAt, WholeValue}
 use Rattle.rounds.specs.Table.{tableOf, Shaped, simulationTest}
-use Rattle.rounds.specs.Share.{shareIn, share-in}
+use Rattle.rounds.specs.Share.{share-in}
+use Rattle.rounds.specs.Table.{shareIn}
 use Rattle.desk.specs.Desk.{Desk, Question, Call, Reply, wholeTable}
 use Rattle.desk.specs.Case.{N1, N2, modelIn, formulaIn}
 use Rattle.desk.specs.Refused.{tableKept, numberReply}

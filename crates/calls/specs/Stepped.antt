@@ -1,10 +1,9 @@
 -- What step does, from the row that it worked. Rests on Held, desk's Moved and rounds' Table.
-use Prim.Native.Nat.{ℕ, _+_, _*_, _-_, _≤_, _<_}
+use Prim.Native.Nat.{ℕ, _*_, _-_, _≤_, _<_}
 use mathlib.Core.Path.{_≡_, refl, ap, _∙_}
-use mathlib.Core.Bool.{Bool, true, false, cond, not, _||_}
+use mathlib.Core.Bool.{Bool, true, false, cond, _||_}
 use mathlib.Core.List.{List}
 use native.Mathlib.Omega.{arith}
-use lib.Dec.{eqb}
 use lib.ListN.{length, getD, take}
 use Rattle.theory.specs.Part.{modelOf}
 use Rattle.theory.specs.Simulation.{F}
@@ -13,7 +12,7 @@ use Rattle.operations.specs.Table.{opsIn}
 use Rattle.model.specs.Places.{prod-le}
 use Rattle.casefile.specs.declared.Sizes.{Sizes}
 use Rattle.casefile.specs.Directory.{partCount, partAt}
-use Rattle.casefile.specs.Placed.{Placed}
+use Rattle.casefile.specs.Conditions.{Placed}
 use Rattle.rounds.specs.Table.{tableOf, rowWritten, rowChanged, Shaped}
 use Rattle.desk.specs.Desk.{Desk, Standing, Call, Reply}
 use Rattle.desk.specs.Case.{latticeSize, model1, model2, N1, N2, operator, tableSize}

@@ -14,7 +14,7 @@ ghost use Rattle.theory.specs.Part.{modelOf};
 ghost use Rattle.theory.specs.Simulation.{F, score};
 ghost use Rattle.operations.specs.Table.{opsIn};
 ghost use Rattle.valuer.specs.Values.{ValueAt, WholeValue};
-ghost use Rattle.theory.specs.Written.{written};
+ghost use Rattle.theory.specs.Lists.{written};
 ghost use Rattle.rounds.specs.Table.{tableOf, simulationTest};
 ghost use Rattle.desk.specs.Desk.{Call, Question, Reply};
 ghost use Rattle.calls.specs.Read.{standingOf, deskOf};

@@ -13,28 +13,23 @@ use lib.Seq.{take-append-add}
 use Rattle.theory.specs.Formula.{Formula, bottom}
 use Rattle.theory.specs.Lattice.{All}
 use Rattle.theory.specs.Part.{LatticePart, ModelShape}
-use Rattle.theory.specs.Test.{and-l, and-r}
+use Rattle.theory.specs.TestLaws.{and-l, and-r}
 use Rattle.refusal.specs.declared.Refusal.{Refusal}
 use Rattle.refusal.specs.declared.Refusal.the-variants.{LatticeForm, BadModel}
 use Rattle.lattice.specs.Reading.{LatticeReading, latticeReading, latticeOf, latticeForm, isPanel, explicitForm, partReading, require}
 use Rattle.lattice.specs.Accepted.{explicit-out}
 use Rattle.model.specs.Places.{prod-le}
-use Rattle.model.specs.Reading.{modelTest, accepted-shape}
+use Rattle.model.specs.Reading.{modelTest}
+use Rattle.model.specs.Accepted.{accepted-shape}
 use Rattle.formula.specs.Bytes.{FormulaReading, formulaReading}
 use Rattle.formula.specs.RoundTrip.{formula-part}
 use Rattle.casefile.specs.Directory.{partCount, partSize, partAt, partsFrom, partsOf}
 use Rattle.casefile.specs.Reading.{Content, contentParts, FormulasReading, readOne, formulasReading, afterFormulas, modelsReading, afterLattice, partsReading, caseReading, storeReading, refused, content, refusedAt, read}
 use Rattle.casefile.specs.Gapless.{joined, gapless}
-use Rattle.casefile.specs.Placed.{Placed, placed-reading, accepted-placed}
+use Rattle.casefile.specs.Placed.{placed-reading, accepted-placed}
+use Rattle.casefile.specs.Conditions.{Placed}
 use Rattle.casefile.specs.Laid.{gapless-length, gapless-reading}
-
--- each part of an accepted content passed its own test
-pub record PartsRead (c : Content) : Type 0 where
-  pub lattice-read : latticeReading (c .latticeBytes) ≡ LatticeReading.accepted (c .lattice)
-  pub model1-read : modelTest (c .lattice .size) (c .model1Bytes) ≡ true
-  pub model2-read : modelTest (c .lattice .size) (c .model2Bytes) ≡ true
-  pub same-propositions : getD (c .model1Bytes) 1 0 ≡ getD (c .model2Bytes) 1 0
-  pub formulas-read : formulasReading (getD (c .model1Bytes) 1 0) 3 (c .formulaBytes) ≡ read (c .formulas)
+use Rattle.casefile.specs.Conditions.{FormulasRead, PartsRead}
 
 -- the content is that of the parts l, m1, m2 and fs
 pub record ContentOf (l m1 m2 : List ℕ) (fs : List (List ℕ)) (c : Content) : Type 0 where
@@ -132,11 +127,6 @@ case-exactly b c = (λ e. let a = accepted-case b c e in (a .placed, a .parts, a
         placed-reading b p ∙ cc (q, parts-read c r)
 
 -- ---- the formulas of formula parts
-
--- as many formulas as parts, and each part is read as its formula
-pub record FormulasRead (k : ℕ) (ps : List (List ℕ)) (φs : List Formula) : Type 0 where
-  pub as-many : length φs ≡ length ps
-  pub each : (f : ℕ) → f < length φs → formulaReading k (getD ps f []) ≡ FormulaReading.read (getD φs f bottom)
 
 -- one part more, and one less
 read-more : (k : ℕ) (p : List ℕ) (ps : List (List ℕ)) (φ : Formula) (φs : List Formula) → formulaReading k p ≡ FormulaReading.read φ → FormulasRead k ps φs → FormulasRead k (p ∷ ps) (φ ∷ φs)

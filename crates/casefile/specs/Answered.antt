@@ -20,7 +20,8 @@ use Rattle.casefile.specs.declared.CaseCheck.the-variants.{Refused}
 use Rattle.casefile.specs.Directory.{partCount, sizeTest, directoryTest, misplaced, partAt, partsFrom}
 use Rattle.casefile.specs.Reading.{Content, CaseReading, FormulasReading, formulasReading, afterFormulas, modelsReading, afterLattice, caseReading, refused, refusedAt, read}
 use Rattle.casefile.specs.Answer.{caseAnswer, CaseAnswered}
-use Rattle.casefile.specs.Placed.{Placed, placed-reading}
+use Rattle.casefile.specs.Placed.{placed-reading}
+use Rattle.casefile.specs.Conditions.{Placed}
 use Rattle.casefile.specs.Accepted.{formulas-read, ContentOf, refused-content, content-of, parts-length}
 use Rattle.casefile.specs.Steps.{formulasAnswer, restOf, restAnswer, afterSecond, secondAnswer, afterFirst, modelsAnswer, afterChecked, PartsAnswered}
 

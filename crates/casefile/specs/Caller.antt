@@ -15,7 +15,8 @@ use Rattle.casefile.specs.Directory.{partsOf}
 use Rattle.casefile.specs.Reading.{Content, CaseReading, refused, content, caseReading}
 use Rattle.casefile.specs.Gapless.{gapless}
 use Rattle.casefile.specs.Answer.{sizesOf, caseAnswer, CaseAnswered}
-use Rattle.casefile.specs.Placed.{Placed, accepted-placed}
+use Rattle.casefile.specs.Placed.{accepted-placed}
+use Rattle.casefile.specs.Conditions.{Placed}
 use Rattle.casefile.specs.Accepted.{written-most}
 use Rattle.casefile.specs.Content.{ContentSound, content-sound, PartsAre, parts-are}
 

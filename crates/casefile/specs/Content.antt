@@ -10,11 +10,12 @@ use Rattle.theory.specs.Model.{Valued}
 use Rattle.theory.specs.Part.{opsOf, modelOf, ModelShape}
 use Rattle.lattice.specs.Accepted.{accepted-is-lattice, accepted-sound}
 use Rattle.model.specs.Places.{prod-le}
-use Rattle.model.specs.Reading.{accepted-shape, accepted-valued}
+use Rattle.model.specs.Accepted.{accepted-shape, accepted-valued}
 use Rattle.casefile.specs.Directory.{partCount, partAt}
 use Rattle.casefile.specs.Reading.{Content, contentParts, caseReading, content}
 use Rattle.casefile.specs.Placed.{part-of}
-use Rattle.casefile.specs.Accepted.{PartsRead, formulas-read, parts-length, accepted-case, FormulasRead}
+use Rattle.casefile.specs.Accepted.{formulas-read, parts-length, accepted-case}
+use Rattle.casefile.specs.Conditions.{PartsRead, FormulasRead}
 
 pub record ContentSound (c : Content) : Type 0 where
   pub laws : Laws (opsOf (c .lattice))

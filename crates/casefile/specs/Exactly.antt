@@ -1,44 +1,23 @@
 -- Which strings of bytes are cases, and with which content: conditions on the parts themselves, one field for each, in place of the tests
 -- and the parse that the reading runs. Rests on Accepted, and on what is accepted of a single part: lattice's Accepted, model's Reading, formula's RoundTrip.
-use Prim.Native.Nat.{ℕ, _≤_, _<_}
+use Prim.Native.Nat.{ℕ}
 use mathlib.Core.Path.{_≡_, sym, ap, _∙_}
 use mathlib.Core.Bool.{true}
 use mathlib.Core.Logic.{_↔_}
-use mathlib.Core.List.{List, []}
-use lib.ListN.{length, getD}
-use Rattle.theory.specs.Formula.{bottom}
-use Rattle.theory.specs.Model.{Valued}
-use Rattle.theory.specs.Part.{LatticePart, opsOf, modelOf, ModelShape}
+use mathlib.Core.List.{List}
+use lib.ListN.{getD}
+use Rattle.theory.specs.Part.{LatticePart}
 use Rattle.lattice.specs.Reading.{LatticeReading, latticeReading, latticeOf, latticeForm}
-use Rattle.lattice.specs.Accepted.{DeMorganLattice, accepted-sound, lattice-exactly}
-use Rattle.model.specs.Reading.{model-exactly}
-use Rattle.formula.specs.Bytes.{bytesOf, allowed}
+use Rattle.lattice.specs.Accepted.{accepted-sound, lattice-exactly}
+use Rattle.lattice.specs.DeMorgan.{DeMorganLattice}
+use Rattle.model.specs.Accepted.{model-exactly}
 use Rattle.formula.specs.RoundTrip.{reading-exact}
 use Rattle.casefile.specs.Directory.{partsOf}
 use Rattle.casefile.specs.Reading.{Content, contentParts, caseReading, content}
-use Rattle.casefile.specs.Placed.{Placed}
-use Rattle.casefile.specs.Accepted.{PartsRead, FormulasRead, formulas-exactly, case-exactly}
-
--- b is a case of document 01 that holds c
-pub record CaseOf (b : List ℕ) (c : Content) : Type 0 where
-  -- size and directory are right and each part stands where it may; these parts are those of c
-  pub placed : Placed b
-  pub parts : partsOf b ≡ contentParts c
-  -- part 0 has its form, and gives the order and complement of a distributive De Morgan lattice
-  pub lattice-form : latticeForm (c .latticeBytes) ≡ true
-  pub lattice-is : c .lattice ≡ latticeOf (c .latticeBytes)
-  pub de-morgan : DeMorganLattice (c .lattice)
-  -- parts 1 and 2 have their sizes and lengths, 'Every value is an element', and 'Both models have the same k'
-  pub shape1 : ModelShape (c .model1Bytes)
-  pub valued1 : Valued (opsOf (c .lattice)) (modelOf (c .model1Bytes))
-  pub shape2 : ModelShape (c .model2Bytes)
-  pub valued2 : Valued (opsOf (c .lattice)) (modelOf (c .model2Bytes))
-  pub same-propositions : getD (c .model1Bytes) 1 0 ≡ getD (c .model2Bytes) 1 0
-  -- every other part is the bytes of its formula, at most 255, and the formula is allowed
-  pub as-many : length (c .formulas) ≡ length (c .formulaBytes)
-  pub formula-bytes : (f : ℕ) → f < length (c .formulas) → getD (c .formulaBytes) f [] ≡ bytesOf (getD (c .formulas) f bottom)
-  pub formula-most : (f : ℕ) → f < length (c .formulas) → length (getD (c .formulaBytes) f []) ≤ 255
-  pub formula-allowed : (f : ℕ) → f < length (c .formulas) → allowed (getD (c .model1Bytes) 1 0) (getD (c .formulas) f bottom) ≡ true
+use Rattle.casefile.specs.Conditions.{Placed}
+use Rattle.casefile.specs.Accepted.{formulas-exactly, case-exactly}
+use Rattle.casefile.specs.Conditions.{PartsRead, FormulasRead}
+use Rattle.casefile.specs.Conditions.{CaseOf}
 
 -- the lattice that a lattice part is accepted with is the one that it gives
 lattice-of : (b : List ℕ) (P : LatticePart) → latticeReading b ≡ LatticeReading.accepted P → (P ≡ latticeOf b) × (latticeForm b ≡ true) × DeMorganLattice P

@@ -14,8 +14,10 @@ use Rattle.casefile.specs.Directory.{partStart, partSize, placed, mispla
 use Rattle.casefile.specs.Reading.{Content, formulasReading, caseReading, content}
 use Rattle.casefile.specs.Gapless.{pairs, joined, gapless}
 use Rattle.casefile.specs.Answer.{caseAnswer}
-use Rattle.casefile.specs.Placed.{Placed, has-directory, none-misplaced}
-use Rattle.casefile.specs.Accepted.{PartsRead, case-exactly}
+use Rattle.casefile.specs.Placed.{has-directory, none-misplaced}
+use Rattle.casefile.specs.Conditions.{Placed}
+use Rattle.casefile.specs.Accepted.{case-exactly}
+use Rattle.casefile.specs.Conditions.{PartsRead}
 
 -- 'the bytes 4, 17 0 13 0, 30 0 5 0, 35 0 5 0, 40 0 2 0, 3, 2 1 0, 1 1 1 0 1 1 0 0 1, 1 1 2 1 0, 1 1 2 1 0, 2 0'
 abbrev pub reportCase : List ℕ

@@ -4,7 +4,7 @@ use mathlib.Core.Path.{_≡_, refl, sym, ap, ap₂, _∙_}
 use mathlib.Core.Bool.{true, false}
 use mathlib.Core.List.{List}
 use native.Mathlib.Omega.{arith}
-use Rattle.theory.specs.Test.{false-true}
+use Rattle.theory.specs.TestLaws.{false-true}
 use Rattle.formula.specs.Bytes.{FormulaReading, formulaReading}
 use Rattle.casefile.specs.declared.FormulasCheck.{FormulasCheck}
 use Rattle.casefile.specs.declared.FormulasCheck.the-variants.{RefusedAt, Read}

@@ -11,7 +11,8 @@ use Rattle.theory.specs.Lattice.{All}
 use Rattle.casefile.specs.Directory.{partCount, directoryEnd, partStart, partSize, endBefore, partAt, partsFrom}
 use Rattle.casefile.specs.Reading.{partsReading, caseReading}
 use Rattle.casefile.specs.Gapless.{word, pairs, joined, directory, gapless}
-use Rattle.casefile.specs.Placed.{PartPlaced, Placed, placed-reading}
+use Rattle.casefile.specs.Placed.{placed-reading}
+use Rattle.casefile.specs.Conditions.{PartPlaced, Placed}
 
 -- part i of b is p and stands at `at`
 pub record LaidOne (b : List ℕ) (i at : ℕ) (p : List ℕ) : Type 0 where

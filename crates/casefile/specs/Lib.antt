@@ -4,7 +4,8 @@ pub mod Directory
 pub mod Reading
 pub mod Gapless
 pub mod Answer
--- ---- theorems; Placed has the conditions that functions on an accepted case ask for
+pub mod Conditions
+-- ---- theorems
 pub mod Placed
 pub mod Unread
 pub mod Laid

@@ -9,9 +9,10 @@ use native.Mathlib.Omega.{arith}
 use borrow.Author.Tests.{ltb-true, leb-true, lt-ltb, le-leb}
 use lib.Dec.{ltb, leb}
 use lib.ListN.{length}
-use Rattle.theory.specs.Test.{below-suc, and-l, and-r, bool-same, first-unique}
+use Rattle.theory.specs.TestLaws.{below-suc, and-l, and-r, bool-same, first-unique}
 use Rattle.casefile.specs.Directory.{partCount, directoryEnd, partStart, partSize, partEnd, endBefore, placed, misplaced}
-use Rattle.casefile.specs.Placed.{PartPlaced, part-placed, placed-part}
+use Rattle.casefile.specs.Placed.{part-placed, placed-part}
+use Rattle.casefile.specs.Conditions.{PartPlaced}
 use Rattle.casefile.specs.Steps.{wellPlaced}
 
 -- the parts before part i are placed

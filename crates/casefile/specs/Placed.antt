@@ -9,17 +9,11 @@ use native.Mathlib.Omega.{arith}
 use borrow.Author.Tests.{ltb-true, ltb-false, leb-true, lt-ltb, le-ltb, le-leb, not-false}
 use lib.Dec.{ltb, leb}
 use lib.ListN.{length, getD}
-use Rattle.theory.specs.Test.{and-l, and-r, all-four, first-is, first-unique}
+use Rattle.theory.specs.TestLaws.{and-l, and-r, all-four, first-is, first-unique}
 use Rattle.refusal.specs.declared.Refusal.the-variants.{CaseSize, Directory, PartPlace}
 use Rattle.casefile.specs.Directory.{partCount, directoryEnd, partStart, partSize, partEnd, endBefore, placed, sizeTest, directoryTest, misplaced, partAt, partsFrom, partsOf}
 use Rattle.casefile.specs.Reading.{Content, CaseReading, partsReading, caseReading, refused, content}
-
--- part i stands where it may
-pub record PartPlaced (b : List ℕ) (i : ℕ) : Type 0 where
-  pub some : 0 < partSize b i
-  pub after-directory : directoryEnd b ≤ partStart b i
-  pub after-part : endBefore b i ≤ partStart b i
-  pub within : partEnd b i ≤ length b
+use Rattle.casefile.specs.Conditions.{HasDirectory, PartPlaced, Placed}
 
 pub part-placed : (b : List ℕ) (i : ℕ) → placed b i ≡ true → PartPlaced b i
 unfolding placed
@@ -36,18 +30,6 @@ part-placed b i t =
 pub placed-part : (b : List ℕ) (i : ℕ) → PartPlaced b i → placed b i ≡ true
 unfolding placed
 placed-part b i p = simp (lt-ltb _ _ (p .some), le-leb _ _ (p .after-directory), le-leb _ _ (p .after-part), le-leb _ _ (p .within))
-
--- size and directory are right
-pub record HasDirectory (b : List ℕ) : Type 0 where
-  pub size-most : length b ≤ 32768
-  pub count-least : 3 ≤ partCount b
-  pub count-most : partCount b ≤ 11
-  pub directory-in : directoryEnd b ≤ length b
-
--- and all parts stand where they may
-pub record Placed (b : List ℕ) : Type 0 where
-  pub directory : HasDirectory b
-  pub each : (i : ℕ) → i < partCount b → PartPlaced b i
 
 pub has-directory : (b : List ℕ) → sizeTest b ≡ true → directoryTest b ≡ true → HasDirectory b
 has-directory b s d =

@@ -2,9 +2,9 @@
 use Prim.Native.Nat.{ℕ, _+_, _*_, _-_, _/_, _%_}
 use mathlib.Core.Path.{_≡_}
 use mathlib.Core.Bool.{Bool, true, false, cond, _&&_}
-use mathlib.Core.List.{List, _++_}
+use mathlib.Core.List.{List}
 use lib.Dec.{ltb, leb, eqb}
-use lib.ListN.{length, take, drop, set}
+use lib.ListN.{length, set}
 use Rattle.theory.specs.Part.{LatticePart, opsOf}
 use Rattle.operations.specs.Table.{opsIn}
 use Rattle.operations.specs.declared.Lattice.{Lattice}
@@ -19,7 +19,7 @@ use Rattle.lattice.specs.declared.LatticeCheck.{LatticeCheck}
 use Rattle.model.specs.declared.ModelCheck.{ModelCheck}
 use Rattle.model.specs.Reading.{modelAnswer}
 use Rattle.formula.specs.Bytes.{FormulaReading}
-use Rattle.formula.specs.Check.{checked}
+use Rattle.formula.specs.Answer.{checked}
 use Rattle.formula.specs.declared.FormulaCheck.{FormulaCheck}
 use Rattle.casefile.specs.Directory.{partCount, partStart, partSize, partEnd, partAt, partsFrom}
 use Rattle.casefile.specs.Reading.{FormulasReading, formulasReading, refusedAt, read}

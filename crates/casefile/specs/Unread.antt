@@ -9,17 +9,13 @@ use borrow.Author.Tests.{leb-true}
 use lib.Dec.{ltb, leb}
 use lib.ListN.{length, getD, take, drop, length-take, length-drop}
 use lib.Seq.{getD-take, getD-drop, ext-getD}
-use Rattle.theory.specs.Test.{and-l, firstBelow, FirstAt, first-is, first-unique}
+use Rattle.theory.specs.Test.{firstBelow}
+use Rattle.theory.specs.TestLaws.{and-l, FirstAt, first-is, first-unique}
 use Rattle.refusal.specs.declared.Refusal.the-variants.{CaseSize, Directory, PartPlace}
 use Rattle.casefile.specs.Directory.{partCount, directoryEnd, wordAt, partStart, partSize, partEnd, endBefore, placed, sizeTest, directoryTest, misplaced, partAt, partsFrom, partsOf}
 use Rattle.casefile.specs.Reading.{CaseReading, partsReading, caseReading, storeReading, refused}
 use Rattle.casefile.specs.Placed.{part-of}
-
--- d has the length of b, and the same byte at every place of b's directory and at every place of one of b's parts
-pub record SameWhereRead (b d : List ℕ) : Type 0 where
-  pub same-length : length b ≡ length d
-  pub same-directory : (at : ℕ) → at < directoryEnd b → getD b at 0 ≡ getD d at 0
-  pub same-part : (i : ℕ) → i < partCount b → (at : ℕ) → partStart b i ≤ at → at < partEnd b i → getD b at 0 ≡ getD d at 0
+use Rattle.casefile.specs.Conditions.{SameWhereRead}
 
 -- what a case whose size and directory are right is read as
 abbrev afterDirectory : List ℕ → CaseReading

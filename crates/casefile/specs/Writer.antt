@@ -7,10 +7,10 @@ use native.Mathlib.Numerals.{add-one}
 use native.Mathlib.Omega.{arith}
 use lib.ListN.{length, getD, take, drop, set, length-append, length-drop, take-append-drop}
 use lib.Seq.{length-take-le, take-length, take-at, drop-cons, drop-append-add, drop-drop, set-at, paste}
-use Rattle.theory.specs.Written.{written}
+use Rattle.theory.specs.Lists.{written}
 use Rattle.casefile.specs.Directory.{partCount, partStart, partSize, partAt, partsFrom, partsOf}
 use Rattle.casefile.specs.Gapless.{word, pairs, joined, gapless}
-use Rattle.casefile.specs.Placed.{Placed}
+use Rattle.casefile.specs.Conditions.{Placed}
 use Rattle.casefile.specs.Laid.{pairs-length, gapless-length}
 use Rattle.casefile.specs.Accepted.{part-length, parts-length}
 use Rattle.casefile.specs.Steps.{withWord, withPair}

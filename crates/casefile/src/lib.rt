@@ -7,13 +7,13 @@ use refusal::Refusal;
 ghost use mathlib.Core.Path.{_≡_};
 ghost use Prim.Native.Nat.{_+_, _*_, _-_, _≤_, _<_};
 ghost use lib.ListN.{length};
-ghost use Rattle.theory.specs.Written.{written};
+ghost use Rattle.theory.specs.Lists.{written};
 ghost use Rattle.formula.specs.Bytes.{formulaReading};
 ghost use Rattle.casefile.specs.Directory.{partCount, wordAt, partStart, partSize, partEnd, sizeTest, directoryTest, misplaced, partAt, partsFrom, partsOf};
 ghost use Rattle.casefile.specs.Reading.{formulasReading};
 ghost use Rattle.casefile.specs.Gapless.{pairs, joined, gapless};
 ghost use Rattle.casefile.specs.Answer.{CaseAnswered};
-ghost use Rattle.casefile.specs.Placed.{HasDirectory, Placed};
+ghost use Rattle.casefile.specs.Conditions.{HasDirectory, Placed};
 ghost use Rattle.casefile.specs.Steps.{wellPlaced, isRead, formulasAnswer, restAnswer, secondAnswer, modelsAnswer, PartsAnswered, withWord, withPair};
 
 // What an accepted case holds: its lattice, and the sizes of its models and formulas.

@@ -9,7 +9,7 @@ use Rattle.theory.specs.Model.{Model}
 use Rattle.theory.specs.Formula.{Formula, bottom}
 use Rattle.theory.specs.Simulation.{F, round, FirstUnchanged}
 use Rattle.theory.specs.Part.{opsOf, modelOf}
-use Rattle.theory.specs.Loop.{tab}
+use Rattle.theory.specs.Lists.{tab}
 use Rattle.casefile.specs.Reading.{Content}
 
 -- the lattice and the models, with their sizes n, N1 and N2; the entries of a table, N1·N2

@@ -1,12 +1,12 @@
 -- Demand 1, of every call on every desk: which refusal is given and exactly when; a refusal alters nothing; every other input is accepted.
 -- What a case is refused for is casefile's `caseReading`, and casefile's Exactly says which cases are accepted. Rests on Refused, Perform, Refusals.
 use Prim.Native.Nat.{ℕ, _≤_}
-use mathlib.Core.Path.{_≡_, refl, sym, ap, _∙_}
+use mathlib.Core.Path.{_≡_, sym, ap, _∙_}
 use mathlib.Core.Bool.{Bool, true, false}
 use mathlib.Core.Logic.{_↔_, _⊎_, inl, inr, ⊎-elim}
 use mathlib.Core.List.{List}
 use native.Mathlib.Omega.{arith}
-use Rattle.theory.specs.Test.{false-true, not-failed}
+use Rattle.theory.specs.TestLaws.{false-true, not-failed}
 use Rattle.refusal.specs.declared.Refusal.{Refusal}
 use Rattle.refusal.specs.declared.Refusal.the-variants.{ShortDesk, SpoiledDesk, OutOfRange}
 use Rattle.refusal.specs.Number.{numberOf}

@@ -16,7 +16,7 @@ use Rattle.theory.specs.Simulation.{SameTable, GreatestSimulation}
 use Rattle.theory.specs.Folds.{bigMeet-cong}
 use Rattle.theory.specs.Fixpoint.{value-is}
 use Rattle.theory.specs.Rounds.{F-cong}
-use Rattle.theory.specs.Test.{and-l, and-r}
+use Rattle.theory.specs.TestLaws.{and-l, and-r}
 use Rattle.formula.specs.RoundTrip.{formula-part}
 use Rattle.casefile.specs.Reading.{Content, content, storeReading}
 use Rattle.casefile.specs.Content.{ContentSound, content-sound}

@@ -15,8 +15,10 @@ use Rattle.theory.specs.Simulation.{SameTable, AtMostTable, Bounds, Simulation,
 use Rattle.theory.specs.Height.{longest-chain}
 use Rattle.theory.specs.Rounds.{T-at-most, settled-greatest, below-rounds, fixed-below, F-mono}
 use Rattle.theory.specs.Preservation.{bounded-by-round, bounded-at-T}
+use Rattle.theory.specs.Sharp.{T-sharp}
 use Rattle.refusal.specs.declared.Refusal.the-variants.{ShortDesk, SpoiledDesk}
 use Rattle.casefile.specs.Reading.{Content, refused, content, caseReading, storeReading}
+use Rattle.casefile.specs.Content.{content-sound}
 use Rattle.rounds.specs.Table.{tableOf}
 use Rattle.desk.specs.Desk.{Desk, Question, Call, Reply}
 use Rattle.desk.specs.Case.{ops, model1, model2, N1, N2, tableSize, modelIn, formulaIn, operator, roundIn, IsT, entryAt, tableBytes}
@@ -178,3 +180,9 @@ demand3 ks d h =
     let l = last-opening ks d h in
     let t = opening-T l in
     record { opening = l; T = t .0; isT = t .1; claim = listed ks d l (t .0) (t .1) }
+
+-- Beyond the demand: whatever the lattice's longest chain, T is at most N1·N2 + 1.
+pub T-most-sharp : (ks : List Call) (d : Desk) (l : LastOpening ks d) (T : ℕ) → IsT (l .holds) T → T ≤ tableSize (l .holds) + 1
+T-most-sharp ks d l T isT =
+    let c = l .holds in
+    T-sharp (content-sound (l .case) c (open-accepted (l .case) (run (l .before) d) c (l .opens) .reads) .laws) (model1 c) (model2 c) T isT

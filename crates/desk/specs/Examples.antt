@@ -10,7 +10,7 @@ use Rattle.theory.specs.Simulation.{propositionPart, successorPart, F, roundOf,
 use Rattle.theory.specs.Part.{isMeet, isJoin, meetOf, joinOf, topOf, botOf, element}
 use Rattle.theory.specs.Formula.{boundBy, overProps, nestedBinders}
 use Rattle.theory.specs.Test.{allBelow, firstBelow}
-use Rattle.theory.specs.Loop.{tab}
+use Rattle.theory.specs.Lists.{tab}
 use Rattle.lattice.specs.Reading.{isPanel, latticeOf, explicitForm, latticeForm, reflexive, antisymmetric, transitive, partialOrder, bounded, distributive, complementRules, require, partReading, latticeReading}
 use Rattle.model.specs.Reading.{elementsOnly, modelTest}
 use Rattle.formula.specs.Bytes.{byCode, parse, formulaReading}

@@ -14,6 +14,5 @@ pub mod Refusals
 pub mod Stands
 pub mod Next
 pub mod Listed
-pub mod Caller
 pub mod Unwritten
 pub mod Examples

@@ -1,5 +1,5 @@
 -- Lists of calls: every list with an accepted opening has a last one, and after it the invariant holds call by call. Rests on Run, Refusals, Stands, Next.
-use Prim.Native.Nat.{ℕ, zero, suc, _+_, _-_, _<_}
+use Prim.Native.Nat.{ℕ, zero, suc, _+_, _<_}
 use mathlib.Core.Path.{_≡_, refl, sym, ap, _∙_, subst}
 use mathlib.Core.Bool.{Bool, true, false, cond, _&&_}
 use mathlib.Core.List.{List, [], _∷_, _++_}
@@ -9,7 +9,7 @@ use lib.ListN.{length, getD}
 use Rattle.theory.specs.Simulation.{one}
 use Rattle.theory.specs.Height.{longest-chain}
 use Rattle.theory.specs.Rounds.{T-exists}
-use Rattle.theory.specs.Test.{false-true}
+use Rattle.theory.specs.TestLaws.{false-true}
 use Rattle.casefile.specs.Reading.{Content, content}
 use Rattle.casefile.specs.Content.{content-sound}
 use Rattle.desk.specs.Desk.{Desk, Call, Reply, isOpen, isStep}

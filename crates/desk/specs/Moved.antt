@@ -4,7 +4,7 @@ use mathlib.Core.Bool.{Bool, false, cond, not, _||_}
 use mathlib.Core.List.{List}
 use lib.Dec.{eqb}
 use lib.ListN.{replicate}
-use Rattle.theory.specs.Written.{written}
+use Rattle.theory.specs.Lists.{written}
 use Rattle.casefile.specs.Reading.{Content, contentParts}
 use Rattle.casefile.specs.Gapless.{gapless}
 use Rattle.rounds.specs.Table.{tableOf, rowWritten, rowChanged}

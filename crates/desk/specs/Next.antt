@@ -13,7 +13,7 @@ use lib.ListN.{length, getD}
 use Rattle.theory.specs.Lattice.{Element}
 use Rattle.theory.specs.Simulation.{SameTable, AtMostTable, Simulation, score, share}
 use Rattle.theory.specs.Rounds.{score-cong, T-at-most-size}
-use Rattle.theory.specs.Test.{not-passed, false-true}
+use Rattle.theory.specs.TestLaws.{not-passed, false-true}
 use Rattle.refusal.specs.declared.Refusal.{Refusal}
 use Rattle.refusal.specs.declared.Refusal.the-variants.{OutOfRange}
 use Rattle.refusal.specs.Number.{numberOf}

@@ -1,6 +1,6 @@
 -- Which refusal a call gets, or the content that it works on: for demand 1, demand 3 and the proofs of the code.
 -- Rests on Refused, Perform and casefile's Reading.
-use Prim.Native.Nat.{ℕ, _+_, _-_, _≤_}
+use Prim.Native.Nat.{ℕ, _-_, _≤_}
 use mathlib.Core.Path.{_≡_, refl, sym, ap, _∙_}
 use mathlib.Core.Bool.{Bool, true, false, cond, not, _&&_, _||_}
 use mathlib.Core.Logic.{_↔_, _⊎_, inl, inr}
@@ -11,7 +11,7 @@ use lib.Dec.{ltb, leb, eqb}
 use lib.ListN.{length, getD, take}
 use lib.Seq.{getD-take}
 use Rattle.theory.specs.Part.{LatticePart}
-use Rattle.theory.specs.Test.{or-l, or-r, and-in, and-l, and-r, ⇒-in, ⇒-elim, all-in, all-at, not-passed, false-true, cond-true, cond-false}
+use Rattle.theory.specs.TestLaws.{or-l, or-r, and-in, and-l, and-r, ⇒-in, ⇒-elim, all-in, all-at, not-passed, false-true, cond-true, cond-false}
 use Rattle.refusal.specs.declared.Refusal.{Refusal}
 use Rattle.refusal.specs.declared.Refusal.the-variants.{ShortDesk, SpoiledDesk, OutOfRange, CaseSize, Directory, PartPlace, BadModel, BadFormula, LatticeForm, NoPartialOrder, NoMeetOrJoin, NotDistributive, BadComplement}
 use Rattle.refusal.specs.Number.{numberOf}

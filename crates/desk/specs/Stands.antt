@@ -14,7 +14,7 @@ use lib.ListN.{length, getD, drop, replicate, length-replicate, getD-replicate}
 use Rattle.theory.specs.Lattice.{Element}
 use Rattle.theory.specs.Simulation.{SameTable}
 use Rattle.theory.specs.Rounds.{F-element}
-use Rattle.theory.specs.Test.{false-true}
+use Rattle.theory.specs.TestLaws.{false-true}
 use Rattle.theory.specs.Written.{written-length, written-at}
 use Rattle.casefile.specs.Reading.{Content, content, contentParts, caseReading}
 use Rattle.casefile.specs.Gapless.{gapless}

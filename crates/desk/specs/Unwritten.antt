@@ -1,13 +1,15 @@
 -- 'Table bytes past N1·N2 and store bytes past 24,576 are never written', and no buffer changes its length. Rests on Refusals, Moved,
 -- theory's Written.
 use Prim.Native.Nat.{ℕ, _+_, _*_, _≤_, _<_}
-use mathlib.Core.Path.{_≡_, refl, sym, ap, _∙_, subst}
+use mathlib.Core.Path.{_≡_, refl, sym, ap, subst}
 use mathlib.Core.Bool.{Bool, true, false, cond}
 use mathlib.Core.List.{List}
 use native.Mathlib.Omega.{arith}
 use lib.ListN.{length, getD, take, replicate, length-replicate}
-use Rattle.theory.specs.Loop.{tab, tab-length}
-use Rattle.theory.specs.Written.{written, written-length, written-after}
+use Rattle.theory.specs.Loop.{tab-length}
+use Rattle.theory.specs.Lists.{tab}
+use Rattle.theory.specs.Written.{written-length, written-after}
+use Rattle.theory.specs.Lists.{written}
 use Rattle.casefile.specs.Reading.{Content, content, contentParts}
 use Rattle.casefile.specs.Gapless.{gapless}
 use Rattle.casefile.specs.Accepted.{gapless-most}

@@ -13,10 +13,11 @@ use lib.ListN.{length, getD, drop, length-append, length-drop, drop-of-length-le
 use lib.Seq.{drop-cons, drop-drop, drop-at}
 use borrow.Author.Tests.{lt-ltb, le-ltb, le-leb, lt-leb, leb-true, ltb-true, ltb-false}
 use Rattle.theory.specs.Formula.{Formula, bottom, top, prop, negated, var, or, and, AX, EX, mu, nu, boundBy, overProps, nestedBinders}
-use Rattle.theory.specs.Test.{and-l, and-r, and-in, and-false, bool-same}
+use Rattle.theory.specs.TestLaws.{and-l, and-r, and-in, and-false, bool-same}
 use Rattle.formula.specs.Bytes.{bytesOf, Parsed, parsed, unparsed, numbered, unary, binary, byCode, parse, allowed, whole, formulaReading}
 use Rattle.formula.specs.RoundTrip.{parse-code, parse-nil, code-refused, bytes-parse, bytes-length}
-use Rattle.formula.specs.Check.{checked, allowedUnder, endOf, NodeIs, numberBelow}
+use Rattle.formula.specs.Check.{allowedUnder, endOf, NodeIs, numberBelow}
+use Rattle.formula.specs.Answer.{checked}
 use Rattle.formula.specs.declared.FormulaCheck.the-variants.{Accepted, Refused}
 use Rattle.formula.specs.declared.NodeEnd.{NodeEnd}
 use Rattle.formula.specs.declared.NodeEnd.the-variants.{At, Broken}

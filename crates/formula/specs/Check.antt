@@ -8,15 +8,10 @@ use lib.Dec.{ltb, leb}
 use lib.ListN.{length, getD, drop}
 use Rattle.theory.specs.Formula.{Formula, boundBy, overProps, nestedBinders}
 use Rattle.formula.specs.Bytes.{Parsed, parsed, unparsed, parse, FormulaReading, read, refused}
-use Rattle.formula.specs.declared.FormulaCheck.{FormulaCheck}
 use Rattle.formula.specs.declared.FormulaCheck.the-variants.{Accepted, Refused}
 use Rattle.formula.specs.declared.NodeEnd.{NodeEnd}
 use Rattle.formula.specs.declared.NodeEnd.the-variants.{At, Broken}
-
--- a part is accepted exactly when it is read as a formula
-abbrev pub checked : FormulaReading → FormulaCheck
-checked (read f) = Accepted
-checked refused = Refused
+use Rattle.formula.specs.Answer.{checked}
 
 -- ---- at a position
 

@@ -11,7 +11,7 @@ use lib.Dec.{leb}
 use lib.ListN.{length, length-append}
 use borrow.Author.Tests.{ne-eqb, le-leb, leb-true}
 use Rattle.theory.specs.Formula.{Formula, bottom, top, prop, negated, var, or, and, AX, EX, mu, nu, closed, overProps, nestedBinders}
-use Rattle.theory.specs.Test.{and-l, and-r}
+use Rattle.theory.specs.TestLaws.{and-l, and-r}
 use Rattle.formula.specs.Bytes.{bytesOf, Parsed, parsed, unparsed, numbered, unary, binary, byCode, parse, allowed, whole, FormulaReading, read, refused, formulaReading}
 
 -- a formula is found or not

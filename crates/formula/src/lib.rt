@@ -2,7 +2,8 @@
 ghost use mathlib.Core.Path.{_≡_};
 ghost use Prim.Native.Nat.{_≤_};
 ghost use Rattle.formula.specs.Bytes.{formulaReading};
-ghost use Rattle.formula.specs.Check.{checked, numberBelow, NodeIs};
+ghost use Rattle.formula.specs.Check.{numberBelow, NodeIs};
+ghost use Rattle.formula.specs.Answer.{checked};
 
 // What the check of a formula part answers.
 pub enum FormulaCheck {

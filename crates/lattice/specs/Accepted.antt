@@ -9,7 +9,8 @@ use native.Mathlib.Omega.{arith}
 use borrow.Author.Tests.{ltb-true, lt-ltb, leb-true, eqb-true, eq-eqb}
 use lib.Dec.{ltb, leb, eqb}
 use lib.ListN.{length, getD}
-use Rattle.theory.specs.Test.{below-suc, allBelow, _⇒_, and-l, and-r, and-in, ⇒-elim, ⇒-in, all-at, all-in}
+use Rattle.theory.specs.Test.{allBelow, _⇒_}
+use Rattle.theory.specs.TestLaws.{below-suc, and-l, and-r, and-in, ⇒-elim, ⇒-in, all-at, all-in}
 use Rattle.theory.specs.Lattice.{Ops, Laws}
 use Rattle.theory.specs.Descent.{all-map}
 use Rattle.theory.specs.Part.{LatticePart, meetOf, joinOf, topOf, botOf, element, opsOf, explicitPart}
@@ -17,7 +18,9 @@ use Rattle.refusal.specs.declared.Refusal.{Refusal}
 use Rattle.lattice.specs.Panel.{panelPart}
 use Rattle.lattice.specs.Reading.{LatticeReading, accepted, isPanel, latticeOf, explicitForm, latticeForm, all3, reflexive, antisymmetric, transitive, partialOrder, bounded, distributive, complementRules, require, partReading, latticeReading}
 use Rattle.theory.specs.Height.{distinct-le}
-use Rattle.lattice.specs.Bounds.{element-lt, element-id, all2-at, all2-in, all3-at, all3-in, reversed, join-reversed, meet-reversed, bot-reversed, MeetAt, Antisymmetric, meet-is, meet-some, meet-same, TopAt, top-only, boundUpTo}
+use Rattle.lattice.specs.Bounds.{element-lt, element-id, all2-at, all2-in, all3-at, all3-in, join-reversed, meet-reversed, bot-reversed, Antisymmetric, meet-is, meet-some, meet-same, TopAt, top-only, boundUpTo}
+use Rattle.lattice.specs.DeMorgan.{reversed, MeetAt}
+use Rattle.lattice.specs.DeMorgan.{DeMorganLattice}
 
 -- ---- the tests as facts
 
@@ -266,22 +269,6 @@ pub accepted-is-lattice : (b : List ℕ) (P : LatticePart) → latticeReading b 
 accepted-is-lattice b P h = let w = accepted-sound b P h in rw (w .0) (lawsOf (latticeOf b) (w .1))
 
 -- ---- exactly the distributive De Morgan lattices
-
--- The order and the complement of P are those of a distributive De Morgan lattice on the numbers below n, with some meet and join.
-pub record DeMorganLattice (P : LatticePart) : Type 0 where
-  pub rfl : (a : ℕ) → a < P .size → P .order a a ≡ true
-  pub antisym : (a b : ℕ) → a < P .size → b < P .size → P .order a b ≡ true → P .order b a ≡ true → a ≡ b
-  pub trans : (a b c : ℕ) → a < P .size → b < P .size → c < P .size → P .order a b ≡ true → P .order b c ≡ true → P .order a c ≡ true
-  pub meet : ℕ → ℕ → ℕ
-  pub meet-lt : (a b : ℕ) → a < P .size → b < P .size → meet a b < P .size
-  pub meet-is : (a b : ℕ) → a < P .size → b < P .size → MeetAt P a b (meet a b)
-  pub join : ℕ → ℕ → ℕ
-  pub join-lt : (a b : ℕ) → a < P .size → b < P .size → join a b < P .size
-  pub join-is : (a b : ℕ) → a < P .size → b < P .size → MeetAt (reversed P) a b (join a b)
-  pub dist : (a b c : ℕ) → a < P .size → b < P .size → c < P .size → meet a (join b c) ≡ join (meet a b) (meet a c)
-  pub complement-lt : (a : ℕ) → a < P .size → P .complement a < P .size
-  pub involution : (a : ℕ) → a < P .size → P .complement (P .complement a) ≡ a
-  pub antitone : (a b : ℕ) → a < P .size → b < P .size → P .order a b ≡ true → P .order (P .complement b) (P .complement a) ≡ true
 
 module _ (P : LatticePart) (D : DeMorganLattice P) where
   lattice-ordered : Ordered P

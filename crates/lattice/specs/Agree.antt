@@ -7,8 +7,10 @@ use native.Mathlib.Omega.{arith}
 use borrow.Author.Tests.{leb-true, leb-false}
 use lib.Dec.{ltb, leb}
 use Rattle.theory.specs.Part.{LatticePart, isMeet, meetOf, joinOf, topOf, botOf, element, opsOf}
-use Rattle.theory.specs.Test.{allBelow, firstBelow, _⇒_, bool-same, all-cong}
-use Rattle.lattice.specs.Bounds.{element-lt, reversed, join-reversed, bot-reversed, MeetAt, meet-in, meet-out}
+use Rattle.theory.specs.Test.{allBelow, firstBelow, _⇒_}
+use Rattle.theory.specs.TestLaws.{bool-same, all-cong}
+use Rattle.lattice.specs.Bounds.{element-lt, join-reversed, bot-reversed, meet-in, meet-out}
+use Rattle.lattice.specs.DeMorgan.{reversed, MeetAt}
 
 pub first-cong : (n : ℕ) (f g : ℕ → Bool) → ((i : ℕ) → i < n → f i ≡ g i) → firstBelow n f ≡ firstBelow n g
 unfolding firstBelow

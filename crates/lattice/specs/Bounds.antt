@@ -8,8 +8,10 @@ use borrow.Author.Tests.{ltb-true, lt-ltb}
 use lib.Dec.{ltb, eqb}
 use Rattle.theory.specs.Simulation.{one}
 use Rattle.theory.specs.Part.{LatticePart, isMeet, isJoin, meetOf, joinOf, topOf, botOf, element}
-use Rattle.theory.specs.Test.{allBelow, firstBelow, and-l, and-r, and-in, ⇒-elim, ⇒-in, not-passed, false-true, all-at, all-in, first-is, first-unique}
+use Rattle.theory.specs.Test.{allBelow, firstBelow}
+use Rattle.theory.specs.TestLaws.{and-l, and-r, and-in, ⇒-elim, ⇒-in, not-passed, false-true, all-at, all-in, first-is, first-unique}
 use Rattle.lattice.specs.Reading.{all2, all3}
+use Rattle.lattice.specs.DeMorgan.{reversed, MeetAt}
 
 -- ---- a test as a byte
 
@@ -64,10 +66,6 @@ first-some n f m l p = let x : ¬ (m < firstBelow n f) = λ k. false-true (first
 
 -- ---- one order and the other way round
 
--- the part with its order the other way round: its meets are the joins, and its top is the bottom
-abbrev pub reversed : LatticePart → LatticePart
-reversed P = record { size = P .size; complement = P .complement; order = λ a b. P .order b a }
-
 pub join-reversed : (P : LatticePart) (a b : ℕ) → joinOf P a b ≡ meetOf (reversed P) a b
 unfolding joinOf meetOf isJoin isMeet
 join-reversed P a b = refl
@@ -81,12 +79,6 @@ unfolding botOf topOf
 bot-reversed P = refl
 
 -- ---- meets
-
--- m is the meet of a and b
-pub record MeetAt (P : LatticePart) (a b m : ℕ) : Type 0 where
-  pub left : P .order m a ≡ true
-  pub right : P .order m b ≡ true
-  pub greatest : (c : ℕ) → c < P .size → P .order c a ≡ true → P .order c b ≡ true → P .order c m ≡ true
 
 -- two elements at or below one another are the same
 pub record Antisymmetric (P : LatticePart) : Type 0 where

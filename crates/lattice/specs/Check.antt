@@ -7,9 +7,10 @@ use mathlib.Core.List.{List}
 use native.Mathlib.Nat.{le-refl}
 use native.Mathlib.Omega.{arith}
 use lib.Dec.{leb, eqb}
-use Rattle.theory.specs.Loop.{Filled}
+use Rattle.theory.specs.Lists.{Filled}
 use Rattle.theory.specs.Part.{LatticePart, meetOf, joinOf, topOf, botOf, element, opsOf}
-use Rattle.theory.specs.Test.{_⇒_, all-cong}
+use Rattle.theory.specs.Test.{_⇒_}
+use Rattle.theory.specs.TestLaws.{all-cong}
 use Rattle.operations.specs.Table.{atMostIn, meetIn, joinIn, complementIn}
 use Rattle.operations.specs.declared.Lattice.{Lattice}
 use Rattle.refusal.specs.declared.Refusal.{Refusal}

@@ -1,17 +1,19 @@
 -- Distributivity is tested for each two elements that are not in order, once: for the others it holds in every lattice. Rests on theory's
 -- Part and Test, Reading, Bounds, Accepted, Agree.
-use Prim.Native.Nat.{ℕ, _≤_, _<_}
-use mathlib.Core.Path.{_≡_, refl, sym, ap, ap₂, _∙_}
+use Prim.Native.Nat.{ℕ, _<_}
+use mathlib.Core.Path.{_≡_, refl, sym, ap, _∙_}
 use mathlib.Core.Bool.{Bool, true, false, cond}
 use native.Mathlib.Omega.{arith}
-use borrow.Author.Tests.{leb-true, leb-false, le-leb, lt-leb, eqb-true, eq-eqb}
+use borrow.Author.Tests.{leb-true, leb-false, lt-leb, eqb-true, eq-eqb}
 use lib.Dec.{leb, eqb}
 use Rattle.theory.specs.Part.{LatticePart, meetOf, joinOf}
-use Rattle.theory.specs.Test.{allBelow, bool-same, all-at, all-in}
+use Rattle.theory.specs.Test.{allBelow}
+use Rattle.theory.specs.TestLaws.{bool-same, all-at, all-in}
 use Rattle.lattice.specs.Reading.{all2, distributive}
-use Rattle.lattice.specs.Bounds.{all2-at, all2-in, all3-at, all3-in, reversed, MeetAt, meet-same}
+use Rattle.lattice.specs.Bounds.{all2-at, all2-in, all3-at, all3-in, meet-same}
+use Rattle.lattice.specs.DeMorgan.{reversed}
 use Rattle.lattice.specs.Accepted.{Ordered, Bounded, meet-at, join-at}
-use Rattle.lattice.specs.Agree.{meet-comm, join-comm}
+use Rattle.lattice.specs.Agree.{join-comm}
 
 -- a met with b joined with c is a met with b, joined with a met with c; bc is b joined with c
 abbrev pub distributesAt : (ℕ → ℕ → ℕ) → (ℕ → ℕ → ℕ) → ℕ → ℕ → ℕ → ℕ → Bool

@@ -8,9 +8,10 @@ use native.Mathlib.Omega.{arith}
 use borrow.Author.Tests.{eqb-true, lt-ltb, le-leb, eq-eqb}
 use lib.Dec.{ltb, eqb}
 use lib.ListN.{length, getD}
-use Rattle.theory.specs.Part.{LatticePart, explicitPart}
+use Rattle.theory.specs.Part.{explicitPart}
 use Rattle.theory.specs.Simulation.{one}
-use Rattle.theory.specs.Test.{allBelow, and-l, not-passed, false-true, all-in}
+use Rattle.theory.specs.Test.{allBelow}
+use Rattle.theory.specs.TestLaws.{and-l, not-passed, false-true, all-in}
 use Rattle.lattice.specs.Panel.{panelOrder, panelPart}
 use Rattle.lattice.specs.Reading.{isPanel, latticeOf, explicitForm, latticeForm}
 use Rattle.lattice.specs.Accepted.{ExplicitForm, explicit-out}

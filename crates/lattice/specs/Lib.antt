@@ -3,6 +3,7 @@
 pub mod Panel
 pub mod Reading
 pub mod Answer
+pub mod DeMorgan
 -- ---- theorems
 pub mod Bounds
 pub mod Accepted

@@ -6,7 +6,8 @@ use borrow.Author.Tests.{eqb-true, eq-eqb}
 use lib.Dec.{eqb}
 use Rattle.theory.specs.Lattice.{Ops}
 use Rattle.theory.specs.Part.{LatticePart}
-use Rattle.theory.specs.Test.{allBelow, _⇒_, and-l, and-r, and-in, ⇒-elim, ⇒-in, bool-same, all-at, all-in}
+use Rattle.theory.specs.Test.{allBelow, _⇒_}
+use Rattle.theory.specs.TestLaws.{and-l, and-r, and-in, ⇒-elim, ⇒-in, bool-same, all-at, all-in}
 use Rattle.lattice.specs.declared.Rule.{Rule}
 use Rattle.lattice.specs.declared.Rule.the-variants.{Order, Distributive, Complement}
 use Rattle.lattice.specs.Reading.{all2, partialOrder, complementRules}

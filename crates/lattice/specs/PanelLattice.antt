@@ -14,7 +14,7 @@ use Rattle.theory.specs.Lattice.{Ops, Laws}
 use Rattle.theory.specs.Descent.{all-map}
 use Rattle.theory.specs.Simulation.{one}
 use Rattle.theory.specs.Part.{opsOf, explicitPart}
-use Rattle.theory.specs.Test.{and-l, and-r, and-in, all-in}
+use Rattle.theory.specs.TestLaws.{and-l, and-r, and-in, all-in}
 use Rattle.lattice.specs.Panel.{panelOrder, panelPart}
 use Rattle.lattice.specs.Reading.{isPanel, latticeOf, latticeForm, accepted, latticeReading}
 use Rattle.lattice.specs.Bounds.{one-test}

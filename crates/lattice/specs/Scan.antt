@@ -5,12 +5,14 @@ use mathlib.Core.Bool.{Bool, true, false, cond, _&&_}
 use native.Mathlib.Nat.{le-refl, not-suc-le-zero}
 use native.Mathlib.Numerals.{add-one}
 use native.Mathlib.Omega.{arith}
-use Rattle.theory.specs.Test.{below-suc, allBelow, _⇒_, and-l, and-r, and-in, ⇒-elim, ⇒-in, false-true, all-at, all-in}
+use Rattle.theory.specs.Test.{allBelow, _⇒_}
+use Rattle.theory.specs.TestLaws.{below-suc, and-l, and-r, and-in, ⇒-elim, ⇒-in, false-true, all-at, all-in}
 use Rattle.theory.specs.Part.{LatticePart, isMeet, meetOf}
 use Rattle.operations.specs.declared.Element.{Element}
 use Rattle.lattice.specs.declared.Found.{Found}
 use Rattle.lattice.specs.declared.Found.the-variants.{At, Nothing}
-use Rattle.lattice.specs.Bounds.{first-only, MeetAt, Antisymmetric, meet-in, meet-out, meet-is, meet-same}
+use Rattle.lattice.specs.Bounds.{first-only, Antisymmetric, meet-in, meet-out, meet-is, meet-same}
+use Rattle.lattice.specs.DeMorgan.{MeetAt}
 
 -- the order in which the bound wanted is a meet: the order itself for a meet, the same the other way round for a join (true)
 abbrev pub orderFor : Bool → (ℕ → ℕ → Bool) → ℕ → ℕ → Bool

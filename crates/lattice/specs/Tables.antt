@@ -11,15 +11,17 @@ use lib.Dec.{ltb, leb, eqb}
 use lib.ListN.{getD, length, set}
 use Rattle.theory.specs.Lattice.{Ops}
 use Rattle.theory.specs.Simulation.{one}
-use Rattle.theory.specs.Loop.{Filled, filled-more}
-use Rattle.theory.specs.Test.{below-suc, not-passed}
+use Rattle.theory.specs.Loop.{filled-more}
+use Rattle.theory.specs.Lists.{Filled}
+use Rattle.theory.specs.TestLaws.{below-suc, not-passed}
 use Rattle.theory.specs.Part.{LatticePart, meetOf, joinOf, topOf, botOf, element, opsOf}
 use Rattle.operations.specs.Table.{cell, atMostIn, meetIn, joinIn, complementIn, opsIn}
 use Rattle.operations.specs.declared.Lattice.{Lattice}
 use Rattle.operations.specs.declared.Element.{Element}
 use Rattle.lattice.specs.declared.Found.{Found}
 use Rattle.lattice.specs.declared.Found.the-variants.{At, Nothing}
-use Rattle.lattice.specs.Bounds.{one-test, element-lt, element-id, element-same, reversed, join-reversed, Antisymmetric}
+use Rattle.lattice.specs.Bounds.{one-test, element-lt, element-id, element-same, join-reversed, Antisymmetric}
+use Rattle.lattice.specs.DeMorgan.{reversed}
 use Rattle.lattice.specs.Reading.{bounded}
 use Rattle.lattice.specs.Accepted.{Formed, Ordered, Bounded, bounded-out, bounded-in}
 use Rattle.lattice.specs.Agree.{SameOrder, meet-same-order, join-same-order, meet-comm, join-comm, by-number}

@@ -9,7 +9,7 @@ ghost use mathlib.Core.Bool.{true};
 ghost use Prim.Native.Nat.{_<_, _≤_, min, max};
 ghost use lib.ListN.{length};
 ghost use Rattle.theory.specs.Simulation.{one};
-ghost use Rattle.theory.specs.Loop.{Filled};
+ghost use Rattle.theory.specs.Lists.{Filled};
 ghost use Rattle.theory.specs.Part.{element, opsOf};
 ghost use Rattle.operations.specs.Table.{atMostIn, meetIn, joinIn, complementIn};
 ghost use Rattle.lattice.specs.Reading.{isPanel, latticeOf, latticeForm, latticeReading, partialOrder, bounded};

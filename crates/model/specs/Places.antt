@@ -1,11 +1,12 @@
 -- Where the values of a model part stand, and that they are within it. Rests on theory's Part.
-use Prim.Native.Nat.{ℕ, suc, _+_, _*_, _≤_, _<_}
+use Prim.Native.Nat.{ℕ, _+_, _*_, _≤_, _<_}
 use mathlib.Core.Path.{_≡_, refl}
 use mathlib.Core.List.{List}
 use native.Mathlib.Nat.{add-assoc, suc-mul, mul-le-mul-right, mul-le-mul}
 use native.Mathlib.Omega.{arith}
 use lib.ListN.{length, getD}
 use Rattle.theory.specs.Part.{modelOf, ModelShape}
+use Rattle.model.specs.Reading.{labelRow, transitionRow}
 
 -- row q, of n rows of w values, ends within them
 pub row-le : (q n w : ℕ) → q < n → q * w + w ≤ n * w
@@ -13,13 +14,6 @@ row-le q n w l = omega (arith, suc-mul q w, mul-le-mul-right w l)
 
 pub prod-le : (x y a b : ℕ) → x ≤ a → y ≤ b → x * y ≤ a * b
 prod-le x y a b l m = mul-le-mul {n₂ = a} {m₂ = b} l m
-
--- the places of the proposition values and of the transition values of state q
-abbrev pub labelRow : List ℕ → ℕ → ℕ
-labelRow b q = 2 + getD b 0 0 + q * getD b 1 0
-
-abbrev pub transitionRow : List ℕ → ℕ → ℕ
-transitionRow b q = 2 + getD b 0 0 + getD b 0 0 * getD b 1 0 + q * getD b 0 0
 
 -- value i of a row is that of proposition i, or of the transition to state i
 pub label-at : (b : List ℕ) (q row i : ℕ) → row ≡ labelRow b q → getD b (row + i) 0 ≡ modelOf b .label q i

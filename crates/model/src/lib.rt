@@ -4,7 +4,7 @@ ghost use mathlib.Core.Path.{_≡_};
 ghost use Prim.Native.Nat.{_+_, _≤_, _<_};
 ghost use lib.ListN.{length, getD};
 ghost use Rattle.theory.specs.Part.{modelOf, ModelShape};
-ghost use Rattle.model.specs.Places.{labelRow, transitionRow};
+ghost use Rattle.model.specs.Reading.{labelRow, transitionRow};
 ghost use Rattle.model.specs.Reading.{modelAnswer};
 
 // A state of a model, by its number.

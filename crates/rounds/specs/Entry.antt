@@ -11,7 +11,8 @@ use Rattle.theory.specs.Value.{allNext, someNext}
 use Rattle.theory.specs.Simulation.{propositionPart, successorPart, score}
 use Rattle.operations.specs.declared.Lattice.{Lattice}
 use Rattle.operations.specs.Table.{meetIn, joinIn, complementIn, opsIn}
-use Rattle.model.specs.Places.{labelRow, transitionRow, label-at, transition-at}
+use Rattle.model.specs.Places.{label-at, transition-at}
+use Rattle.model.specs.Reading.{labelRow, transitionRow}
 use Rattle.rounds.specs.Table.{tableOf, iffIn, Shaped, matched}
 
 -- → and ↔ from what the lookups give

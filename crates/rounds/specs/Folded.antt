@@ -9,7 +9,8 @@ use native.Mathlib.Omega.{arith}
 use Rattle.theory.specs.Lattice.{Ops, bigMeet, bigJoin}
 use Rattle.theory.specs.Simulation.{one, count}
 use Rattle.theory.specs.Loop.{count-none, count-more}
-use Rattle.theory.specs.Test.{allBelow, all-none, all-more, all-done}
+use Rattle.theory.specs.Test.{allBelow}
+use Rattle.theory.specs.TestLaws.{all-none, all-more, all-done}
 
 -- g (.. (g start (f 0)) ..) (f (n - 1))
 unfoldable pub fold : {A : Type 0} → (A → A → A) → A → (ℕ → A) → ℕ → A

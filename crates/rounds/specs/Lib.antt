@@ -1,9 +1,9 @@
 -- Tables held as bytes. Definitions first, then the theorems on them.
 -- ---- what a reader must believe
 pub mod Table
-pub mod Share
 -- ---- theorems
 pub mod Round
+pub mod Share
 -- ---- for the code
 pub mod Row
 pub mod Entry

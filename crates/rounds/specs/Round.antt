@@ -16,9 +16,11 @@ use Rattle.theory.specs.Lattice.{Ops, Element}
 use Rattle.theory.specs.Model.{Model}
 use Rattle.theory.specs.Simulation.{F, roundOf, SameTable, FixedBy, perCent, share}
 use Rattle.theory.specs.Rounds.{F-cong}
-use Rattle.theory.specs.Loop.{tab, tab-at, tab-length}
+use Rattle.theory.specs.Loop.{tab-at, tab-length}
+use Rattle.theory.specs.Lists.{tab}
 use Rattle.theory.specs.Written.{written-length, written-at, written-before, written-after, written-all}
-use Rattle.theory.specs.Test.{allBelow, all-at, all-in, all-cong}
+use Rattle.theory.specs.Test.{allBelow}
+use Rattle.theory.specs.TestLaws.{all-at, all-in, all-cong}
 use Rattle.model.specs.Places.{row-le}
 use Rattle.rounds.specs.Folded.{count-cong}
 use Rattle.rounds.specs.Table.{tableOf, rowWritten, entrySame, rowSame, rowChanged, changedBelow, simulationTest}

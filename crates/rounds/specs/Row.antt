@@ -1,20 +1,18 @@
 -- One row: where it stands in a table, and what a loop over a row's entries has done so far.
 -- Rests on Table, theory's Test, Loop and Written, and model's Places.
-use Prim.Native.Nat.{ℕ, zero, suc, _+_, _*_, _≤_, _<_}
+use Prim.Native.Nat.{ℕ, _+_, _*_, _≤_, _<_}
 use mathlib.Core.Path.{_≡_, refl, sym, _∙_}
 use mathlib.Core.Bool.{Bool, true, false, not, _&&_, _||_}
-use mathlib.Core.Logic.{⊎-elim}
 use mathlib.Core.List.{List}
-use native.Mathlib.Nat.{eq-or-lt-of-le, not-suc-le-zero}
 use native.Mathlib.Numerals.{add-one}
 use native.Mathlib.Omega.{arith}
-use borrow.Author.Tests.{eq-eqb, ne-eqb, eqb-true, eqb-false}
+use borrow.Author.Tests.{eq-eqb, ne-eqb}
 use lib.Dec.{eqb}
-use lib.ListN.{length, getD, set, length-set}
-use lib.Seq.{getD-set-same, getD-set-other}
+use lib.ListN.{length, getD, set}
 use Rattle.theory.specs.Test.{allBelow}
-use Rattle.theory.specs.Loop.{tab}
-use Rattle.theory.specs.Written.{written, written-none, written-turn}
+use Rattle.theory.specs.Lists.{tab}
+use Rattle.theory.specs.Written.{written-none, written-turn}
+use Rattle.theory.specs.Lists.{written}
 use Rattle.model.specs.Places.{row-le}
 use Rattle.rounds.specs.Table.{tableOf, Shaped}
 

@@ -3,14 +3,11 @@ use Prim.Native.Nat.{ℕ}
 use mathlib.Core.Path.{_≡_, refl, ap}
 use mathlib.Core.List.{List}
 use lib.ListN.{getD}
-use Rattle.theory.specs.Simulation.{count, perCent, share}
+use Rattle.theory.specs.Simulation.{perCent, share}
 use Rattle.operations.specs.declared.Lattice.{Lattice}
 use Rattle.operations.specs.Table.{atMostIn, opsIn}
 use Rattle.rounds.specs.Folded.{Counted}
-
--- 'the per cent of shown entries at or above a given element', of the first n entries of s, with the order of the tables t
-unfoldable pub shareIn : List ℕ → ℕ → List ℕ → ℕ → ℕ
-shareIn t e s n = perCent (count n (λ i. atMostIn t e (getD s i 0))) n
+use Rattle.rounds.specs.Table.{shareIn}
 
 -- it is theory's share, whatever the lattice's size and bounds
 pub share-in : (t : List ℕ) (l : Lattice) (e : ℕ) (s : List ℕ) (n : ℕ) → shareIn t e s n ≡ share (opsIn t l) n (λ i. getD s i 0) e

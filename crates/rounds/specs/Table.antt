@@ -10,9 +10,10 @@ use Rattle.theory.specs.Lattice.{Ops, imp, bigMeet, bigJoin}
 use Rattle.theory.specs.Model.{Model}
 use Rattle.theory.specs.Part.{ModelShape}
 use Rattle.theory.specs.Test.{allBelow}
-use Rattle.theory.specs.Loop.{tab}
-use Rattle.theory.specs.Written.{written}
-use Rattle.operations.specs.Table.{meetIn, joinIn, complementIn}
+use Rattle.theory.specs.Lists.{tab}
+use Rattle.theory.specs.Lists.{written}
+use Rattle.operations.specs.Table.{atMostIn, meetIn, joinIn, complementIn}
+use Rattle.theory.specs.Simulation.{count, perCent}
 
 -- 'Entry (q1, q2) is byte q1·N2 + q2', of a table with n for N2
 abbrev pub tableOf : List ℕ → ℕ → ℕ → ℕ → ℕ
@@ -32,6 +33,10 @@ pub record Shaped (m₁ m₂ s : List ℕ) : Type 0 where
 -- the meet over q1 of a(q1) → the join over q2 of b(q2) met with S(q1, q2), which is the form of F's second part and of score
 abbrev pub matched : Ops ℕ → ℕ → ℕ → (ℕ → ℕ) → (ℕ → ℕ) → (ℕ → ℕ → ℕ) → ℕ
 matched O n₁ n₂ a b S = bigMeet O n₁ (λ q₁. imp O (a q₁) (bigJoin O n₂ (λ q₂. O .meet (b q₂) (S q₁ q₂))))
+
+-- 'the per cent of shown entries at or above a given element', of the first n entries of s, with the order of the tables t
+unfoldable pub shareIn : List ℕ → ℕ → List ℕ → ℕ → ℕ
+shareIn t e s n = perCent (count n (λ i. atMostIn t e (getD s i 0))) n
 
 -- for any operator G on tables; F is the one that document 01 speaks of
 module _ (M₁ M₂ : Model ℕ) (G : (ℕ → ℕ → ℕ) → ℕ → ℕ → ℕ) where

@@ -12,7 +12,7 @@ ghost use Rattle.theory.specs.Part.{modelOf, ModelShape};
 ghost use Rattle.theory.specs.Simulation.{propositionPart, successorPart, F, score, one};
 ghost use Rattle.operations.specs.Table.{atMostIn, meetIn, opsIn};
 ghost use Rattle.rounds.specs.Folded.{Counted};
-ghost use Rattle.rounds.specs.Share.{shareIn};
+ghost use Rattle.rounds.specs.Table.{shareIn};
 ghost use Rattle.rounds.specs.Table.{tableOf, iffIn, Shaped, matched, rowWritten, rowSame, rowChanged, simulationTest};
 
 // a ↔ b, the meet of a → b and b → a.

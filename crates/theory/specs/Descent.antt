@@ -10,7 +10,7 @@ use native.Mathlib.Omega.{arith}
 use lib.ListN.{length, length-map}
 use Rattle.theory.specs.Lattice.{Ops, Laws, AtMost, Chain, All, Pairwise}
 use Rattle.theory.specs.Simulation.{one, count}
-use Rattle.theory.specs.Test.{below-suc, decide, false-true}
+use Rattle.theory.specs.TestLaws.{below-suc, decide, false-true}
 
 -- ---- a chain of h elements has h − 1 steps from one of them to the next
 

@@ -17,8 +17,9 @@ use Rattle.theory.specs.Simulation.{F, round, SameTable, FirstUnchanged,
 use Rattle.theory.specs.Part.{isMeet, isJoin, meetOf, joinOf, topOf, botOf, element, opsOf, explicitPart, modelOf}
 use Rattle.theory.specs.Descent.{steps, all-map}
 use Rattle.theory.specs.Height.{distinct-le}
-use Rattle.theory.specs.Test.{allBelow, firstBelow, all-at, all-in, and-l, and-r, and-in, false-true}
-use Rattle.theory.specs.Loop.{tab}
+use Rattle.theory.specs.Test.{allBelow, firstBelow}
+use Rattle.theory.specs.TestLaws.{all-at, all-in, and-l, and-r, and-in, false-true}
+use Rattle.theory.specs.Lists.{tab}
 use Rattle.theory.specs.Fixpoint.{body-cong, iterate-stays}
 
 -- ---- what an example says; lattices and models are given by the bytes of their parts

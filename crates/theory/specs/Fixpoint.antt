@@ -16,7 +16,7 @@ use Rattle.theory.specs.Formula.{Formula, bottom, top, prop, negated, va
 use Rattle.theory.specs.Value.{iterate, bind, allNext, someNext, eval, enough, valueAt, ToElements, SameMap, AtMostMap, LeastFixpoint, GreatestFixpoint}
 use Rattle.theory.specs.Calculus.{Present, Calculus}
 use Rattle.theory.specs.Folds.{meet-mono, join-mono, imp-mono, bigMeet-mono, bigJoin-mono, bigMeet-cong, bigJoin-cong, bigMeet-element, bigJoin-element}
-use Rattle.theory.specs.Test.{and-l, and-r}
+use Rattle.theory.specs.TestLaws.{and-l, and-r}
 use Rattle.theory.specs.Descent.{Preorder, Unlowered, First, first-unlowered, downwards, upwards, apart-length, apart-length-up}
 
 -- ---- a value reads maps and environments only at the states, and an environment only at the variables in scope

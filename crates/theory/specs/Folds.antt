@@ -5,7 +5,7 @@ use mathlib.Core.Path.{_≡_, refl}
 use native.Mathlib.Nat.{le-refl, not-suc-le-zero}
 use native.Mathlib.Omega.{arith}
 use Rattle.theory.specs.Lattice.{Ops, Laws, AtMost, Element, imp, iff, bigMeet, bigJoin}
-use Rattle.theory.specs.Test.{below-suc}
+use Rattle.theory.specs.TestLaws.{below-suc}
 
 module _ {A : Type 0} (O : Ops A) where
   -- equal entries, equal results

@@ -12,7 +12,7 @@ use lib.Dec.{eqb, ltb}
 use lib.ListN.{length}
 use Rattle.theory.specs.Lattice.{Ops, AtMost, Element, All, Pairwise, Chain, LongestChain}
 use Rattle.theory.specs.Simulation.{one}
-use Rattle.theory.specs.Test.{decide}
+use Rattle.theory.specs.TestLaws.{decide}
 use Rattle.theory.specs.Descent.{sum, sum-le, sum-strict, scan, all-map}
 
 -- ---- a list of distinct numbers below n has at most n of them

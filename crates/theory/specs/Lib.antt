@@ -7,8 +7,10 @@ pub mod Value
 pub mod Calculus
 pub mod Simulation
 pub mod Test
+pub mod Lists
 pub mod Part
 -- ---- theorems
+pub mod TestLaws
 pub mod Folds
 pub mod Loop
 pub mod Written

@@ -11,6 +11,7 @@ use lib.ListN.{length, getD, set}
 use lib.Seq.{ext-getD, getD-set-same, getD-set-other}
 use Rattle.theory.specs.Lattice.{Ops, bigMeet, bigJoin}
 use Rattle.theory.specs.Simulation.{one, count}
+use Rattle.theory.specs.Lists.{tab, Filled}
 
 -- ---- one more turn of a finite meet, a finite join and a count
 
@@ -45,10 +46,6 @@ reached f {i} {n} p q = let e : i ≡ n = omega arith in ap f e
 
 -- ---- a list by its rule: f i, f (i + 1), .., n of them
 
-unfoldable pub tab : (ℕ → ℕ) → ℕ → ℕ → List ℕ
-tab f zero i = []
-tab f (suc n) i = f i ∷ tab f n (suc i)
-
 tab-from : (f : ℕ → ℕ) (n i k : ℕ) → k < n → getD (tab f n i) k 0 ≡ f (i + k)
 unfolding tab
 tab-from f zero i k h = absurd (not-suc-le-zero h)
@@ -71,10 +68,6 @@ tab-last f (suc n) i = ap (λ (s : List ℕ). f i ∷ s) (tab-last f n (suc i) �
 -- one entry more
 pub tab-more : (f : ℕ → ℕ) (n : ℕ) → tab f (n + 1) 0 ≡ tab f n 0 ++ (f n ∷ [])
 tab-more f n = rw add-one (tab-last f n 0 ∙ ap (λ (k : ℕ). tab f n 0 ++ (f k ∷ [])) (zero-add n))
-
--- the first q entries are as the rule says. A record, so that a goal shows f, q and the list
-pub record Filled (f : ℕ → ℕ) (q : ℕ) (xs : List ℕ) : Type 0 where
-  pub at : (k : ℕ) → k < q → getD xs k 0 ≡ f k
 
 pub filled-none : {f : ℕ → ℕ} {xs : List ℕ} → Filled f 0 xs
 filled-none = record { at = λ k h. absurd (not-suc-le-zero h) }

@@ -12,7 +12,7 @@ use Rattle.theory.specs.Formula.{Formula, bottom, top, prop, negated, va
 use Rattle.theory.specs.Value.{iterate, bind, allNext, someNext, eval, enough, valueAt, wholeValue}
 use Rattle.theory.specs.Simulation.{propositionPart, successorPart, F, roundOf, round, AtMostTable, Bounds, FirstUnchanged, score}
 use Rattle.theory.specs.Folds.{bigMeet-le, bigMeet-mono, bigJoin-lub, join-bigMeet, meet-mono, join-mono, imp-mono, imp-meet, imp-join, imp-bot, imp-top, imp-neg, iff-l, iff-r, de-morgan-join}
-use Rattle.theory.specs.Test.{and-l, and-r, false-true}
+use Rattle.theory.specs.TestLaws.{and-l, and-r, false-true}
 use Rattle.theory.specs.Fixpoint.{applications-le}
 use Rattle.theory.specs.Rounds.{settled-below}
 

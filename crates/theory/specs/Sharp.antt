@@ -15,7 +15,8 @@ use Rattle.theory.specs.Lattice.{Ops, Laws, AtMost, Element, Pairwise, i
 use Rattle.theory.specs.Model.{Model}
 use Rattle.theory.specs.Value.{allNext, someNext}
 use Rattle.theory.specs.Simulation.{propositionPart, successorPart, F, roundOf, AllPairs, SameTable, AtMostTable, FirstUnchangedOf, FirstUnchanged, one}
-use Rattle.theory.specs.Test.{_⇒_, ⇒-in, ⇒-elim, allBelow, firstBelow}
+use Rattle.theory.specs.Test.{_⇒_, allBelow, firstBelow}
+use Rattle.theory.specs.TestLaws.{⇒-in, ⇒-elim}
 use Rattle.theory.specs.Part.{isMeet, isJoin, meetOf, joinOf, topOf, botOf, element, opsOf, explicitPart, modelOf}
 use Rattle.theory.specs.Folds.{bigMeet-le, bigMeet-glb, bigJoin-ge}
 use Rattle.theory.specs.Descent.{Preorder, Apart, First, Unlowered, first-unlowered, all-image, pairwise-under}

@@ -8,11 +8,9 @@ use borrow.Author.Tests.{ltb-true, ltb-false}
 use lib.Dec.{ltb}
 use lib.ListN.{length, getD, take, drop, set, length-append, length-drop, take-append-drop, List·getD-append}
 use lib.Seq.{length-take-le, drop-cons, append-snoc, getD-append-add, getD-take, getD-drop, set-at}
-use Rattle.theory.specs.Loop.{tab, tab-length, tab-more}
-
--- out with the bytes s at the place `at`, and every other byte as it was
-abbrev pub written : ℕ → List ℕ → List ℕ → List ℕ
-written at s out = take at out ++ s ++ drop (at + length s) out
+use Rattle.theory.specs.Loop.{tab-length, tab-more}
+use Rattle.theory.specs.Lists.{tab}
+use Rattle.theory.specs.Lists.{written}
 
 pub written-none : (at : ℕ) (out : List ℕ) → written at [] out ≡ out
 written-none at out = let e : at + 0 ≡ at = omega arith in ap₂ _++_ (append-nil (take at out)) (ap (λ (n : ℕ). drop n out) e) ∙ take-append-drop at out

@@ -12,7 +12,7 @@ use Rattle.theory.specs.Lattice.{imp}
 use Rattle.theory.specs.Folds.{bigMeet-cong}
 use Rattle.theory.specs.Formula.{Formula, bottom, top, boundBy, overProps}
 use Rattle.theory.specs.Fixpoint.{allNext-cong, someNext-cong}
-use Rattle.theory.specs.Loop.{Filled}
+use Rattle.theory.specs.Lists.{Filled}
 use Rattle.theory.specs.Part.{modelOf}
 use Rattle.theory.specs.Value.{eval, valueAt, wholeValue}
 use Rattle.operations.specs.Table.{opsIn, meetIn, joinIn}

@@ -6,7 +6,8 @@ use mathlib.Core.List.{List}
 use native.Mathlib.Omega.{arith}
 use lib.ListN.{getD}
 use Rattle.theory.specs.Lattice.{bigMeet, bigJoin, imp}
-use Rattle.theory.specs.Loop.{Filled, bigMeet-more, bigJoin-more}
+use Rattle.theory.specs.Loop.{bigMeet-more, bigJoin-more}
+use Rattle.theory.specs.Lists.{Filled}
 use Rattle.theory.specs.Part.{modelOf}
 use Rattle.theory.specs.Value.{allNext, someNext}
 use Rattle.operations.specs.Table.{meetIn, joinIn, complementIn, opsIn}

@@ -9,7 +9,7 @@ use lib.Dec.{eqb}
 use lib.ListN.{length, getD, drop, length-drop}
 use lib.Seq.{getD-drop, drop-drop, drop-append-seam}
 use Rattle.theory.specs.Formula.{Formula, bottom, top, prop, negated, var, or, and, AX, EX, mu, nu, boundBy, overProps, nestedBinders}
-use Rattle.theory.specs.Test.{and-l, and-r}
+use Rattle.theory.specs.TestLaws.{and-l, and-r}
 use Rattle.formula.specs.Bytes.{bytesOf, read, formulaReading}
 use Rattle.formula.specs.RoundTrip.{formula-part}
 use Rattle.valuer.specs.Node.{Spelled}

@@ -8,9 +8,10 @@ use borrow.Author.Tests.{eqb-true}
 use lib.Dec.{eqb}
 use lib.ListN.{getD, replicate, getD-replicate}
 use Rattle.theory.specs.Formula.{Formula}
-use Rattle.theory.specs.Loop.{Filled}
+use Rattle.theory.specs.Lists.{Filled}
 use Rattle.theory.specs.Part.{modelOf}
-use Rattle.theory.specs.Test.{allBelow, all-at}
+use Rattle.theory.specs.Test.{allBelow}
+use Rattle.theory.specs.TestLaws.{all-at}
 use Rattle.theory.specs.Value.{iterate, bind, eval}
 use Rattle.operations.specs.Table.{opsIn}
 use Rattle.operations.specs.declared.Lattice.{Lattice}

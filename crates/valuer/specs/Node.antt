@@ -10,7 +10,7 @@ use Rattle.theory.specs.Lattice.{Ops}
 use Rattle.theory.specs.Model.{Model}
 use Rattle.theory.specs.Formula.{Formula, boundBy, overProps, nestedBinders}
 use Rattle.theory.specs.Value.{iterate, bind, eval}
-use Rattle.theory.specs.Loop.{Filled}
+use Rattle.theory.specs.Lists.{Filled}
 use Rattle.theory.specs.Part.{modelOf}
 use Rattle.operations.specs.Table.{opsIn}
 use Rattle.operations.specs.declared.Lattice.{Lattice}

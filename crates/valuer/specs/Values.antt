@@ -7,7 +7,7 @@ use Rattle.theory.specs.Lattice.{Ops, imp, bigMeet}
 use Rattle.theory.specs.Model.{Model}
 use Rattle.theory.specs.Formula.{Formula}
 use Rattle.theory.specs.Value.{valueAt, wholeValue}
-use Rattle.theory.specs.Loop.{Filled}
+use Rattle.theory.specs.Lists.{Filled}
 use Rattle.theory.specs.Part.{modelOf}
 use Rattle.operations.specs.Table.{opsIn}
 use Rattle.operations.specs.declared.Lattice.{Lattice}

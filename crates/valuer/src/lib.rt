@@ -12,7 +12,7 @@ ghost use lib.ListN.{getD};
 ghost use Rattle.theory.specs.Part.{modelOf, ModelShape};
 ghost use Rattle.theory.specs.Value.{allNext, someNext};
 ghost use Rattle.theory.specs.Test.{allBelow};
-ghost use Rattle.theory.specs.Loop.{Filled};
+ghost use Rattle.theory.specs.Lists.{Filled};
 ghost use Rattle.operations.specs.Table.{meetIn, joinIn, complementIn, opsIn};
 ghost use Rattle.valuer.specs.Values.{Reads, fromInitial, Values, ValueAt, WholeValue};
 ghost use Rattle.valuer.specs.Code.{literal, combine, nextOf, startOf};

@@ -1,9 +1,9 @@
 -- `calls::fill` meets its contract: the places passed so far are filled.
 use Prim.Native.Nat.{_≤_, _-_}
-use mathlib.Core.Path.{_≡_, refl, ap, _∙_}
+use mathlib.Core.Path.{_≡_, refl}
 use native.Mathlib.Omega.{arith}
 use lib.ListN.{length, replicate, length-set}
-use Rattle.theory.specs.Written.{written}
+use Rattle.theory.specs.Lists.{written}
 use Rattle.calls.specs.Opened.{fill-none, fill-more, fill-done}
 use Rattle.calls.proofs.fill.Statement.{statement}
 use Rattle.calls.proofs.fill.Tie as tie

@@ -1,5 +1,5 @@
 -- `calls::round_kept` meets its contract: by its tests.
-use Rattle.theory.specs.Test.{and-false}
+use Rattle.theory.specs.TestLaws.{and-false}
 use native.Mathlib.Omega.{arith}
 use borrow.Author.Tests.{le-leb, lt-leb}
 use borrow.Author.Needs.{needs}

@@ -6,9 +6,10 @@ use borrow.Author.Needs.{needs}
 use borrow.Author.Tests.{not-true, not-false, ltb-true, lt-ltb}
 use lib.Dec.{ltb, leb}
 use lib.ListN.{length}
-use Rattle.theory.specs.Test.{and-l}
+use Rattle.theory.specs.TestLaws.{and-l}
 use Rattle.casefile.specs.Directory.{sizeTest, directoryTest}
-use Rattle.casefile.specs.Placed.{HasDirectory, Placed, has-directory, all-placed}
+use Rattle.casefile.specs.Placed.{has-directory, all-placed}
+use Rattle.casefile.specs.Conditions.{HasDirectory, Placed}
 use Rattle.casefile.specs.Answered.{size-answered, directory-answered, place-answered, parts-answered}
 use Rattle.casefile.proofs.check.Statement.{statement}
 use Rattle.casefile.proofs.check.Tie as tie

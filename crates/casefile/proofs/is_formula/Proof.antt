@@ -4,7 +4,7 @@ use mathlib.Core.Path.{sym, ap, _∙_}
 use mathlib.Core.List.{List}
 use borrow.Author.Needs.{needs}
 use Rattle.formula.specs.Bytes.{formulaReading}
-use Rattle.formula.specs.Check.{checked}
+use Rattle.formula.specs.Answer.{checked}
 use Rattle.casefile.specs.Steps.{isAccepted}
 use Rattle.casefile.proofs.is_formula.Statement.{statement}
 use Rattle.casefile.proofs.is_formula.Tie as tie

@@ -1,7 +1,7 @@
 -- `casefile::right_directory` meets its contract: by its tests.
 use borrow.Author.Needs.{needs}
 use borrow.Author.Tests.{le-leb, lt-leb}
-use Rattle.theory.specs.Test.{and-false}
+use Rattle.theory.specs.TestLaws.{and-false}
 use Rattle.casefile.specs.Directory.{partCount}
 use Rattle.casefile.proofs.right_directory.Statement.{statement}
 use Rattle.casefile.proofs.right_directory.Tie as tie

@@ -2,7 +2,7 @@
 use native.Mathlib.Omega.{arith}
 use borrow.Author.Needs.{needs}
 use borrow.Author.Tests.{lt-ltb, le-ltb, le-leb, lt-leb}
-use Rattle.theory.specs.Test.{and-false}
+use Rattle.theory.specs.TestLaws.{and-false}
 use Rattle.casefile.specs.Directory.{partStart, partSize}
 use Rattle.casefile.proofs.well_placed.Statement.{statement}
 use Rattle.casefile.proofs.well_placed.Tie as tie

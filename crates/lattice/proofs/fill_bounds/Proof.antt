@@ -4,7 +4,7 @@ use native.Mathlib.Omega.{arith}
 use borrow.Author.Needs.{needs}
 use Prim.Native.Nat.{_≤_, _-_}
 use lib.ListN.{length, length-set}
-use Rattle.theory.specs.Test.{false-true}
+use Rattle.theory.specs.TestLaws.{false-true}
 use Rattle.lattice.specs.Tables.{BoundsUpTo, bounds-none, bounds-more, bounds-fail, bounds-done, filled-reached}
 use Rattle.lattice.specs.Reading.{latticeOf}
 use Rattle.lattice.specs.Accepted.{formed, ordered-out}

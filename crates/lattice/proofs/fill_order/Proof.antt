@@ -4,7 +4,8 @@ use native.Mathlib.Omega.{arith}
 use borrow.Author.Needs.{needs}
 use Prim.Native.Nat.{_≤_, _-_}
 use lib.ListN.{length, length-set}
-use Rattle.theory.specs.Loop.{Filled, filled-none, filled-more}
+use Rattle.theory.specs.Loop.{filled-none, filled-more}
+use Rattle.theory.specs.Lists.{Filled}
 use Rattle.theory.specs.Part.{opsOf}
 use Rattle.lattice.specs.Reading.{latticeOf}
 use Rattle.lattice.specs.Tables.{tableEntry, filled-reached, order-fill}

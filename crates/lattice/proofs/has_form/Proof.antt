@@ -3,7 +3,7 @@ use mathlib.Core.Path.{sym, _∙_}
 use native.Mathlib.Omega.{arith}
 use borrow.Author.Tests.{not-true, not-false}
 use borrow.Author.Needs.{needs}
-use Rattle.theory.specs.Test.{not-passed}
+use Rattle.theory.specs.TestLaws.{not-passed}
 use Rattle.lattice.specs.Form.{square-le, form-panel, form-length, form-out, form-complements, form-last}
 use Rattle.lattice.proofs.has_form.Statement.{statement}
 use Rattle.lattice.proofs.has_form.Tie as tie

@@ -5,7 +5,8 @@ use Prim.Native.Nat.{_≤_, _-_}
 use native.Mathlib.Omega.{arith}
 use borrow.Author.Needs.{needs}
 use borrow.Author.Tests.{not-true, not-false}
-use Rattle.theory.specs.Test.{allBelow, all-none, all-more, all-fails, all-done}
+use Rattle.theory.specs.Test.{allBelow}
+use Rattle.theory.specs.TestLaws.{all-none, all-more, all-fails, all-done}
 use Rattle.operations.specs.Table.{atMostIn}
 use Rattle.lattice.specs.Scan.{orderFor, under, greatest}
 use Rattle.lattice.proofs.is_greatest.Statement.{statement}

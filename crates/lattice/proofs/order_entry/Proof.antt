@@ -4,7 +4,8 @@ use mathlib.Core.Path.{_≡_, sym, _∙_}
 use native.Mathlib.Omega.{arith}
 use borrow.Author.Needs.{needs}
 use Rattle.theory.specs.Simulation.{one}
-use Rattle.theory.specs.Loop.{tab, tab-at}
+use Rattle.theory.specs.Loop.{tab-at}
+use Rattle.theory.specs.Lists.{tab}
 use Rattle.lattice.specs.Panel.{panelOrder}
 use Rattle.lattice.specs.Reading.{latticeOf}
 use Rattle.lattice.specs.Form.{OrderEntry, form-explicit, order-at, panel-at, panelEntry}

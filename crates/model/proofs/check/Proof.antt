@@ -4,9 +4,10 @@ use mathlib.Core.Path.{_≡_, sym, _∙_}
 use native.Mathlib.Omega.{arith}
 use borrow.Author.Needs.{needs}
 use borrow.Author.Tests.{not-true, not-false}
-use Rattle.theory.specs.Test.{false-true}
+use Rattle.theory.specs.TestLaws.{false-true}
 use Rattle.model.specs.Places.{prod-le}
-use Rattle.model.specs.Reading.{elementsOnly, answers-accepted, answers-refused}
+use Rattle.model.specs.Reading.{elementsOnly}
+use Rattle.model.specs.Accepted.{answers-accepted, answers-refused}
 use Rattle.model.proofs.check.Statement.{statement}
 use Rattle.model.proofs.check.Tie as tie
 

@@ -6,7 +6,8 @@ use native.Mathlib.Omega.{arith}
 use borrow.Author.Tests.{lt-ltb, le-ltb}
 use lib.Dec.{ltb}
 use lib.ListN.{getD}
-use Rattle.theory.specs.Test.{allBelow, all-none, all-more, all-fails, all-done}
+use Rattle.theory.specs.Test.{allBelow}
+use Rattle.theory.specs.TestLaws.{all-none, all-more, all-fails, all-done}
 use Rattle.operations.proofs.below.Statement.{statement}
 use Rattle.operations.proofs.below.Tie as tie
 

@@ -5,7 +5,7 @@ use native.Mathlib.Omega.{arith}
 use borrow.Author.Needs.{needs}
 use lib.ListN.{getD}
 use Rattle.theory.specs.Part.{modelOf}
-use Rattle.theory.specs.Test.{all-fails}
+use Rattle.theory.specs.TestLaws.{all-fails}
 use Rattle.operations.specs.Table.{opsIn}
 use Rattle.theory.specs.Simulation.{F}
 use Rattle.rounds.specs.Table.{tableOf, entrySame, rowSame}

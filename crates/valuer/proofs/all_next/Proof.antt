@@ -6,7 +6,8 @@ use lib.ListN.{length, getD, length-set}
 use borrow.Author.Needs.{needs}
 use Rattle.theory.specs.Part.{modelOf}
 use Rattle.theory.specs.Value.{allNext}
-use Rattle.theory.specs.Loop.{Filled, filled-none, filled-more}
+use Rattle.theory.specs.Loop.{filled-none, filled-more}
+use Rattle.theory.specs.Lists.{Filled}
 use Rattle.operations.specs.Table.{opsIn}
 use Rattle.valuer.proofs.Loops.{filled-to}
 use Rattle.valuer.proofs.all_next.Statement.{statement}

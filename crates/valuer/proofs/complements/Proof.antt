@@ -4,7 +4,8 @@ use Prim.Native.Nat.{_≤_, _-_}
 use native.Mathlib.Omega.{arith}
 use lib.ListN.{length, getD, length-set}
 use borrow.Author.Needs.{needs}
-use Rattle.theory.specs.Loop.{Filled, filled-none, filled-more}
+use Rattle.theory.specs.Loop.{filled-none, filled-more}
+use Rattle.theory.specs.Lists.{Filled}
 use Rattle.operations.specs.Table.{complementIn}
 use Rattle.valuer.proofs.Loops.{filled-to}
 use Rattle.valuer.proofs.complements.Statement.{statement}

@@ -5,7 +5,8 @@ use native.Mathlib.Omega.{arith}
 use lib.ListN.{length, length-set}
 use borrow.Author.Needs.{needs}
 use Rattle.theory.specs.Part.{modelOf}
-use Rattle.theory.specs.Loop.{Filled, filled-none, filled-more}
+use Rattle.theory.specs.Loop.{filled-none, filled-more}
+use Rattle.theory.specs.Lists.{Filled}
 use Rattle.valuer.proofs.Loops.{filled-to}
 use Rattle.valuer.proofs.labels.Statement.{statement}
 use Rattle.valuer.proofs.labels.Tie as tie

@@ -6,7 +6,8 @@ use native.Mathlib.Omega.{arith}
 use lib.Dec.{eqb}
 use lib.ListN.{getD}
 use borrow.Author.Tests.{eq-eqb, ne-eqb}
-use Rattle.theory.specs.Test.{allBelow, all-none, all-more, all-fails, all-done}
+use Rattle.theory.specs.Test.{allBelow}
+use Rattle.theory.specs.TestLaws.{all-none, all-more, all-fails, all-done}
 use Rattle.valuer.proofs.same.Statement.{statement}
 use Rattle.valuer.proofs.same.Tie as tie
 

@@ -5,7 +5,8 @@ use mathlib.Core.List.{List}
 use Prim.Native.Nat.{ℕ}
 use lib.ListN.{getD}
 use Rattle.formula.specs.Bytes.{formulaReading}
-use Rattle.formula.specs.Check.{checked, accepted-read}
+use Rattle.formula.specs.Check.{accepted-read}
+use Rattle.formula.specs.Answer.{checked}
 use Rattle.formula.specs.declared.FormulaCheck.{FormulaCheck}
 use Rattle.formula.specs.declared.FormulaCheck.the-variants.{Accepted}
 use Rattle.valuer.specs.Values.{Reads}
