@@ -1,4 +1,4 @@
--- What the calls' code answers, in the desk's terms: for each answer 'this paper's number and values'. Rests on desk's Perform, casefile's Answer.
+-- What the calls' code answers, in the desk's terms: for each of an enum's cases the number and values that document 01 gives. Rests on desk's Perform, casefile's Answer.
 use Prim.Native.Nat.{ℕ, _*_}
 use mathlib.Core.Bool.{Bool, _&&_}
 use mathlib.Core.Path.{_≡_}

@@ -1,5 +1,5 @@
 -- What a call knows of a desk that is held, how the examination gets its answer, and what a call does after it.
--- Rests on Read, Answer, casefile's Caller, and desk's Refusals.
+-- Rests on Answer, casefile's Caller, and desk's RefusedLaws.
 use Prim.Native.Nat.{ℕ, _+_, _*_, _≤_}
 use mathlib.Core.Path.{_≡_, refl, sym, ap, _∙_}
 use mathlib.Core.Bool.{Bool, true, false}
@@ -15,11 +15,12 @@ use Rattle.refusal.specs.declared.Refusal.the-variants.{ShortDesk, SpoiledDesk,
 use Rattle.casefile.specs.declared.Sizes.{Sizes}
 use Rattle.casefile.specs.Reading.{Content, CaseReading, refused, content, storeReading}
 use Rattle.casefile.specs.Answer.{sizesOf}
+use Rattle.casefile.specs.Accepted.{refused-content}
 use Rattle.casefile.specs.Caller.{AcceptedCase, accepted-as}
 use Rattle.desk.specs.Desk.{Desk, Question, Call, isOpen}
 use Rattle.desk.specs.Refused.{short, tableKept, rulesKept, keptFor, spoiled, inRange, examined, refusedReply}
 use Rattle.desk.specs.Perform.{answerTo, answer, moved}
-use Rattle.desk.specs.Refusals.{Long, long-enough, Unspoiled, is-short, is-spoiled, in-store, rules-out, outcome, Outcome, too-short, broken, outside, inside, other-accepted, perform-refused, perform-accepted}
+use Rattle.desk.specs.RefusedLaws.{Long, long-enough, Unspoiled, is-short, is-spoiled, in-store, rules-out, outcome, Outcome, too-short, broken, outside, inside, other-accepted, perform-refused, perform-accepted}
 use Rattle.calls.specs.declared.Examined.{Examined}
 use Rattle.calls.specs.declared.Examined.the-variants.{Refused, Held}
 use Rattle.calls.specs.Answer.{examinedAnswer, DeskExamined, Does}
@@ -88,9 +89,6 @@ refused-call k d r f t o w q = perform-refused k d f (go (outcome Call.Step d re
         absurd (let z : _≡_ {A = ℕ} 0 1 = cc in omega arith)
 
 -- ---- the answers of the examination
-
-refused-content : {r : Refusal} {c : Content} → refused r ≡ content c → ⊥
-refused-content e = let z : _≡_ {A = ℕ} 0 1 = cc in omega arith
 
 refused-examined : (d : Desk) (f : Refusal) (t : List ℕ) → examined Call.Step d ≡ refused f → DeskExamined d (Refused f) t
 refused-examined d f t e = record { answer = sym (ap examinedAnswer e); tables = λ c g. absurd (refused-content (sym e ∙ g)) }

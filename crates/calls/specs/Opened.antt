@@ -1,4 +1,4 @@
--- What open does, from the check of its case and what it wrote. Rests on desk's Moved and Refusals, casefile's Caller, theory's Written.
+-- What open does, from the check of its case and what it wrote. Rests on desk's Moved and RefusedLaws, casefile's Caller, theory's Written.
 use Prim.Native.Nat.{ℕ, _+_, _*_, _≤_, _<_}
 use mathlib.Core.Path.{_≡_, sym, ap, ap₂, _∙_}
 use mathlib.Core.Bool.{true, false}
@@ -19,7 +19,7 @@ use Rattle.desk.specs.Desk.{Desk, Standing, Call, Reply}
 use Rattle.desk.specs.Refused.{short, numberReply}
 use Rattle.desk.specs.Moved.{opened}
 use Rattle.desk.specs.Perform.{After, answer, moved}
-use Rattle.desk.specs.Refusals.{is-short, open-long, perform-refused, perform-accepted}
+use Rattle.desk.specs.RefusedLaws.{is-short, open-long, perform-refused, perform-accepted}
 use Rattle.calls.specs.Answer.{Does}
 
 -- ---- filling a table

@@ -1,4 +1,4 @@
--- What the questions are answered, from what the code found. Rests on Held, rounds' Table and valuer's Values.
+-- What the questions are answered, from what the code found. Rests on Held, rounds' Table and Share, valuer's Values.
 use Prim.Native.Nat.{ℕ, _+_, _*_, _≤_, _<_}
 use mathlib.Core.Path.{_≡_, refl, sym, ap, ap₂, _∙_}
 use mathlib.Core.Bool.{Bool, true, false, cond, _&&_, _||_}

@@ -18,7 +18,7 @@ use Rattle.desk.specs.Desk.{Desk, Standing, Call, Reply}
 use Rattle.desk.specs.Case.{latticeSize, model1, model2, N1, N2, operator, tableSize}
 use Rattle.desk.specs.Moved.{shownTable, changedNow, movedOn, worked, stepped, stepAnswer}
 use Rattle.desk.specs.Perform.{After, answer, moved}
-use Rattle.desk.specs.Refusals.{in-store, perform-accepted}
+use Rattle.desk.specs.RefusedLaws.{in-store, perform-accepted}
 use Rattle.calls.specs.Answer.{Does}
 use Rattle.calls.specs.Held.{HeldDesk}
 
@@ -97,7 +97,7 @@ module _ (d : Desk) (z : Sizes) (t : List ℕ) (h : HeldDesk d z t) where
   standing-moved : (differs : Bool) → differs ≡ rowChanged (model1 (h .case .holds)) (model2 (h .case .holds)) (operator (h .case .holds)) (shownTable (h .case .holds) d) (d .standing .row) → movedOn (N1 (h .case .holds)) (changedNow (h .case .holds) d) (d .standing) ≡ movedBy differs (d .standing)
   standing-moved differs e = rw (e, h .kept .rules .size1)
 
-  -- the row, in the terms of calls
+  -- the row, in the desk's terms
   out-is : (out whole other : List ℕ) → out ≡ rowOut t (z .lattice) part1 part2 whole (d .standing .row) other → out ≡ rowWritten (model1 (h .case .holds)) (model2 (h .case .holds)) (operator (h .case .holds)) (tableOf whole (N2 (h .case .holds))) (d .standing .row) other
   out-is out whole other e = rw (h .case .parts .model1, h .case .parts .model2, h .case .tables) at e
 

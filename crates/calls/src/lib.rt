@@ -1,4 +1,4 @@
-// The calls, with the standing by value.
+// The eight calls, with the standing by value: open, step, and the six that only read.
 use casefile::CaseCheck;
 use casefile::Sizes;
 use model::State;
@@ -246,15 +246,15 @@ fn work_row(
     bytes: &[u8],
     whole: &[u8],
     other: &mut [u8],
-    row: u8,
+    row: State,
 ) -> bool
-    requires { ⌜ Workable (now bytes) (now whole) (now other) row ⌝ }
-    ensures { λ r. ⌜ (now (other .exit) ≡ rowOut (now (t .entry)) l (partAt (now (bytes .entry)) 1) (partAt (now (bytes .entry)) 2) (now (whole .entry)) row (now (other .entry)))
-        × (r ≡ rowDiffers (now (t .entry)) l (partAt (now (bytes .entry)) 1) (partAt (now (bytes .entry)) 2) (now (whole .entry)) row) ⌝ }
+    requires { ⌜ Workable (now bytes) (now whole) (now other) (row .0) ⌝ }
+    ensures { λ r. ⌜ (now (other .exit) ≡ rowOut (now (t .entry)) l (partAt (now (bytes .entry)) 1) (partAt (now (bytes .entry)) 2) (now (whole .entry)) (row .0) (now (other .entry)))
+        × (r ≡ rowDiffers (now (t .entry)) l (partAt (now (bytes .entry)) 1) (partAt (now (bytes .entry)) 2) (now (whole .entry)) (row .0)) ⌝ }
 {
     let m1 = casefile::part(bytes, 1);
     let m2 = casefile::part(bytes, 2);
-    rounds::row(t, l, m1, m2, whole, other, State(row))
+    rounds::row(t, l, m1, m2, whole, other, row)
 }
 
 fn either(a: bool, b: bool) -> bool
@@ -318,7 +318,7 @@ fn answered(s: Standing, differs: bool) -> Stepped
     }
 }
 
-// Works the next row.
+// Works the next row of the next round in the table that is not whole; a settled desk answers Settled again.
 pub fn step(s: Standing, store: &[u8], first: &mut [u8], second: &mut [u8]) -> Stepped
     ensures { λ r. ⌜ Does Call.Step (deskOf s (now (store .entry)) (now (first .entry)) (now (second .entry))) (stepReply (r .answer)) (deskOf (r .standing) (now (store .entry)) (now (first .exit)) (now (second .exit))) ⌝ }
 {
@@ -338,9 +338,9 @@ pub fn step(s: Standing, store: &[u8], first: &mut [u8], second: &mut [u8]) -> S
             let l = z.lattice;
             let bytes = &store[..24576];
             if s.second_whole {
-                return answered(s, work_row(&t, l, bytes, second, first, s.row));
+                return answered(s, work_row(&t, l, bytes, second, first, State(s.row)));
             }
-            answered(s, work_row(&t, l, bytes, first, second, s.row))
+            answered(s, work_row(&t, l, bytes, first, second, State(s.row)))
         }
     }
 }
@@ -348,16 +348,16 @@ pub fn step(s: Standing, store: &[u8], first: &mut [u8], second: &mut [u8]) -> S
 // ---- open
 
 // Writes the element e at the first n places.
-fn fill(table: &mut [u8], n: usize, e: u8)
+fn fill(table: &mut [u8], n: usize, e: Element)
     requires { ⌜ n ≤ length (now table) ⌝ }
-    ensures { λ _. ⌜ now (table .exit) ≡ written 0 (replicate n e) (now (table .entry)) ⌝ }
+    ensures { λ _. ⌜ now (table .exit) ≡ written 0 (replicate n (e .0)) (now (table .entry)) ⌝ }
 {
     for i in 0..n {
-        table[i] = e;
+        table[i] = e.0;
     }
 }
 
-// Takes a case, and makes the desk anew.
+// Takes a case, and makes the desk anew: unsettled, at round 0 and next row 0, both tables top.
 pub fn open(
     s: Standing,
     case: &[u8],
@@ -384,8 +384,8 @@ pub fn open(
             let l = z.lattice;
             let top = l.top;
             casefile::write(case, store);
-            fill(first, n, top.0);
-            fill(second, n, top.0);
+            fill(first, n, top);
+            fill(second, n, top);
             Opened {
                 standing: Standing {
                     states1: z.states1,

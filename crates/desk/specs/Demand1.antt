@@ -1,28 +1,35 @@
 -- Demand 1, of every call on every desk: which refusal is given and exactly when; a refusal alters nothing; every other input is accepted.
--- What a case is refused for is casefile's `caseReading`, and casefile's Exactly says which cases are accepted. Rests on Refused, Perform, Refusals.
+-- What a case is refused for, and in which order, is casefile's `caseReading`. Rests on Refused, Perform, casefile's Conditions, and for the proof on
+-- RefusedLaws and casefile's Exactly.
 use Prim.Native.Nat.{ℕ, _≤_}
-use mathlib.Core.Path.{_≡_, sym, ap, _∙_}
+use mathlib.Core.Path.{_≡_, refl, sym, ap, _∙_}
 use mathlib.Core.Bool.{Bool, true, false}
 use mathlib.Core.Logic.{_↔_, _⊎_, inl, inr, ⊎-elim}
-use mathlib.Core.List.{List}
+use mathlib.Core.List.{List, []}
 use native.Mathlib.Omega.{arith}
 use Rattle.theory.specs.TestLaws.{false-true, not-failed}
 use Rattle.refusal.specs.declared.Refusal.{Refusal}
 use Rattle.refusal.specs.declared.Refusal.the-variants.{ShortDesk, SpoiledDesk, OutOfRange}
-use Rattle.refusal.specs.Number.{numberOf}
+use Rattle.refusal.specs.Number.{numberOf, partOf}
 use Rattle.casefile.specs.Reading.{Content, refused, content, caseReading}
-use Rattle.desk.specs.Desk.{Desk, Call, isOpen}
-use Rattle.desk.specs.Refused.{short, Rules, callInRange, examined, accepted, refusedReply}
+use Rattle.casefile.specs.Conditions.{CaseOf}
+use Rattle.casefile.specs.Accepted.{refused-content}
+use Rattle.casefile.specs.Exactly.{content-exactly}
+use Rattle.desk.specs.Desk.{Desk, Question, Call, Reply, isOpen, isShow}
+use Rattle.desk.specs.Refused.{short, Rules, inRange, InRange, callInRange, examined, accepted, refusedReply}
 use Rattle.desk.specs.Perform.{perform}
-use Rattle.desk.specs.Refusals.{perform-refused, is-short, open-long, in-store, open-accepted, other-accepted, Outcome, too-short, broken, outside, inside, outcome, opens-or-not, accepted-content, content-accepted, case-number}
+use Rattle.desk.specs.RefusedLaws.{perform-refused, range-exactly, is-short, open-long, in-store, open-accepted, other-accepted, Outcome, too-short, broken, outside, inside, outcome, opens-or-not, accepted-content, content-accepted, case-number}
 
 -- a content whose rules the desk keeps, and whose range the call's arguments are in (x true) or not (x false)
-abbrev pub Kept : Call → Desk → Bool → Type 0
-Kept k d x = (c : Content) × Rules d c × (callInRange k c ≡ x)
+abbrev pub InStore : Call → Desk → Bool → Type 0
+InStore k d x = (c : Content) × Rules d c × (callInRange k c ≡ x)
 
 pub record Demand1 (k : Call) (d : Desk) : Type 0 where
-  -- 'a refusal alters nothing'; it gives number and part, or, of show, an empty part
-  pub kept : (r : Refusal) → examined k d ≡ refused r → perform k d ≡ record { reply = refusedReply k r; desk = d }
+  -- 'a refusal alters nothing'
+  pub alters-nothing : (r : Refusal) → examined k d ≡ refused r → perform k d .desk ≡ d
+  -- it gives number and part; 'A refused show returns an empty part and no refusal number.'
+  pub numbered : (r : Refusal) → isShow k ≡ false → examined k d ≡ refused r → perform k d .reply ≡ Reply.Refused (numberOf r) (partOf r)
+  pub show-refused : (r : Refusal) → isShow k ≡ true → examined k d ≡ refused r → perform k d .reply ≡ Reply.Shown []
   -- 11 is given exactly when 'the store or a table is shorter than above'
   pub at-11 : (examined k d ≡ refused ShortDesk) ↔ (short d ≡ true)
   -- else open is refused for what its case is refused for, 1 to 10
@@ -30,16 +37,36 @@ pub record Demand1 (k : Call) (d : Desk) : Type 0 where
   pub numbers : (b : List ℕ) (r : Refusal) → caseReading b ≡ refused r → (1 ≤ numberOf r) × (numberOf r ≤ 10)
   -- the other calls get 12 'when, and only when, one of these is broken', then 13, and nothing else
   pub at-12 : isOpen k ≡ false → (examined k d ≡ refused SpoiledDesk) ↔ ((short d ≡ false) × ((c : Content) → ¬ Rules d c))
-  pub at-13 : isOpen k ≡ false → (examined k d ≡ refused OutOfRange) ↔ ((short d ≡ false) × Kept k d false)
+  pub at-13 : isOpen k ≡ false → (examined k d ≡ refused OutOfRange) ↔ ((short d ≡ false) × InStore k d false)
+  pub ranges : (q : Question) (c : Content) → (inRange q c ≡ true) ↔ InRange q c
   pub only : isOpen k ≡ false → (r : Refusal) → examined k d ≡ refused r → (r ≡ ShortDesk) ⊎ ((r ≡ SpoiledDesk) ⊎ (r ≡ OutOfRange))
-  -- 'Every input to which no numbered refusal of its call applies is accepted'
-  pub open-accepted : (b : List ℕ) → k ≡ Call.Open b → (accepted k d ≡ true) ↔ ((short d ≡ false) × ((c : Content) × (caseReading b ≡ content c)))
-  pub other-accepted : isOpen k ≡ false → (accepted k d ≡ true) ↔ ((short d ≡ false) × Kept k d true)
+  -- 'Every input to which no numbered refusal of its call applies is accepted': a case exactly when its directory, lattice, models and
+  -- formulas are as document 01 wants them
+  pub case-accepted : (b : List ℕ) (c : Content) → (caseReading b ≡ content c) ↔ CaseOf b c
+  pub open-accepted : (b : List ℕ) → k ≡ Call.Open b → (accepted k d ≡ true) ↔ ((short d ≡ false) × ((c : Content) × CaseOf b c))
+  pub other-accepted : isOpen k ≡ false → (accepted k d ≡ true) ↔ ((short d ≡ false) × InStore k d true)
 
 -- ---- the proof
 
-refused-content : {r : Refusal} {c : Content} → refused r ≡ content c → ⊥
-refused-content e = let z : _≡_ {A = ℕ} 0 1 = cc in omega arith
+refused-numbered : (k : Call) (r : Refusal) → isShow k ≡ false → refusedReply k r ≡ Reply.Refused (numberOf r) (partOf r)
+refused-numbered (Call.Open b) r e = refl
+refused-numbered Call.Step r e = refl
+refused-numbered (Call.Ask Question.Show) r e = absurd (false-true e refl)
+refused-numbered (Call.Ask Question.Score) r e = refl
+refused-numbered (Call.Ask (Question.Value f m q)) r e = refl
+refused-numbered (Call.Ask (Question.Whole f m)) r e = refl
+refused-numbered (Call.Ask (Question.Share l)) r e = refl
+refused-numbered (Call.Ask (Question.Judge t)) r e = refl
+
+refused-shown : (k : Call) (r : Refusal) → isShow k ≡ true → refusedReply k r ≡ Reply.Shown []
+refused-shown (Call.Open b) r e = absurd (false-true refl e)
+refused-shown Call.Step r e = absurd (false-true refl e)
+refused-shown (Call.Ask Question.Show) r e = refl
+refused-shown (Call.Ask Question.Score) r e = absurd (false-true refl e)
+refused-shown (Call.Ask (Question.Value f m q)) r e = absurd (false-true refl e)
+refused-shown (Call.Ask (Question.Whole f m)) r e = absurd (false-true refl e)
+refused-shown (Call.Ask (Question.Share l)) r e = absurd (false-true refl e)
+refused-shown (Call.Ask (Question.Judge t)) r e = absurd (false-true refl e)
 
 module _ (k : Call) (d : Desk) where
   -- one call gets one number
@@ -73,7 +100,7 @@ module _ (k : Call) (d : Desk) where
   spoiled-so l w (outside c u i p) = absurd (w c (u .rules))
   spoiled-so l w (inside c u i p) = absurd (w c (u .rules))
 
-  range-only : examined k d ≡ refused OutOfRange → Outcome k d → (short d ≡ false) × Kept k d false
+  range-only : examined k d ≡ refused OutOfRange → Outcome k d → (short d ≡ false) × InStore k d false
   range-only e (too-short s p) = absurd (omega (arith, same-number ShortDesk OutOfRange p e))
   range-only e (broken s n p) = absurd (omega (arith, same-number SpoiledDesk OutOfRange p e))
   range-only e (outside c u i p) = (u .long, (c, u .rules, i))
@@ -88,19 +115,23 @@ module _ (k : Call) (d : Desk) where
   pub demand1 : Demand1 k d
   demand1 =
       record {
-        kept = perform-refused k d;
+        alters-nothing = λ r e. ap (λ x. x .desk) (perform-refused k d r e);
+        numbered = λ r s e. ap (λ x. x .reply) (perform-refused k d r e) ∙ refused-numbered k r s;
+        show-refused = λ r s e. ap (λ x. x .reply) (perform-refused k d r e) ∙ refused-shown k r s;
         at-11 = (short-only, is-short k d);
         at-1-to-10 = λ b q s. ap (λ (x : Call). examined x d) q ∙ open-long b d s;
         numbers = case-number;
         at-12 = λ o. (λ e. spoiled-only e (outcome k d o), λ w. spoiled-so (w .0) (w .1) (outcome k d o));
         at-13 = λ o. (λ e. range-only e (outcome k d o), λ w. in-store k d (w .1 .0) o (record { long = w .0; rules = w .1 .1 }) ∙ rw (w .1 .2));
+        ranges = range-exactly;
         only = λ o r e. others r e (outcome k d o);
+        case-accepted = content-exactly;
         open-accepted = λ b q. (
           λ a.
               let w = accepted-content k d a in
               let v = open-accepted b d (w .0) (ap (λ (x : Call). examined x d) (sym q) ∙ w .1) in
-              (v .long, (w .0, v .reads)),
-          λ w. content-accepted k d (w .1 .0) (ap (λ (x : Call). examined x d) q ∙ open-long b d (w .0) ∙ w .1 .1),
+              (v .long, (w .0, content-exactly b (w .0) .0 (v .reads))),
+          λ w. content-accepted k d (w .1 .0) (ap (λ (x : Call). examined x d) q ∙ open-long b d (w .0) ∙ content-exactly b (w .1 .0) .1 (w .1 .1)),
         );
         other-accepted = λ o. (
           λ a. let w = accepted-content k d a in let v = other-accepted k d (w .0) o (w .1) in (v .held .long, (w .0, v .held .rules, v .range)),

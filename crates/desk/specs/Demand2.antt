@@ -1,20 +1,21 @@
 -- Demand 2, of the desk after every list of calls with an accepted opening in it: the settled table is the greatest latticed simulation, and
--- values are those of the latticed mu-calculus. Rests on Run, and for the proof on Demand3, Refusals, theory's Rounds and Fixpoint.
+-- values are those of the latticed mu-calculus. Rests on Run, and for the proof on Demand3, Listed, RefusedLaws, theory's Rounds and Fixpoint.
 use Prim.Native.Nat.{ℕ, _<_}
 use mathlib.Core.Path.{_≡_, refl, sym, ap, _∙_}
 use mathlib.Core.Bool.{Bool, true, false, cond, _&&_}
 use mathlib.Core.List.{List}
+use native.Mathlib.Nat.{le-refl}
 use borrow.Author.Tests.{ltb-true}
 use lib.Dec.{eqb}
 use lib.ListN.{length, take}
 use Rattle.theory.specs.Lattice.{Ops, imp, bigMeet}
 use Rattle.theory.specs.Model.{Model, Valued}
-use Rattle.theory.specs.Formula.{Formula}
-use Rattle.theory.specs.Value.{valueAt, wholeValue}
+use Rattle.theory.specs.Formula.{Formula, closed, overProps}
+use Rattle.theory.specs.Value.{SameMap, eval, enough, valueAt, wholeValue}
 use Rattle.theory.specs.Calculus.{Calculus}
 use Rattle.theory.specs.Simulation.{SameTable, GreatestSimulation}
 use Rattle.theory.specs.Folds.{bigMeet-cong}
-use Rattle.theory.specs.Fixpoint.{value-is}
+use Rattle.theory.specs.Fixpoint.{calculus, value-is}
 use Rattle.theory.specs.Rounds.{F-cong}
 use Rattle.theory.specs.TestLaws.{and-l, and-r}
 use Rattle.formula.specs.RoundTrip.{formula-part}
@@ -26,7 +27,7 @@ use Rattle.desk.specs.Refused.{hasFormula, isModel, hasState, examined, 
 use Rattle.desk.specs.Moved.{shownTable}
 use Rattle.desk.specs.Perform.{asked, answer}
 use Rattle.desk.specs.Run.{run, LastOpening, answersSince, roundAfter}
-use Rattle.desk.specs.Refusals.{perform-accepted, accepted-content, other-accepted}
+use Rattle.desk.specs.RefusedLaws.{perform-accepted, accepted-content, other-accepted}
 use Rattle.desk.specs.Listed.{opening-T}
 use Rattle.desk.specs.Demand3.{listed}
 
@@ -35,10 +36,14 @@ use Rattle.desk.specs.Demand3.{listed}
 pub record Demand2 (c : Content) (d : Desk) : Type 0 where
   -- 'the settled table is the greatest latticed simulation': 'it meets their equation, and every other table that does lies at or below it'
   pub settled-table : d .standing .settled ≡ true → GreatestSimulation (ops c) (model1 c) (model2 c) (shownTable c d)
-  -- 'Formula values are those of the latticed mu-calculus': u is whatever function gives these (theory's `calculus`: there is one), and a
-  -- closed formula has no outer variables, so that any values of these will do
+  -- 'Formula values are those of the latticed mu-calculus': u is whatever function gives these, and a closed formula has no outer
+  -- variables, so that any values of these will do
   pub values : (f m q : ℕ) → accepted (Call.Ask (Question.Value f m q)) d ≡ true → (u : Formula → (ℕ → ℕ → ℕ) → ℕ → ℕ) → Calculus (ops c) (modelIn c m) u
       → asked (Question.Value f m q) d ≡ Reply.Element (u (formulaIn c f) (λ v i. ops c .bot) q)
+  -- there is such a function, and every closed formula over the case's propositions, in the case or not, has these values
+  pub calculus-is : (m : ℕ) → Calculus (ops c) (modelIn c m) (eval (ops c) (modelIn c m) (enough (ops c) (modelIn c m)))
+  pub values-are : (m : ℕ) (φ : Formula) → closed φ ≡ true → overProps (model1 c .propositions) φ ≡ true → (u : Formula → (ℕ → ℕ → ℕ) → ℕ → ℕ)
+      → Calculus (ops c) (modelIn c m) u → SameMap (ops c) (modelIn c m) (valueAt (ops c) (modelIn c m) φ) (u φ (λ v i. ops c .bot))
   -- 'A formula's value on a whole model is the meet over q of Q0(q) → value at q'
   pub wholes : (f m : ℕ) → accepted (Call.Ask (Question.Whole f m)) d ≡ true → (u : Formula → (ℕ → ℕ → ℕ) → ℕ → ℕ) → Calculus (ops c) (modelIn c m) u
       → asked (Question.Whole f m) d ≡ Reply.Element (bigMeet (ops c) (modelIn c m .states) (λ q. imp (ops c) (modelIn c m .initial q) (u (formulaIn c f) (λ v i. ops c .bot) q)))
@@ -55,8 +60,8 @@ same-greatest {O} M₁ M₂ S U h g =
       greatest = λ W w q₁ l q₂ m. rw (h q₁ l q₂ m) (g .greatest W w q₁ l q₂ m);
     }
 
-settled-table : (ks : List Call) (d : Desk) (l : LastOpening ks d) → run ks d .standing .settled ≡ true → GreatestSimulation (ops (l .holds)) (model1 (l .holds)) (model2 (l .holds)) (shownTable (l .holds) (run ks d))
-settled-table ks d l e =
+settled-is : (ks : List Call) (d : Desk) (l : LastOpening ks d) → run ks d .standing .settled ≡ true → GreatestSimulation (ops (l .holds)) (model1 (l .holds)) (model2 (l .holds)) (shownTable (l .holds) (run ks d))
+settled-is ks d l e =
     let t = opening-T l in
     let w = listed ks d l (t .0) (t .1) in
     let r : roundAfter (l .holds) (t .0) (length (answersSince l)) ≡ t .0 = w .settled-is .0 e in
@@ -64,20 +69,23 @@ settled-table ks d l e =
 
 -- ---- 'Formula values are those of the latticed mu-calculus', at any desk on which the call is accepted: u is any function that gives these
 
-module _ (c : Content) (h : ContentSound c) (u : Formula → (ℕ → ℕ → ℕ) → ℕ → ℕ) where
-  -- the value of a closed formula, as u gives it: it has no outer variables, so any values of these will do
-  abbrev pub valueBy : Formula → ℕ → ℕ
-  valueBy φ q = u φ (λ v i. ops c .bot) q
-
+module _ (c : Content) (h : ContentSound c) where
   in-model : (t : Bool) → Valued (ops c) (cond t (model1 c) (model2 c)) × (cond t (model1 c) (model2 c) .propositions ≡ model1 c .propositions)
   in-model true = (h .valued1, refl)
   in-model false = (h .valued2, sym (h .same-propositions))
 
-  value-by : (f m : ℕ) → hasFormula c f ≡ true → Calculus (ops c) (modelIn c m) u → (q : ℕ) → q < modelIn c m .states → valueAt (ops c) (modelIn c m) (formulaIn c f) q ≡ valueBy (formulaIn c f) q
-  value-by f m k a =
+  pub is-calculus : (m : ℕ) → Calculus (ops c) (modelIn c m) (eval (ops c) (modelIn c m) (enough (ops c) (modelIn c m)))
+  is-calculus m = calculus (h .laws) (modelIn c m) (in-model (eqb m 1) .0) (enough (ops c) (modelIn c m)) (le-refl _)
+
+  -- the value of a closed formula, as u gives it
+  pub value-of : (m : ℕ) (φ : Formula) → closed φ ≡ true → overProps (model1 c .propositions) φ ≡ true → (u : Formula → (ℕ → ℕ → ℕ) → ℕ → ℕ)
+      → Calculus (ops c) (modelIn c m) u → SameMap (ops c) (modelIn c m) (valueAt (ops c) (modelIn c m) φ) (u φ (λ v i. ops c .bot))
+  value-of m φ b o u a = let w = in-model (eqb m 1) in value-is (h .laws) (modelIn c m) (w .0) φ b (rw (w .1) o) u a
+
+  value-by : (f m : ℕ) → hasFormula c f ≡ true → (u : Formula → (ℕ → ℕ → ℕ) → ℕ → ℕ) → Calculus (ops c) (modelIn c m) u → SameMap (ops c) (modelIn c m) (valueAt (ops c) (modelIn c m) (formulaIn c f)) (u (formulaIn c f) (λ v i. ops c .bot))
+  value-by f m k u a =
       let p = formula-part (model1 c .propositions) _ (formulaIn c f) (h .formulas .each f (ltb-true _ _ k)) in
-      let w = in-model (eqb m 1) in
-      value-is (h .laws) (modelIn c m) (w .0) (formulaIn c f) (p .bound) (rw (w .1) (p .props)) u a
+      value-of m (formulaIn c f) (p .bound) (p .props) u a
 
 pub value-asked : (f m q : ℕ) (d : Desk) (c : Content) → examined (Call.Ask (Question.Value f m q)) d ≡ content c → (u : Formula → (ℕ → ℕ → ℕ) → ℕ → ℕ) → Calculus (ops c) (modelIn c m) u → asked (Question.Value f m q) d ≡ Reply.Element (u (formulaIn c f) (λ v i. ops c .bot) q)
 unfolding answer
@@ -85,7 +93,7 @@ value-asked f m q d c e u a =
     let k = other-accepted (Call.Ask (Question.Value f m q)) d c refl e in
     let formula = and-l (hasFormula c f) (isModel m) (and-l (hasFormula c f && isModel m) (hasState c m q) (k .range)) in
     let state = and-r (hasFormula c f && isModel m) (hasState c m q) (k .range) in
-    ap (λ x. x .reply) (perform-accepted (Call.Ask (Question.Value f m q)) d c e) ∙ ap Reply.Element (value-by c (content-sound (take 24576 (d .store)) c (k .held .rules .reads)) u f m formula a q (ltb-true _ _ state))
+    ap (λ x. x .reply) (perform-accepted (Call.Ask (Question.Value f m q)) d c e) ∙ ap Reply.Element (value-by c (content-sound (take 24576 (d .store)) c (k .held .rules .reads)) f m formula u a q (ltb-true _ _ state))
 
 -- 'A formula's value on a whole model is the meet over q of Q0(q) → value at q'
 pub whole-asked : (f m : ℕ) (d : Desk) (c : Content) → examined (Call.Ask (Question.Whole f m)) d ≡ content c → (u : Formula → (ℕ → ℕ → ℕ) → ℕ → ℕ) → Calculus (ops c) (modelIn c m) u → asked (Question.Whole f m) d ≡ Reply.Element (bigMeet (ops c) (modelIn c m .states) (λ q. imp (ops c) (modelIn c m .initial q) (u (formulaIn c f) (λ v i. ops c .bot) q)))
@@ -94,13 +102,13 @@ whole-asked f m d c e u a =
     let k = other-accepted (Call.Ask (Question.Whole f m)) d c refl e in
     let formula = and-l (hasFormula c f) (isModel m) (k .range) in
     ap (λ x. x .reply) (perform-accepted (Call.Ask (Question.Whole f m)) d c e)
-    ∙ ap Reply.Element (bigMeet-cong (ops c) (modelIn c m .states) _ _ (λ q l. ap (imp (ops c) (modelIn c m .initial q)) (value-by c (content-sound (take 24576 (d .store)) c (k .held .rules .reads)) u f m formula a q l)))
+    ∙ ap Reply.Element (bigMeet-cong (ops c) (modelIn c m .states) _ _ (λ q l. ap (imp (ops c) (modelIn c m .initial q)) (value-by c (content-sound (take 24576 (d .store)) c (k .held .rules .reads)) f m formula u a q l)))
 
 -- ---- the two together
 
 -- an accepted question works on what the store holds
-works-on : (k : Call) (d : Desk) (c : Content) → isOpen k ≡ false → storeReading (d .store) ≡ content c → accepted k d ≡ true → examined k d ≡ content c
-works-on k d c o h a =
+asked-of : (k : Call) (d : Desk) (c : Content) → isOpen k ≡ false → storeReading (d .store) ≡ content c → accepted k d ≡ true → examined k d ≡ content c
+asked-of k d c o h a =
     let w = accepted-content k d a in
     let q : content (w .0) ≡ content c = sym (other-accepted k d (w .0) o (w .1) .held .rules .reads) ∙ h in
     w .1 ∙ q
@@ -111,7 +119,9 @@ demand2 ks d l =
     let t = opening-T l in
     let store = listed ks d l (t .0) (t .1) .store-holds in
     record {
-      settled-table = settled-table ks d l;
-      values = λ f m q a u h. value-asked f m q (run ks d) c (works-on (Call.Ask (Question.Value f m q)) (run ks d) c refl store a) u h;
-      wholes = λ f m a u h. whole-asked f m (run ks d) c (works-on (Call.Ask (Question.Whole f m)) (run ks d) c refl store a) u h;
+      settled-table = settled-is ks d l;
+      calculus-is = is-calculus c (content-sound (take 24576 (run ks d .store)) c store);
+      values-are = value-of c (content-sound (take 24576 (run ks d .store)) c store);
+      values = λ f m q a u h. value-asked f m q (run ks d) c (asked-of (Call.Ask (Question.Value f m q)) (run ks d) c refl store a) u h;
+      wholes = λ f m a u h. whole-asked f m (run ks d) c (asked-of (Call.Ask (Question.Whole f m)) (run ks d) c refl store a) u h;
     }

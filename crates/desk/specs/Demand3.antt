@@ -1,6 +1,6 @@
 -- Demand 3: one claim about every list of calls from any desk, refused ones included, with an accepted opening in it. First the claim, a field for
 -- each part of it; then the theorem `listed`, for whatever last accepted opening and whatever T, and `demand3`, that there are these.
--- Rests on Run, and for the proof on Listed, Next, Stands and theory's Rounds and Preservation.
+-- Rests on Run, and for the proof on Listed, Next, Stands, RefusedLaws, and theory's Rounds, Preservation, Height and Sharp.
 use Prim.Native.Nat.{ℕ, suc, _+_, _*_, _-_, _%_, _≤_, _<_}
 use mathlib.Core.Path.{_≡_, refl, sym, ap, _∙_, subst}
 use mathlib.Core.Bool.{true, false}
@@ -26,7 +26,7 @@ use Rattle.desk.specs.Refused.{short, spoiled, inRange, examined, accept
 use Rattle.desk.specs.Moved.{opened, shownTable}
 use Rattle.desk.specs.Perform.{perform, asked, answer, moved}
 use Rattle.desk.specs.Run.{run, openings, LastOpening, answersSince, roundAfter, answerAfter}
-use Rattle.desk.specs.Refusals.{perform-accepted, OpenAccepted, open-long, open-accepted, spoiled-exactly}
+use Rattle.desk.specs.RefusedLaws.{perform-accepted, OpenAccepted, open-long, open-accepted, spoiled-exactly}
 use Rattle.desk.specs.Stands.{known-sound, Stands, opening-starts}
 use Rattle.desk.specs.Next.{at, stands-unspoiled, never, ranges-are, next-answer, shows, below-shown, shown-below, show-is, score-is, share-is, judge-yes-is, judge-no-is}
 use Rattle.desk.specs.Listed.{run-append, last-opening, opening-T, Since, since}

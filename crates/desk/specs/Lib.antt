@@ -10,7 +10,7 @@ pub mod Demand1
 pub mod Demand2
 pub mod Demand3
 -- ---- theorems
-pub mod Refusals
+pub mod RefusedLaws
 pub mod Stands
 pub mod Next
 pub mod Listed

@@ -1,4 +1,4 @@
--- Lists of calls: every list with an accepted opening has a last one, and after it the invariant holds call by call. Rests on Run, Refusals, Stands, Next.
+-- Lists of calls: every list with an accepted opening has a last one, and after it the invariant holds call by call. Rests on Run, RefusedLaws, Stands, Next.
 use Prim.Native.Nat.{ℕ, zero, suc, _+_, _<_}
 use mathlib.Core.Path.{_≡_, refl, sym, ap, _∙_, subst}
 use mathlib.Core.Bool.{Bool, true, false, cond, _&&_}
@@ -18,7 +18,7 @@ use Rattle.desk.specs.Refused.{examined, accepted}
 use Rattle.desk.specs.Moved.{stepped}
 use Rattle.desk.specs.Perform.{perform, answer, moved}
 use Rattle.desk.specs.Run.{run, openings, stepAnswers, LastOpening, answerAfter}
-use Rattle.desk.specs.Refusals.{perform-refused, perform-accepted, accepted-content, refused-refusal, open-accepted}
+use Rattle.desk.specs.RefusedLaws.{perform-refused, perform-accepted, accepted-content, refused-refusal, open-accepted}
 use Rattle.desk.specs.Stands.{Stands, step-moves}
 use Rattle.desk.specs.Next.{at, ranges-are, next-answer, next-desk}
 

@@ -1,4 +1,4 @@
--- The two calls that move the desk: open and step. Rests on Desk, Case, casefile's Gapless and rounds' Table.
+-- The two calls that move the desk: open and step. Rests on Desk, Case, theory's Lists, casefile's Reading and Gapless, rounds' Table.
 use Prim.Native.Nat.{ℕ, _+_}
 use mathlib.Core.Bool.{Bool, false, cond, not, _||_}
 use mathlib.Core.List.{List}

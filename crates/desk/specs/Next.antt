@@ -1,5 +1,5 @@
 -- What a desk that stands after s accepted steps is: its standing, the call that comes next, and what it answers.
--- Rests on Stands, Refusals, calls' definitions, theory's Rounds and Preservation, rounds' Round.
+-- Rests on Stands, RefusedLaws, Case, Refused, Moved, Perform, Run, theory's Rounds, rounds' Round.
 use Prim.Native.Nat.{ℕ, _+_, _*_, _/_, _%_, _≤_, _<_}
 use mathlib.Core.Path.{_≡_, refl, sym, ap, _∙_, subst}
 use mathlib.Core.Bool.{Bool, true, false, cond}
@@ -28,7 +28,7 @@ use Rattle.desk.specs.Refused.{Rules, callInRange, examined, isContent, 
 use Rattle.desk.specs.Moved.{shownTable}
 use Rattle.desk.specs.Perform.{perform, asked, answer, moved}
 use Rattle.desk.specs.Run.{roundAfter, answerAfter}
-use Rattle.desk.specs.Refusals.{Unspoiled, CaseNumber, case-number, Long, long-not-short, opens-or-not, open-long, in-store, perform-accepted}
+use Rattle.desk.specs.RefusedLaws.{Unspoiled, CaseNumber, case-number, Long, long-not-short, opens-or-not, open-long, in-store, perform-accepted}
 use Rattle.desk.specs.Stands.{known-sound, Going, Ended, Progress, GoingAt, EndedAt, Stands, sizes-most}
 
 -- ---- s is round · N1 + row

@@ -1,6 +1,7 @@
--- Which refusal a call gets, or the content that it works on. Rests on Desk, Case, casefile's Reading, and refusal.
+-- Which refusal a call gets, or the content that it works on. Rests on Desk, Case, theory's Test, casefile's Reading, and refusal.
 use Prim.Native.Nat.{ℕ, _+_, _*_, _-_, _≤_, _<_}
 use mathlib.Core.Path.{_≡_}
+use mathlib.Core.Logic.{_⊎_}
 use mathlib.Core.Bool.{Bool, true, false, cond, not, _&&_, _||_}
 use mathlib.Core.List.{List, []}
 use lib.Dec.{ltb, leb, eqb}
@@ -60,7 +61,7 @@ spoiledAs d (content c) = not (keptFor c d)
 unfoldable pub spoiled : Desk → Bool
 spoiled d = spoiledAs d (storeReading (d .store))
 
--- The rules one by one, as statements. Refusals.antt shows that the tests say the same.
+-- The rules one by one, as statements. RefusedLaws shows that the tests say the same.
 pub record Rules (d : Desk) (c : Content) : Type 0 where
   pub reads : storeReading (d .store) ≡ content c
   pub size1 : d .standing .states1 ≡ N1 c
@@ -92,6 +93,15 @@ inRange (Question.Value f m q) c = hasFormula c f && isModel m && hasState c m q
 inRange (Question.Whole f m) c = hasFormula c f && isModel m
 inRange (Question.Share e) c = ltb e (latticeSize c)
 inRange (Question.Judge t) c = eqb (length t) (tableSize c) && tableKept (tableSize c) (latticeSize c) t
+
+-- the same as statements; RefusedLaws shows that the tests say the same
+abbrev pub InRange : Question → Content → Type 0
+InRange Question.Show c = Unit {0}
+InRange Question.Score c = Unit {0}
+InRange (Question.Value f m q) c = (f < length (c .formulas)) × ((m ≡ 1) ⊎ (m ≡ 2)) × (q < modelIn c m .states)
+InRange (Question.Whole f m) c = (f < length (c .formulas)) × ((m ≡ 1) ⊎ (m ≡ 2))
+InRange (Question.Share e) c = e < latticeSize c
+InRange (Question.Judge t) c = (length t ≡ tableSize c) × ((i : ℕ) → i < tableSize c → getD t i 0 < latticeSize c)
 
 -- step has no such argument, and open does not use 13
 abbrev pub callInRange : Call → Content → Bool

@@ -1,4 +1,4 @@
--- Lists of calls, and what demand 3 says of one: the last accepted opening, s, r and the last step's answer. Rests on Desk, Refused, Perform.
+-- Lists of calls, and what demand 3 says of one: the last accepted opening, s, r and the last step's answer. Rests on Desk, Case, Refused, Perform.
 use Prim.Native.Nat.{ℕ, _+_, _/_, _%_, min}
 use mathlib.Core.Path.{_≡_}
 use mathlib.Core.Bool.{cond, _&&_}
@@ -26,7 +26,7 @@ unfoldable pub stepAnswers : List Call → Desk → List Reply
 stepAnswers [] d = []
 stepAnswers (k ∷ ks) d = cond (isStep k && accepted k d) (perform k d .reply ∷ stepAnswers ks (perform k d .desk)) (stepAnswers ks (perform k d .desk))
 
--- what they answer, in order
+-- what the calls of a list answer, in order
 unfoldable pub replies : List Call → Desk → List Reply
 replies [] d = []
 replies (k ∷ ks) d = perform k d .reply ∷ replies ks (perform k d .desk)

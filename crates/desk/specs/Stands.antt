@@ -1,5 +1,5 @@
 -- The invariant of demand 3, 'this desk is what the content c gives after s accepted steps', with the lemmas that an accepted opening
--- starts it and an accepted step moves s on. Rests on calls' definitions, rounds' Round, theory's Rounds, casefile's Accepted and Content.
+-- starts it and an accepted step moves s on. Rests on Case, Refused, Moved, RefusedLaws, rounds' Round, theory's Rounds, casefile's Accepted and Content.
 use Prim.Native.Nat.{ℕ, suc, _+_, _*_, _-_, _≤_, _<_}
 use mathlib.Core.Path.{_≡_, refl, sym, ap, _∙_, subst}
 use mathlib.Core.Bool.{Bool, true, false, cond, not, _||_}
@@ -25,7 +25,7 @@ use Rattle.rounds.specs.Round.{RoundSoFar, RoundDone, round-none, round-more, r
 use Rattle.desk.specs.Desk.{Desk, wholeTable, otherTable}
 use Rattle.desk.specs.Case.{ops, model1, model2, N1, N2, tableSize, operator, roundIn, IsT}
 use Rattle.desk.specs.Refused.{short}
-use Rattle.desk.specs.Refusals.{long-enough}
+use Rattle.desk.specs.RefusedLaws.{long-enough}
 use Rattle.desk.specs.Moved.{opened, topped, stored, rowWorked, changedNow, nextRow, nextRound, worked, stepped}
 
 -- ---- the invariant

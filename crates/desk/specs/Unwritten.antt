@@ -1,4 +1,4 @@
--- 'Table bytes past N1·N2 and store bytes past 24,576 are never written', and no buffer changes its length. Rests on Refusals, Moved,
+-- 'Table bytes past N1·N2 and store bytes past 24,576 are never written', and no buffer changes its length. Rests on RefusedLaws, Moved,
 -- theory's Written.
 use Prim.Native.Nat.{ℕ, _+_, _*_, _≤_, _<_}
 use mathlib.Core.Path.{_≡_, refl, sym, ap, subst}
@@ -20,7 +20,7 @@ use Rattle.desk.specs.Case.{ops, N1, N2, tableSize, operator}
 use Rattle.desk.specs.Refused.{examined}
 use Rattle.desk.specs.Moved.{opened, topped, shownTable, rowWorked, worked, stepped}
 use Rattle.desk.specs.Perform.{perform, moved}
-use Rattle.desk.specs.Refusals.{long-enough, perform-accepted, OpenAccepted, open-accepted, other-accepted}
+use Rattle.desk.specs.RefusedLaws.{long-enough, perform-accepted, OpenAccepted, open-accepted, other-accepted}
 
 -- a buffer of the same length, with the same bytes from place n on
 pub record SameFrom (n : ℕ) (after before : List ℕ) : Type 0 where

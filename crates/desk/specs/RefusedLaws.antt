@@ -1,9 +1,9 @@
--- Which refusal a call gets, or the content that it works on: for demand 1, demand 3 and the proofs of the code.
+-- Theorems on which refusal a call gets, or the content that it works on: for demand 1, demand 3 and the proofs of the code.
 -- Rests on Refused, Perform and casefile's Reading.
 use Prim.Native.Nat.{ℕ, _-_, _≤_}
 use mathlib.Core.Path.{_≡_, refl, sym, ap, _∙_}
 use mathlib.Core.Bool.{Bool, true, false, cond, not, _&&_, _||_}
-use mathlib.Core.Logic.{_↔_, _⊎_, inl, inr}
+use mathlib.Core.Logic.{_↔_, _⊎_, inl, inr, ⊎-elim}
 use mathlib.Core.List.{List}
 use native.Mathlib.Omega.{arith}
 use borrow.Author.Tests.{not-false, not-true, lt-ltb, ltb-true, ltb-false, le-ltb, le-leb, leb-true, eq-eqb, eqb-true}
@@ -19,9 +19,10 @@ use Rattle.lattice.specs.Reading.{LatticeReading, latticeReading, partReading, 
 use Rattle.model.specs.Reading.{modelTest}
 use Rattle.casefile.specs.Directory.{partCount, directoryEnd, sizeTest, directoryTest, misplaced, partAt, partsFrom}
 use Rattle.casefile.specs.Reading.{Content, CaseReading, refused, content, caseReading, storeReading, partsReading, modelsReading, formulasReading, afterFormulas, afterLattice, FormulasReading, refusedAt, read}
-use Rattle.desk.specs.Desk.{Desk, Call, isOpen}
+use Rattle.casefile.specs.Accepted.{refused-content}
+use Rattle.desk.specs.Desk.{Desk, Question, Call, isOpen}
 use Rattle.desk.specs.Case.{N1, N2, latticeSize, tableSize, limit}
-use Rattle.desk.specs.Refused.{short, sizesKept, rowKept, settledKept, roundKept, rulesKept, keptFor, spoiledAs, Rules, spoiled, callInRange, ofStore, afterShort, examined, isContent, accepted, refusedReply}
+use Rattle.desk.specs.Refused.{short, sizesKept, rowKept, settledKept, roundKept, rulesKept, keptFor, tableKept, spoiledAs, Rules, hasFormula, isModel, hasState, inRange, InRange, spoiled, callInRange, ofStore, afterShort, examined, isContent, accepted, refusedReply}
 use Rattle.desk.specs.Perform.{perform, performed, answer, moved}
 
 -- ---- the lengths that refusal 11 asks for
@@ -96,6 +97,39 @@ spoiled-exactly d = (λ p. go (storeReading (d .store)) refl p, λ w. rw (w .1 .
     go (refused r) e h = absurd (false-true h refl)
     go (content c) e h = (c, rules-out d c e (not-false (keptFor c d) h))
 
+-- ---- the ranges of 13
+
+is-model : (m : ℕ) → (isModel m ≡ true) ↔ ((m ≡ 1) ⊎ (m ≡ 2))
+is-model m = (there (eqb m 1) refl, ⊎-elim (λ (e : m ≡ 1). rw e) (λ (e : m ≡ 2). rw e))
+  where
+    there : (b : Bool) → eqb m 1 ≡ b → (b || eqb m 2) ≡ true → (m ≡ 1) ⊎ (m ≡ 2)
+    there true e h = inl (eqb-true m 1 e)
+    there false e h = inr (eqb-true m 2 h)
+
+pub range-exactly : (q : Question) (c : Content) → (inRange q c ≡ true) ↔ InRange q c
+range-exactly Question.Show c = (λ h. tt, λ h. refl)
+range-exactly Question.Score c = (λ h. tt, λ h. refl)
+range-exactly (Question.Value f m q) c = (
+  λ h. (
+    ltb-true _ _ (and-l (hasFormula c f) (isModel m) (and-l (hasFormula c f && isModel m) (hasState c m q) h)),
+    is-model m .0 (and-r (hasFormula c f) (isModel m) (and-l (hasFormula c f && isModel m) (hasState c m q) h)),
+    ltb-true _ _ (and-r (hasFormula c f && isModel m) (hasState c m q) h),
+  ),
+  λ h. and-in _ _ (and-in _ _ (lt-ltb _ _ (h .0)) (is-model m .1 (h .1))) (lt-ltb _ _ (h .2)),
+)
+range-exactly (Question.Whole f m) c = (
+  λ h. (ltb-true _ _ (and-l (hasFormula c f) (isModel m) h), is-model m .0 (and-r (hasFormula c f) (isModel m) h)),
+  λ h. and-in _ _ (lt-ltb _ _ (h .0)) (is-model m .1 (h .1)),
+)
+range-exactly (Question.Share e) c = (λ h. ltb-true _ _ h, λ h. lt-ltb _ _ h)
+range-exactly (Question.Judge t) c = (
+  λ h. (
+    eqb-true _ _ (and-l (eqb (length t) (tableSize c)) (tableKept (tableSize c) (latticeSize c) t) h),
+    λ i l. ltb-true _ _ (all-at (tableSize c) (λ j. ltb (getD t j 0) (latticeSize c)) (and-r (eqb (length t) (tableSize c)) (tableKept (tableSize c) (latticeSize c) t) h) i l),
+  ),
+  λ h. and-in _ _ (eq-eqb _ _ (h .0)) (all-in _ _ (λ i l. lt-ltb _ _ (h .1 i l))),
+)
+
 -- ---- 'a refusal alters nothing'
 
 pub perform-refused : (k : Call) (d : Desk) (r : Refusal) → examined k d ≡ refused r → perform k d ≡ record { reply = refusedReply k r; desk = d }
@@ -105,9 +139,6 @@ perform-refused k d r e = ap (performed k d) e
 pub perform-accepted : (k : Call) (d : Desk) (c : Content) → examined k d ≡ content c → perform k d ≡ record { reply = answer k c d; desk = moved k c d }
 unfolding perform
 perform-accepted k d c e = ap (performed k d) e
-
-refused-content : {r : Refusal} {c : Content} → refused r ≡ content c → ⊥
-refused-content e = let z : _≡_ {A = ℕ} 0 1 = cc in omega arith
 
 -- a call opens or does not
 pub opens-or-not : (k : Call) → ((b : List ℕ) × (k ≡ Call.Open b)) ⊎ (isOpen k ≡ false)
