@@ -1,5 +1,5 @@
 -- Which strings of bytes are cases, and with which content: conditions on the parts themselves, one field for each, in place of the tests
--- and the parse that the reading runs. Rests on Accepted, and on what is accepted of a single part: lattice's Accepted, model's Reading, formula's RoundTrip.
+-- and the parse that the reading runs. Rests on Accepted, and on what is accepted of a single part: lattice's Accepted, model's Accepted, formula's RoundTrip.
 use Prim.Native.Nat.{ℕ}
 use mathlib.Core.Path.{_≡_, sym, ap, _∙_}
 use mathlib.Core.Bool.{true}
