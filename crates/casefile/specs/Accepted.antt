@@ -139,14 +139,21 @@ read-more k p ps φ φs e h = record { as-many = ap suc (h .as-many); each = eac
 read-less : (k : ℕ) (p : List ℕ) (ps : List (List ℕ)) (φ : Formula) (φs : List Formula) → FormulasRead k (p ∷ ps) (φ ∷ φs) → (formulaReading k p ≡ FormulaReading.read φ) × FormulasRead k ps φs
 read-less k p ps φ φs h = (h .each 0 (omega arith), record { as-many = omega (arith, h .as-many); each = λ f l. h .each (suc f) (omega arith) })
 
+-- a refused part is named, whatever follows it, and then no formulas are read
+refused-named : (i : ℕ) (y : FormulasReading) → readOne i FormulaReading.refused y ≡ refusedAt i
+refused-named i y = refl
+
+named-unread : {i : ℕ} {φs : List Formula} → refusedAt i ≡ read φs → ⊥
+named-unread e = let z : _≡_ {A = ℕ} 0 1 = cc in omega arith
+
 pub formulas-read : (k i : ℕ) (ps : List (List ℕ)) (φs : List Formula) → formulasReading k i ps ≡ read φs → FormulasRead k ps φs
 unfolding formulasReading
 formulas-read k i [] φs e = let q : φs ≡ [] = cc in rw q (record { as-many = refl; each = λ f l. absurd (not-suc-le-zero l) })
 formulas-read k i (p ∷ ps) φs e = go (formulaReading k p) refl (formulasReading k (suc i) ps) (formulas-read k (suc i) ps) e
   where
     go : (x : FormulaReading) → formulaReading k p ≡ x → (y : FormulasReading) → ((ψs : List Formula) → y ≡ read ψs → FormulasRead k ps ψs) → readOne i x y ≡ read φs → FormulasRead k (p ∷ ps) φs
-    go FormulaReading.refused f y h u = absurd (let z : _≡_ {A = ℕ} 0 1 = cc in omega arith)
-    go (FormulaReading.read φ) f (refusedAt j) h u = absurd (let z : _≡_ {A = ℕ} 0 1 = cc in omega arith)
+    go FormulaReading.refused f y h u = absurd (named-unread (sym (refused-named i y) ∙ u))
+    go (FormulaReading.read φ) f (refusedAt j) h u = absurd (named-unread u)
     go (FormulaReading.read φ) f (read ψs) h u = let q : φs ≡ φ ∷ ψs = cc in rw q (read-more k p ps φ ψs f (h ψs refl))
 
 read-formulas : (k i : ℕ) (ps : List (List ℕ)) (φs : List Formula) → FormulasRead k ps φs → formulasReading k i ps ≡ read φs

@@ -14,16 +14,21 @@ use Rattle.theory.specs.Lists.{tab}
 use Rattle.lattice.specs.Reading.{isPanel, latticeOf, explicitForm, latticeForm, reflexive, antisymmetric, transitive, partialOrder, bounded, distributive, complementRules, require, partReading, latticeReading}
 use Rattle.model.specs.Reading.{elementsOnly, modelTest}
 use Rattle.formula.specs.Bytes.{byCode, parse, formulaReading}
+use Rattle.refusal.specs.declared.Refusal.{Refusal}
 use Rattle.casefile.specs.Directory.{partStart, partSize, placed, misplaced, partsFrom}
 use Rattle.casefile.specs.Reading.{formulasReading, modelsReading, caseReading}
 use Rattle.casefile.specs.Gapless.{pairs, joined, gapless}
 use Rattle.casefile.specs.Examples.{reportCase}
 use Rattle.rounds.specs.Table.{rowSame, changedBelow, simulationTest}
 use Rattle.desk.specs.Desk.{Desk, Question, Call, Reply}
-use Rattle.desk.specs.Refused.{short, rulesKept, spoiled, examined, accepted}
+use Rattle.desk.specs.Refused.{short, rulesKept, spoiled, examined, accepted, refusedReply}
 use Rattle.desk.specs.Moved.{opened, worked, stepped}
 use Rattle.desk.specs.Perform.{answer, moved, perform}
 use Rattle.desk.specs.Run.{replies}
+
+-- 'A refused show returns an empty part and no refusal number', whatever the refusal
+pub refused-show : (r : Refusal) → refusedReply (Call.Ask Question.Show) r ≡ Reply.Shown []
+refused-show r = refl
 
 -- 'A desk of zeros'
 abbrev pub zeros : Desk

@@ -95,9 +95,10 @@ module _ {c : Content} {T : ℕ} where
       let p : k ≡ Call.Step = step-of k d q in
       let a : accepted Call.Step d ≡ true = ranges-are w Call.Step refl in
       let v : Stands c T (s + 1) (stepped c d) = step-moves (w .known) w in
+      let z : answer Call.Step c d ≡ answerAfter c T (s + 1) = at v .answer-is in
       subst (λ (x : Call). Stands c T (s + 1) (perform x d .desk) × (perform x d .reply ≡ answerAfter c T (s + 1))) (sym p) (
         subst (Stands c T (s + 1)) (sym (next-desk w Call.Step refl a)) v,
-        next-answer w Call.Step refl a ∙ at v .answer-is,
+        next-answer w Call.Step refl a ∙ z,
       )
 
   answers-more : (s : ℕ) (a : Reply) (answers : List Reply) (d : Desk) → a ≡ answerAfter c T (s + 1) → Since c T (s + 1) answers d → Since c T s (a ∷ answers) d

@@ -1,6 +1,6 @@
 -- What a desk that stands after s accepted steps is: its standing, the call that comes next, and what it answers.
 -- Rests on Stands, RefusedLaws, Case, Refused, Moved, Perform, Run, theory's Rounds, rounds' Round.
-use Prim.Native.Nat.{ℕ, _+_, _*_, _/_, _%_, _≤_, _<_}
+use Prim.Native.Nat.{ℕ, _+_, _*_, _/_, _%_, _≤_, _<_, min}
 use mathlib.Core.Path.{_≡_, refl, sym, ap, _∙_, subst}
 use mathlib.Core.Bool.{Bool, true, false, cond}
 use mathlib.Core.Logic.{_⊎_, inl, inr, ⊎-elim, _↔_}
@@ -9,7 +9,7 @@ use native.Mathlib.Nat.{mul-add-div-right, mul-add-mod-self-right, div-eq-of-lt,
 use native.Mathlib.Omega.{arith}
 use borrow.Author.Tests.{ltb-true, eq-eqb, ne-eqb}
 use lib.Dec.{eqb}
-use lib.ListN.{length, getD}
+use lib.ListN.{length, getD, take}
 use Rattle.theory.specs.Lattice.{Element}
 use Rattle.theory.specs.Simulation.{SameTable, AtMostTable, Simulation, score, share}
 use Rattle.theory.specs.Rounds.{score-cong, T-at-most-size}
@@ -52,7 +52,8 @@ module _ {c : Content} {T s round row : ℕ} {changed settled : Bool} where
   going-position g =
       let d : s / N1 c ≡ round = div-of (N1 c) round row s (g .row-below) (g .count) in
       let m : s % N1 c ≡ row = mod-of (N1 c) round row s (g .row-below) (g .count) in
-      let p : roundAfter c T s ≡ round = rw d (min-eq-left (omega (arith, g .below))) in
+      let b : min (s / N1 c) T ≡ round = rw d (min-eq-left (omega (arith, g .below))) in
+      let p : roundAfter c T s ≡ round = b in
       let n : ¬ (roundAfter c T s ≡ T) = λ z. omega (arith, p, z, g .below) in
       record {
         round-is = sym p;
@@ -199,7 +200,9 @@ module _ {c : Content} {T s : ℕ} {d : Desk} (w : Stands c T s d) where
 
   pub show-is : asked Question.Show d ≡ Reply.Shown (tableBytes c (roundIn c r))
   unfolding answer
-  show-is = next-answer (Call.Ask Question.Show) refl (ranges-are (Call.Ask Question.Show) refl) ∙ ap Reply.Shown (shown-bytes (ops c) (model1 c) (model2 c) (operator c) (wholeTable d) (roundIn c r) shows (sure .shape2 .some) whole-entries)
+  show-is =
+      let e : answer (Call.Ask Question.Show) c d ≡ Reply.Shown (take (tableSize c) (wholeTable d)) = refl in
+      next-answer (Call.Ask Question.Show) refl (ranges-are (Call.Ask Question.Show) refl) ∙ e ∙ ap Reply.Shown (shown-bytes (ops c) (model1 c) (model2 c) (operator c) (wholeTable d) (roundIn c r) shows (sure .shape2 .some) whole-entries)
 
   pub score-is : asked Question.Score d ≡ Reply.Element (score (ops c) (model1 c) (model2 c) (roundIn c r))
   unfolding answer

@@ -134,7 +134,7 @@ range-exactly (Question.Judge t) c = (
 
 pub perform-refused : (k : Call) (d : Desk) (r : Refusal) → examined k d ≡ refused r → perform k d ≡ record { reply = refusedReply k r; desk = d }
 unfolding perform
-perform-refused k d r e = ap (performed k d) e
+perform-refused k d r e = let z : performed k d (refused r) ≡ record { reply = refusedReply k r; desk = d } = refl in ap (performed k d) e ∙ z
 
 pub perform-accepted : (k : Call) (d : Desk) (c : Content) → examined k d ≡ content c → perform k d ≡ record { reply = answer k c d; desk = moved k c d }
 unfolding perform

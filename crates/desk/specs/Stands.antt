@@ -1,7 +1,7 @@
 -- The invariant of demand 3, 'this desk is what the content c gives after s accepted steps', with the lemmas that an accepted opening
 -- starts it and an accepted step moves s on. Rests on Case, Refused, Moved, RefusedLaws, rounds' Round, theory's Rounds, casefile's Accepted and Content.
 use Prim.Native.Nat.{ℕ, suc, _+_, _*_, _-_, _≤_, _<_}
-use mathlib.Core.Path.{_≡_, refl, sym, ap, _∙_, subst}
+use mathlib.Core.Path.{_≡_, refl, sym, ap, ap₂, _∙_, subst}
 use mathlib.Core.Bool.{Bool, true, false, cond, not, _||_}
 use mathlib.Core.Logic.{_⊎_, inl, inr, ⊎-elim}
 use mathlib.Core.List.{List, _++_}
@@ -14,7 +14,7 @@ use lib.ListN.{length, getD, drop, replicate, length-replicate, getD-replicate}
 use Rattle.theory.specs.Lattice.{Element}
 use Rattle.theory.specs.Simulation.{SameTable}
 use Rattle.theory.specs.Rounds.{F-element}
-use Rattle.theory.specs.TestLaws.{false-true}
+use Rattle.theory.specs.TestLaws.{false-true, cond-true, cond-false}
 use Rattle.theory.specs.Written.{written-length, written-at}
 use Rattle.casefile.specs.Reading.{Content, content, contentParts, caseReading}
 use Rattle.casefile.specs.Gapless.{gapless}
@@ -22,7 +22,7 @@ use Rattle.casefile.specs.Accepted.{gapless-most}
 use Rattle.casefile.specs.Content.{ContentSound, content-sound}
 use Rattle.rounds.specs.Table.{tableOf, rowWritten, rowChanged}
 use Rattle.rounds.specs.Round.{RoundSoFar, RoundDone, round-none, round-more, round-reached, round-done, F-reads, row-elements, top-round}
-use Rattle.desk.specs.Desk.{Desk, wholeTable, otherTable}
+use Rattle.desk.specs.Desk.{Standing, Desk, wholeTable, otherTable}
 use Rattle.desk.specs.Case.{ops, model1, model2, N1, N2, tableSize, operator, roundIn, IsT}
 use Rattle.desk.specs.Refused.{short}
 use Rattle.desk.specs.RefusedLaws.{long-enough}
@@ -86,9 +86,9 @@ module _ (c : Content) (T : ℕ) where
     pub states2-is : d .standing .states2 ≡ N2 c
     pub progress : ProgressAt s d
 
--- the same of equal tables
-progress-with : {c : Content} {T s round row : ℕ} {changed settled : Bool} {whole other whole′ other′ : List ℕ} → whole′ ≡ whole → other′ ≡ other → Progress c T s round row changed settled whole other → Progress c T s round row changed settled whole′ other′
-progress-with p q h = rw (p, q) h
+-- the same of equal flags and tables
+progress-with : {c : Content} {T s round row : ℕ} {changed settled changed′ settled′ : Bool} {whole other whole′ other′ : List ℕ} → changed′ ≡ changed → settled′ ≡ settled → whole′ ≡ whole → other′ ≡ other → Progress c T s round row changed settled whole other → Progress c T s round row changed′ settled′ whole′ other′
+progress-with m n p q h = rw (m, n, p, q) h
 
 -- the same store and sizes, and what is progress now
 again : {c : Content} {T s n : ℕ} {d : Desk} → Stands c T s d → (e : Desk) → e .store ≡ d .store → e .standing .states1 ≡ d .standing .states1 → e .standing .states2 ≡ d .standing .states2 → ProgressAt c T n e → Stands c T n e
@@ -253,35 +253,71 @@ module _ {c : Content} {T : ℕ} (known : Known c T) where
             place = place-after now refl;
           }
 
+  -- what a step does, part by part
+  module _ (d : Desk) where
+    -- the row of F of the shown table, in its place in the other one
+    row-is : rowWorked c d ≡ rowWritten (model1 c) (model2 c) (operator c) (tableOf (wholeTable d) (N2 c)) (d .standing .row) (otherTable d)
+    row-is = refl
+
+    changed-is : changedNow c d ≡ (d .standing .changed || rowChanged (model1 c) (model2 c) (operator c) (tableOf (wholeTable d) (N2 c)) (d .standing .row))
+    changed-is = refl
+
+    first-is : worked c d .first ≡ cond (d .standing .secondWhole) (rowWorked c d) (d .first)
+    unfolding worked
+    first-is = refl
+
+    second-is : worked c d .second ≡ cond (d .standing .secondWhole) (d .second) (rowWorked c d)
+    unfolding worked
+    second-is = refl
+
+    unsettled-works : d .standing .settled ≡ false → stepped c d ≡ worked c d
+    unfolding stepped
+    unsettled-works e = cond-false (d .standing .settled) _ (worked c d) e
+
+    settled-stays : d .standing .settled ≡ true → stepped c d ≡ d
+    unfolding stepped
+    settled-stays e = cond-true (d .standing .settled) d _ e
+
+    -- the desk with the standing x and the tables after a row
+    abbrev rowDone : Standing → Desk
+    rowDone x = record { standing = x; store = d .store; first = worked c d .first; second = worked c d .second }
+
+    -- its whole table and its other one, where w says which is whole
+    tables-are : (w : Bool) → (cond w (worked c d .second) (worked c d .first) ≡ cond w (cond (d .standing .secondWhole) (d .second) (rowWorked c d)) (cond (d .standing .secondWhole) (rowWorked c d) (d .first)))
+        × (cond w (worked c d .first) (worked c d .second) ≡ cond w (cond (d .standing .secondWhole) (rowWorked c d) (d .first)) (cond (d .standing .secondWhole) (d .second) (rowWorked c d)))
+    tables-are w = (ap₂ (cond w) second-is first-is, ap₂ (cond w) first-is second-is)
+
   worked-stands : {s : ℕ} {d : Desk} → Stands c T s d → GoingAt c T s d → Stands c T (s + 1) (worked c d)
   unfolding worked
   worked-stands {s} {d} w g = go (eqb (d .standing .row + 1) (N1 c)) refl
     where
-      go : (t : Bool) → eqb (d .standing .row + 1) (N1 c) ≡ t
-          → Stands c T (s + 1)
-          (record {
-            standing = cond t (nextRound (changedNow c d) (d .standing)) (nextRow (changedNow c d) (d .standing));
-            store = d .store;
-            first = cond (d .standing .secondWhole) (rowWorked c d) (d .first);
-            second = cond (d .standing .secondWhole) (d .second) (rowWorked c d);
-          })
+      go : (t : Bool) → eqb (d .standing .row + 1) (N1 c) ≡ t → Stands c T (s + 1) (rowDone d (cond t (nextRound (changedNow c d) (d .standing)) (nextRow (changedNow c d) (d .standing))))
       go true q =
-          again w _ refl refl refl
-          (progress-with (turn-whole (d .standing .secondWhole) (d .first) (d .second) (rowWorked c d)) (turn-other (d .standing .secondWhole) (d .first) (d .second) (rowWorked c d))
+          let e = rowDone d (nextRound (changedNow c d) (d .standing)) in
+          let x = d .standing .secondWhole in
+          let whole : wholeTable e ≡ rowWorked c d = tables-are d (not x) .0 ∙ turn-whole x (d .first) (d .second) (rowWorked c d) in
+          let other : otherTable e ≡ wholeTable d = tables-are d (not x) .1 ∙ turn-other x (d .first) (d .second) (rowWorked c d) in
+          again w e refl refl refl
+          (progress-with refl (ap not (changed-is d)) (whole ∙ row-is d) other
           (round-more-done (w .progress) g (eqb-true _ _ q)))
       go false q =
-          again w _ refl refl refl
-          (progress-with (keep-whole (d .standing .secondWhole) (d .first) (d .second) (rowWorked c d)) (keep-other (d .standing .secondWhole) (d .first) (d .second) (rowWorked c d))
-          (row-more (w .progress) g (let n : ¬ (d .standing .row + 1 ≡ N1 c) = eqb-false _ _ q in omega (arith, g .row-below))))
+          let e = rowDone d (nextRow (changedNow c d) (d .standing)) in
+          let x = d .standing .secondWhole in
+          let whole : wholeTable e ≡ wholeTable d = tables-are d x .0 ∙ keep-whole x (d .first) (d .second) (rowWorked c d) in
+          let other : otherTable e ≡ rowWorked c d = tables-are d x .1 ∙ keep-other x (d .first) (d .second) (rowWorked c d) in
+          let n : ¬ (d .standing .row + 1 ≡ N1 c) = eqb-false _ _ q in
+          let unsettled : e .standing .settled ≡ false = refl in
+          again w e refl refl refl
+          (progress-with (changed-is d) unsettled whole (other ∙ row-is d)
+          (row-more (w .progress) g (omega (arith, g .row-below))))
 
   pub step-moves : {s : ℕ} {d : Desk} → Stands c T s d → Stands c T (s + 1) (stepped c d)
-  unfolding stepped
   step-moves {s} {d} w =
       ⊎-elim
       (λ (g : GoingAt c T s d).
-      subst (Stands c T (s + 1)) (sym (ap (λ (t : Bool). cond t d (worked c d)) (g .unsettled))) (worked-stands w g))
+      subst (Stands c T (s + 1)) (sym (unsettled-works d (g .unsettled))) (worked-stands w g))
       (λ (x : EndedAt c T s d).
-      subst (Stands c T (s + 1)) (sym (ap (λ (t : Bool). cond t d (worked c d)) (x .isSettled)))
+      subst (Stands c T (s + 1)) (sym (settled-stays d (x .isSettled)))
       (again w d refl refl refl
       (record {
         whole-long = w .progress .whole-long;

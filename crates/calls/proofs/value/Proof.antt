@@ -5,6 +5,7 @@ use Rattle.calls.specs.Read.{deskOf}
 use Rattle.calls.specs.Held.{when-held}
 use Rattle.calls.specs.Held.{refused-call}
 use borrow.Author.Tests.{not-true, not-false, lt-ltb, le-ltb}
+use native.Mathlib.Omega.{arith}
 use lib.Seq.{length-take-le}
 use Rattle.calls.specs.Questions.{valuable, held-value, value-outside, value-state}
 use borrow.Author.Needs.{needs}
@@ -47,7 +48,7 @@ returns-2 : tie.Need-returns-2
 returns-2 c =
     let e = c .before .before .before .before .before .before .before .before .before .before in
     let h = when-held _ _ _ _ (e .examine .ensures) (c .before .before .before .before .before .before .before .before .z .given .1) in
-    value-state (desk e) _ _ h _ _ _ (sym (c .before .before .before .before .before .in-range .ensures) ∙ not-false _ (c .before .before .before .before .if1 .left)) (rw (c .before .before .states-of .ensures) at (le-ltb _ _ (c .if2 .taken)))
+    value-state (desk e) _ _ h _ _ _ (sym (c .before .before .before .before .before .in-range .ensures) ∙ not-false _ (c .before .before .before .before .if1 .left)) (rw (c .before .before .states-of .ensures) at (le-ltb (c .before .before .before .before .before .before .before .before .before .before .before .before .before .before .before .args .q .0) (c .before .before .states-of .result) (omega (arith, c .if2 .taken))))
 
 value-of-requires : tie.Need-value-of-requires
 value-of-requires c κs =

@@ -30,14 +30,16 @@ returns c =
 returns-2 : tie.Need-returns-2
 returns-2 c =
     let a = c .before .before .before .before .before .before .before .before .args in
+    let m = c .before .before .before .states2 .given .0 in
     c .check-rest .ensures
-    ∙ second-equal _ _ _ _ _ _ (c .before .if1 .taken)
+    ∙ second-equal (a .bytes .now) (a .l) (a .states1) (a .k) (m .0) (m .1 .0) (c .before .if1 .taken)
     ∙ ap (afterSecond (a .bytes .now) (a .l) (a .states1) (a .k)) (sym (c .before .before .before .states2 .given .1) ∙ c .before .before .before .before .before .check .ensures ∙ ap (modelAnswer (a .l .size)) (c .before .before .before .before .before .before .part .ensures))
 
 returns-3 : tie.Need-returns-3
 returns-3 c =
     let a = c .before .before .before .before .before .before .before .args in
-    second-differs _ _ _ _ _ _ (c .if1 .left)
+    let m = c .before .before .states2 .given .0 in
+    second-differs (a .bytes .now) (a .l) (a .states1) (a .k) (m .0) (m .1 .0) (c .if1 .left)
     ∙ ap (afterSecond (a .bytes .now) (a .l) (a .states1) (a .k)) (sym (c .before .before .states2 .given .1) ∙ c .before .before .before .before .check .ensures ∙ ap (modelAnswer (a .l .size)) (c .before .before .before .before .before .part .ensures))
 
 pub check-second-spec : {M : Type 1} → statement M
