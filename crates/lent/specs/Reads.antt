@@ -1,0 +1,12 @@
+-- What a call that reads says, where the standing is lent. Rests on calls' Answer and Read.
+use Prim.Native.Nat.{ℕ}
+use mathlib.Core.Path.{_≡_}
+use mathlib.Core.List.{List}
+use Rattle.calls.specs.declared.Standing.{Standing}
+use Rattle.calls.specs.Read.{deskOf}
+use Rattle.calls.specs.Answer.{Does}
+use Rattle.desk.specs.Desk.{Call, Question, Reply}
+
+-- the question q on the desk of these four answers x and leaves that desk, and the standing is unchanged by it
+abbrev pub Reads : Question → Standing → List ℕ → List ℕ → List ℕ → Reply → Standing → Type 0
+Reads q s store first second x after = Does (Call.Ask q) (deskOf s store first second) x (deskOf after store first second) × (after ≡ s)

@@ -1,0 +1,2 @@
+-- What the proofs of `lent_examples` share.
+pub mod Lending

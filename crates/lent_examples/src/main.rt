@@ -1,0 +1,250 @@
+// The calls with the standing lent, on worked example 4 of document 01: from open to Settled(3), and what is answered then.
+use calls::ElementAnswer;
+use calls::JudgeAnswer;
+use calls::OpenAnswer;
+use calls::Opened;
+use calls::ShareAnswer;
+use calls::Standing;
+use calls::StepAnswer;
+use calls::Stepped;
+use libc::STDOUT_FILENO;
+use model::State;
+use operations::Element;
+use refusal::Refusal;
+
+// ---- each call, with a standing that is lent to it
+
+fn open(
+    mut s: Standing,
+    case: &[u8],
+    store: &mut [u8],
+    first: &mut [u8],
+    second: &mut [u8],
+) -> Opened {
+    let answer = lent::open(&mut s, case, store, first, second);
+    Opened {
+        standing: s,
+        answer: answer,
+    }
+}
+
+fn step(mut s: Standing, store: &[u8], first: &mut [u8], second: &mut [u8]) -> Stepped {
+    let answer = lent::step(&mut s, store, first, second);
+    Stepped {
+        standing: s,
+        answer: answer,
+    }
+}
+
+fn shown<'a>(mut s: Standing, store: &[u8], first: &'a [u8], second: &'a [u8]) -> &'a [u8] {
+    lent::show(&mut s, store, first, second)
+}
+
+fn score<'a>(mut s: Standing, store: &[u8], first: &'a [u8], second: &'a [u8]) -> ElementAnswer {
+    lent::score(&mut s, store, first, second)
+}
+
+fn share<'a>(
+    mut s: Standing,
+    store: &[u8],
+    first: &'a [u8],
+    second: &'a [u8],
+    e: Element,
+) -> ShareAnswer {
+    lent::share(&mut s, store, first, second, e)
+}
+
+fn judge(mut s: Standing, store: &[u8], first: &[u8], second: &[u8], table: &[u8]) -> JudgeAnswer {
+    lent::judge(&mut s, store, first, second, table)
+}
+
+fn whole(
+    mut s: Standing,
+    store: &[u8],
+    first: &[u8],
+    second: &[u8],
+    f: u8,
+    m: u8,
+) -> ElementAnswer {
+    lent::whole(&mut s, store, first, second, f, m)
+}
+
+fn value(
+    mut s: Standing,
+    store: &[u8],
+    first: &[u8],
+    second: &[u8],
+    f: u8,
+    m: u8,
+    q: State,
+) -> ElementAnswer {
+    lent::value(&mut s, store, first, second, f, m, q)
+}
+
+// ---- what is printed
+
+fn say(text: &[u8]) {
+    io::write_all(STDOUT_FILENO, text);
+}
+
+fn say_number(n: u64) {
+    io::print_decimal(STDOUT_FILENO, n);
+}
+
+fn number(x: u8) -> u64 {
+    x as u64
+}
+
+fn say_refusal(r: Refusal) {
+    say(b" refused ");
+    say_number(number(refusal::number(r)));
+    say(b" ");
+    say_number(number(refusal::part(r)));
+}
+
+// The line of an open.
+fn opened(
+    s: Standing,
+    case: &[u8],
+    store: &mut [u8],
+    first: &mut [u8],
+    second: &mut [u8],
+) -> Standing {
+    say(b"open");
+    let o = open(s, case, store, first, second);
+    let a = o.answer;
+    match a {
+        OpenAnswer::Refused(r) => say_refusal(r),
+        OpenAnswer::Opened => say(b" Opened"),
+    }
+    say(b"\n");
+    o.standing
+}
+
+fn say_step(a: StepAnswer) {
+    match a {
+        StepAnswer::Refused(r) => say_refusal(r),
+        StepAnswer::Row => say(b" Row"),
+        StepAnswer::Round(r) => {
+            say(b" Round ");
+            say_number(r as u64);
+        }
+        StepAnswer::Settled(t) => {
+            say(b" Settled ");
+            say_number(t as u64);
+        }
+    }
+}
+
+// The bytes that a show gives.
+fn show<'a>(s: Standing, store: &[u8], first: &'a [u8], second: &'a [u8]) {
+    say(b", shown");
+    let part = shown(s, store, first, second);
+    for i in 0..part.len() {
+        say(b" ");
+        say_number(number(part[i]));
+    }
+    say(b"\n");
+}
+
+// The line of a step, and of a show after it.
+fn stepped(s: Standing, store: &[u8], first: &mut [u8], second: &mut [u8]) -> Standing {
+    say(b"step");
+    let o = step(s, store, first, second);
+    let a = o.answer;
+    say_step(a);
+    show(o.standing, store, first, second);
+    o.standing
+}
+
+fn steps(s: Standing, n: u8, store: &[u8], first: &mut [u8], second: &mut [u8]) -> Standing {
+    let mut t = s;
+    for _ in 0..n {
+        t = stepped(t, store, first, second);
+    }
+    t
+}
+
+fn say_element(a: ElementAnswer) {
+    match a {
+        ElementAnswer::Refused(r) => say_refusal(r),
+        ElementAnswer::Is(e) => {
+            say(b" ");
+            say_number(number(e.0));
+        }
+    }
+    say(b"\n");
+}
+
+fn say_share(a: ShareAnswer) {
+    match a {
+        ShareAnswer::Refused(r) => say_refusal(r),
+        ShareAnswer::PerCent(p) => {
+            say(b" ");
+            say_number(number(p));
+        }
+    }
+    say(b"\n");
+}
+
+fn say_judge(a: JudgeAnswer) {
+    match a {
+        JudgeAnswer::Refused(r) => say_refusal(r),
+        JudgeAnswer::Says(yes) => {
+            if yes {
+                say(b" yes");
+            } else {
+                say(b" no");
+            }
+        }
+    }
+    say(b"\n");
+}
+
+// Score, the share of element 1, and the judgement of the table of 0s.
+fn tables<'a>(s: Standing, store: &[u8], first: &'a [u8], second: &'a [u8]) {
+    say(b"score");
+    say_element(score(s, store, first, second));
+    say(b"share");
+    say_share(share(s, store, first, second, Element(1)));
+    say(b"judge");
+    say_judge(judge(s, store, first, second, b"\x00\x00\x00\x00"));
+}
+
+// The value of formula 0 at state 0 of model m, and on that model.
+fn values(s: Standing, store: &[u8], first: &[u8], second: &[u8], m: u8) {
+    say(b"value");
+    say_element(value(s, store, first, second, 0, m, State(0)));
+    say(b"whole");
+    say_element(whole(s, store, first, second, 0, m));
+}
+
+fn example(s: Standing, store: &mut [u8], first: &mut [u8], second: &mut [u8]) {
+    let t = opened(
+        s,
+        b"\x04\x11\x00\x07\x00\x18\x00\x0a\x00\x22\x00\x0a\x00\x2c\x00\x03\x00\x02\x01\x00\x01\x01\x00\x01\x02\x01\x01\x00\x00\x01\x00\x01\x00\x00\x02\x01\x01\x00\x00\x00\x00\x01\x00\x00\x07\x03\x00",
+        store,
+        first,
+        second,
+    );
+    let u = steps(t, 7, store, first, second);
+    tables(u, store, first, second);
+    values(u, store, first, second, 1);
+    values(u, store, first, second, 2);
+}
+
+fn main() {
+    let s = Standing {
+        states1: 0,
+        states2: 0,
+        round: 0,
+        row: 0,
+        changed: false,
+        settled: false,
+        second_whole: false,
+    };
+    let mut store = [0u8; 24576];
+    let mut first = [0u8; 4096];
+    let mut second = [0u8; 4096];
+    example(s, &mut store, &mut first, &mut second);
+}
