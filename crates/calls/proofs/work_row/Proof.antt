@@ -31,7 +31,7 @@ same-length c = search needs
 returns : tie.Need-returns
 returns c =
     let a = c .before .before .before .before .before .before .before .before .before .args in
-    row-of-parts (a .t .now) (a .l) (a .row) (a .whole .now) (a .other .now) _ _ (c .before .before .before .before .before .part .ensures) (c .before .before .before .before .part2 .ensures) (c .before .before .row .ensures)
+    row-of-parts (a .t .now) (a .l) (a .row .0) (a .whole .now) (a .other .now) _ _ (c .before .before .before .before .before .part .ensures) (c .before .before .before .before .part2 .ensures) (c .before .before .row .ensures)
 
 pub work-row-spec : {M : Type 1} → statement M
 work-row-spec = tie.close (tie.spec part-requires part-requires-2 row-requires same-length returns)
