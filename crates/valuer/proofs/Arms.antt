@@ -18,7 +18,6 @@ use Rattle.theory.specs.Value.{eval, valueAt, wholeValue}
 use Rattle.operations.specs.Table.{opsIn, meetIn, joinIn}
 use Rattle.operations.specs.declared.Lattice.{Lattice}
 use Rattle.formula.specs.Bytes.{bytesOf}
-use Rattle.valuer.specs.declared.NodeValues.{NodeValues}
 use Rattle.valuer.specs.Values.{Reads, fromInitial, Values, WholeValue}
 use Rattle.valuer.specs.Code.{literal, combine, nextOf, startOf}
 use Rattle.valuer.specs.Node.{Spelled, Here, SlotsHold, slotOf, Answer, Node, Iterated}
@@ -92,12 +91,12 @@ pub record Second (f : List ℕ) (at k next : ℕ) : Type 0 where
   pub stands : Here f next k
 
 module _ {t : List ℕ} {l : Lattice} {m f : List ℕ} {at K : ℕ} {near mid far : List ℕ} where
-  second : {x : NodeValues} {d : ℕ} {g h : Formula} → Parts f at d (getD m 1 0) g h → Node t l m f (at + 1) K near mid far x → Second f at (getD m 1 0) (x .next)
-  second {x} {d} {g} {h} p n =
+  second : {x : List ℕ} {i d : ℕ} {g h : Formula} → Parts f at d (getD m 1 0) g h → Node t l m f (at + 1) K near mid far x i → Second f at (getD m 1 0) i
+  second {d = d} {g} {h} p n =
       let a = n .is d g _ (p .first) (held _ near mid far d) in
       record { further = omega (arith, a .next); stands = subst (λ (i : ℕ). Here f i (getD m 1 0)) (sym (a .next)) (here (p .second)) }
 
-  pub here-second : {x : NodeValues} → (getD f at 0 ≡ 5) ⊎ (getD f at 0 ≡ 6) → Here f at (getD m 1 0) → Node t l m f (at + 1) K near mid far x → Second f at (getD m 1 0) (x .next)
+  pub here-second : {x : List ℕ} {i : ℕ} → (getD f at 0 ≡ 5) ⊎ (getD f at 0 ≡ 6) → Here f at (getD m 1 0) → Node t l m f (at + 1) K near mid far x i → Second f at (getD m 1 0) i
   here-second c y n =
       ⊎-elim
       (λ e. known 5 e _ (λ d p g h s. second (of-or g h s) n) y)
@@ -107,100 +106,100 @@ module _ {t : List ℕ} {l : Lattice} {m f : List ℕ} {at K : ℕ} {near mid fa
 
 module _ {t : List ℕ} {l : Lattice} {m f : List ℕ} {at K : ℕ} {near mid far : List ℕ} where
   -- the answer for each formula with the code that stands here
-  by-one : (r : NodeValues) (c : ℕ) → getD f at 0 ≡ c
-      → ((d : ℕ) (e : ℕ → ℕ → ℕ) (p : ℕ) (g h : Formula) → Spelled f at d (getD m 1 0) (build c p g h) → SlotsHold (getD m 0 0) near mid far d e → Answer t l m f at K (build c p g h) e r)
-      → Node t l m f at K near mid far r
-  by-one r c q w = record { is = λ d φ e s h. by-code s c q (λ ψ. Spelled f at d (getD m 1 0) ψ → SlotsHold (getD m 0 0) near mid far d e → Answer t l m f at K ψ e r) (w d e) s h }
+  by-one : {x : List ℕ} {i : ℕ} (c : ℕ) → getD f at 0 ≡ c
+      → ((d : ℕ) (e : ℕ → ℕ → ℕ) (p : ℕ) (g h : Formula) → Spelled f at d (getD m 1 0) (build c p g h) → SlotsHold (getD m 0 0) near mid far d e → Answer t l m f at K (build c p g h) e x i)
+      → Node t l m f at K near mid far x i
+  by-one {x} {i} c q w = record { is = λ d φ e s h. by-code s c q (λ ψ. Spelled f at d (getD m 1 0) ψ → SlotsHold (getD m 0 0) near mid far d e → Answer t l m f at K ψ e x i) (w d e) s h }
 
-  pub bottom-arm : getD f at 0 ≡ 0 → getD m 0 0 ≤ 64 → Node t l m f at K near mid far (record { values = replicate 64 (l .bottom .0); next = at + 1 })
+  pub bottom-arm : getD f at 0 ≡ 0 → getD m 0 0 ≤ 64 → Node t l m f at K near mid far (replicate 64 (l .bottom .0)) (at + 1)
   unfolding bytesOf eval
-  bottom-arm q b = by-one _ 0 q (λ d e p g h s w. record { next = refl; values = everywhere _ _ _ b (λ i. refl) })
+  bottom-arm q b = by-one 0 q (λ d e p g h s w. record { next = refl; values = everywhere _ _ _ b (λ i. refl) })
 
-  pub top-arm : getD f at 0 ≡ 1 → getD m 0 0 ≤ 64 → Node t l m f at K near mid far (record { values = replicate 64 (l .top .0); next = at + 1 })
+  pub top-arm : getD f at 0 ≡ 1 → getD m 0 0 ≤ 64 → Node t l m f at K near mid far (replicate 64 (l .top .0)) (at + 1)
   unfolding bytesOf eval
-  top-arm q b = by-one _ 1 q (λ d e p g h s w. record { next = refl; values = everywhere _ _ _ b (λ i. refl) })
+  top-arm q b = by-one 1 q (λ d e p g h s w. record { next = refl; values = everywhere _ _ _ b (λ i. refl) })
 
   pub literal-arm : {v : List ℕ} → (getD f at 0 ≡ 2) ⊎ (getD f at 0 ≡ 3)
-      → Filled (λ q. literal t (getD f at 0) (modelOf m .label q (getD f (at + 1) 0))) (getD m 0 0) v → Node t l m f at K near mid far (record { values = v; next = at + 1 + 1 })
+      → Filled (λ q. literal t (getD f at 0) (modelOf m .label q (getD f (at + 1) 0))) (getD m 0 0) v → Node t l m f at K near mid far v (at + 1 + 1)
   unfolding bytesOf eval literal
   literal-arm c u =
       ⊎-elim
-      (λ q. by-one _ 2 q (λ d e p g h s w. record { next = omega arith; values = filled-as u (le-refl _) (λ i b. rw (q, of-prop p s .number)) }))
-      (λ q. by-one _ 3 q (λ d e p g h s w. record { next = omega arith; values = filled-as u (le-refl _) (λ i b. rw (q, of-negated p s .number)) })) c
+      (λ q. by-one 2 q (λ d e p g h s w. record { next = omega arith; values = filled-as u (le-refl _) (λ i b. rw (q, of-prop p s .number)) }))
+      (λ q. by-one 3 q (λ d e p g h s w. record { next = omega arith; values = filled-as u (le-refl _) (λ i b. rw (q, of-negated p s .number)) })) c
 
-  pub variable-arm : {v : List ℕ} → getD f at 0 ≡ 4 → v ≡ slotOf near mid far (getD f (at + 1) 0) → Node t l m f at K near mid far (record { values = v; next = at + 1 + 1 })
+  pub variable-arm : {v : List ℕ} → getD f at 0 ≡ 4 → v ≡ slotOf near mid far (getD f (at + 1) 0) → Node t l m f at K near mid far v (at + 1 + 1)
   unfolding bytesOf eval boundBy
-  variable-arm {v} q u = by-one _ 4 q (λ d e p g h s w. record {
+  variable-arm {v} q u = by-one 4 q (λ d e p g h s w. record {
     next = omega arith;
     values = rw (u, of-var p s .number) (w .at p (ltb-true p d (s .bound)));
   })
 
-  pub pair-arm : {x y : NodeValues} {n : ℕ} {v : List ℕ} → (getD f at 0 ≡ 5) ⊎ (getD f at 0 ≡ 6) → Node t l m f (at + 1) K near mid far x → Node t l m f (x .next) K near mid far y
-      → getD m 0 0 ≤ n → Filled (λ q. combine t (getD f at 0) (getD (x .values) q 0) (getD (y .values) q 0)) n v → Node t l m f at K near mid far (record { values = v; next = y .next })
+  pub pair-arm : {x y v : List ℕ} {i j n : ℕ} → (getD f at 0 ≡ 5) ⊎ (getD f at 0 ≡ 6) → Node t l m f (at + 1) K near mid far x i → Node t l m f i K near mid far y j
+      → getD m 0 0 ≤ n → Filled (λ q. combine t (getD f at 0) (getD x q 0) (getD y q 0)) n v → Node t l m f at K near mid far v j
   unfolding bytesOf eval combine
-  pair-arm {x} {y} c nx ny b u =
+  pair-arm {x} {y} {i = i} {j} c nx ny b u =
       ⊎-elim
-      (λ q. by-one _ 5 q (λ d e p g h s w.
+      (λ q. by-one 5 q (λ d e p g h s w.
       let a = left d e g h (of-or g h s) w in
       let z = right d e g h (of-or g h s) w in
       record {
         next = omega (arith, a .next, z .next, length-append (bytesOf g) (bytesOf h));
-        values = filled-as u b (λ i k. rw q (ap₂ (joinIn t) (a .values .at i k) (z .values .at i k)));
+        values = filled-as u b (λ r k. rw q (ap₂ (joinIn t) (a .values .at r k) (z .values .at r k)));
       }))
-      (λ q. by-one _ 6 q (λ d e p g h s w.
+      (λ q. by-one 6 q (λ d e p g h s w.
       let a = left d e g h (of-and g h s) w in
       let z = right d e g h (of-and g h s) w in
       record {
         next = omega (arith, a .next, z .next, length-append (bytesOf g) (bytesOf h));
-        values = filled-as u b (λ i k. rw q (ap₂ (meetIn t) (a .values .at i k) (z .values .at i k)));
+        values = filled-as u b (λ r k. rw q (ap₂ (meetIn t) (a .values .at r k) (z .values .at r k)));
       })) c
     where
-      left : (d : ℕ) (e : ℕ → ℕ → ℕ) (g h : Formula) → Parts f at d (getD m 1 0) g h → SlotsHold (getD m 0 0) near mid far d e → Answer t l m f (at + 1) K g e x
+      left : (d : ℕ) (e : ℕ → ℕ → ℕ) (g h : Formula) → Parts f at d (getD m 1 0) g h → SlotsHold (getD m 0 0) near mid far d e → Answer t l m f (at + 1) K g e x i
       left d e g h p w = nx .is d g e (p .first) w
 
-      right : (d : ℕ) (e : ℕ → ℕ → ℕ) (g h : Formula) → Parts f at d (getD m 1 0) g h → SlotsHold (getD m 0 0) near mid far d e → Answer t l m f (x .next) K h e y
-      right d e g h p w = ny .is d h e (subst (λ (i : ℕ). Spelled f i d (getD m 1 0) h) (sym (left d e g h p w .next)) (p .second)) w
+      right : (d : ℕ) (e : ℕ → ℕ → ℕ) (g h : Formula) → Parts f at d (getD m 1 0) g h → SlotsHold (getD m 0 0) near mid far d e → Answer t l m f i K h e y j
+      right d e g h p w = ny .is d h e (subst (λ (k : ℕ). Spelled f k d (getD m 1 0) h) (sym (left d e g h p w .next)) (p .second)) w
 
-  pub next-arm : {x : NodeValues} {v : List ℕ} → (getD f at 0 ≡ 7) ⊎ (getD f at 0 ≡ 8) → Node t l m f (at + 1) K near mid far x
-      → Filled (nextOf (opsIn t l) (modelOf m) (getD f at 0) (λ q. getD (x .values) q 0)) (getD m 0 0) v → Node t l m f at K near mid far (record { values = v; next = x .next })
+  pub next-arm : {x v : List ℕ} {i : ℕ} → (getD f at 0 ≡ 7) ⊎ (getD f at 0 ≡ 8) → Node t l m f (at + 1) K near mid far x i
+      → Filled (nextOf (opsIn t l) (modelOf m) (getD f at 0) (λ q. getD x q 0)) (getD m 0 0) v → Node t l m f at K near mid far v i
   unfolding bytesOf eval nextOf
-  next-arm {x} c nx u =
+  next-arm c nx u =
       ⊎-elim
-      (λ q. by-one _ 7 q (λ d e p g h s w.
+      (λ q. by-one 7 q (λ d e p g h s w.
       let a = nx .is d g e (of-AX g s) w in
       record {
         next = omega (arith, a .next);
         values = filled-as u (le-refl _) (λ i k. rw q (allNext-cong (opsIn t l) (modelOf m) _ _ (a .values .at) i));
       }))
-      (λ q. by-one _ 8 q (λ d e p g h s w.
+      (λ q. by-one 8 q (λ d e p g h s w.
       let a = nx .is d g e (of-EX g s) w in
       record {
         next = omega (arith, a .next);
         values = filled-as u (le-refl _) (λ i k. rw q (someNext-cong (opsIn t l) (modelOf m) _ _ (a .values .at) i));
       })) c
 
-  pub fixpoint-arm : {r : NodeValues} → (getD f at 0 ≡ 9) ⊎ (getD f at 0 ≡ 10) → {s₀ : ℕ} → s₀ ≡ startOf l (getD f at 0) → Iterated t l m f (at + 1) K near mid s₀ r → Node t l m f at K near mid far r
+  pub fixpoint-arm : {x : List ℕ} {i s₀ : ℕ} → (getD f at 0 ≡ 9) ⊎ (getD f at 0 ≡ 10) → s₀ ≡ startOf l (getD f at 0) → Iterated t l m f (at + 1) K near mid s₀ x i → Node t l m f at K near mid far x i
   unfolding bytesOf eval startOf
-  fixpoint-arm {r} c {s₀} z n =
+  fixpoint-arm c z n =
       ⊎-elim
-      (λ q. by-one _ 9 q (λ d e p g h s w.
+      (λ q. by-one 9 q (λ d e p g h s w.
       let a = n .is d g e far (of-mu g s) w in
       record { next = omega (arith, a .next); values = rw (z, q) at (a .values) }))
-      (λ q. by-one _ 10 q (λ d e p g h s w.
+      (λ q. by-one 10 q (λ d e p g h s w.
       let a = n .is d g e far (of-nu g s) w in
       record { next = omega (arith, a .next); values = rw (z, q) at (a .values) })) c
 
   -- no formula begins with another code
-  pub no-arm : (r : NodeValues) → 11 ≤ getD f at 0 → Node t l m f at K near mid far r
-  no-arm r b = record { is = λ d φ e s w. absurd (omega (arith, code-small s)) }
+  pub no-arm : {x : List ℕ} {i : ℕ} → 11 ≤ getD f at 0 → Node t l m f at K near mid far x i
+  no-arm b = record { is = λ d φ e s w. absurd (omega (arith, code-small s)) }
 
 -- ---- a whole part
 
 pub here-read : (m f : List ℕ) → Reads m f → Here f 0 (getD m 1 0)
 here-read m f w = here (read-spelled (getD m 1 0) f (w .0) (w .1))
 
-pub part-values : {t : List ℕ} {l : Lattice} {m f : List ℕ} {K : ℕ} {near mid far : List ℕ} {r : NodeValues} → Node t l m f 0 K near mid far r
-    → K ≡ getD m 0 0 * (l .size - 1) → Values t l m f (r .values)
+pub part-values : {t : List ℕ} {l : Lattice} {m f : List ℕ} {K : ℕ} {near mid far x : List ℕ} {i : ℕ} → Node t l m f 0 K near mid far x i
+    → K ≡ getD m 0 0 * (l .size - 1) → Values t l m f x
 unfolding valueAt
 part-values {l = l} {m} {f} n z =
     record { are = λ φ e. rw z at (n .is 0 φ (λ v q. l .bottom .0) (read-spelled (getD m 1 0) f φ e) (record { at = λ v b. absurd (omega arith) }) .values) }

@@ -15,7 +15,6 @@ use Rattle.theory.specs.TestLaws.{all-at}
 use Rattle.theory.specs.Value.{iterate, bind, eval}
 use Rattle.operations.specs.Table.{opsIn}
 use Rattle.operations.specs.declared.Lattice.{Lattice}
-use Rattle.valuer.specs.declared.NodeValues.{NodeValues}
 use Rattle.theory.specs.Fixpoint.{body-cong, iterate-stays}
 use Rattle.valuer.specs.Node.{Spelled, SlotsHold, slotOf, rounds, Answer, Node, Iterated}
 
@@ -45,27 +44,27 @@ module _ {t : List ℕ} {l : Lattice} {m f : List ℕ} {at K : ℕ} {near mid : 
   turned-none z b = rw z (record { are = λ d φ e far s h. record { at = λ q k. getD-replicate 64 q start 0 (omega arith) } })
 
   -- what the body's answer is after r rounds
-  module _ {r : ℕ} {x : List ℕ} {v : NodeValues} (h : Turned t l m f at K near mid start r x) (n : Node t l m f at K x near mid v) where
+  module _ {r i : ℕ} {x v : List ℕ} (h : Turned t l m f at K near mid start r x) (n : Node t l m f at K x near mid v i) where
     answer : (d : ℕ) (φ : Formula) (e : ℕ → ℕ → ℕ) (far : List ℕ) → Spelled f at (suc d) (getD m 1 0) φ → SlotsHold (getD m 0 0) near mid far d e
-        → Answer t l m f at K φ (bind (rounds (opsIn t l) (modelOf m) r K φ e start) e) v
+        → Answer t l m f at K φ (bind (rounds (opsIn t l) (modelOf m) r K φ e start) e) v i
     answer d φ e far s w = n .is (suc d) φ _ s (bound-holds (omega (arith, s .nested)) (h .are d φ e far s w) w)
 
-    pub turned-more : (i : ℕ) → i ≡ suc r → Turned t l m f at K near mid start i (v .values)
+    pub turned-more : (k : ℕ) → k ≡ suc r → Turned t l m f at K near mid start k v
     unfolding iterate
-    turned-more i z = rw z (record { are = λ d φ e far s w. answer d φ e far s w .values })
+    turned-more k z = rw z (record { are = λ d φ e far s w. answer d φ e far s w .values })
 
     -- the last round that is needed
-    pub turned-all : r ≡ K → Iterated t l m f at K near mid start (record { values = x; next = v .next })
+    pub turned-all : r ≡ K → Iterated t l m f at K near mid start x i
     turned-all z = record { is = λ d φ e far s w. record { next = answer d φ e far s w .next; values = rw z at (h .are d φ e far s w) } }
 
     -- a round that changes nothing
-    pub turned-still : r ≤ K → (i : ℕ) → getD m 0 0 ≤ i → allBelow i (λ q. eqb (getD (v .values) q 0) (getD x q 0)) ≡ true → Iterated t l m f at K near mid start v
+    pub turned-still : r ≤ K → (k : ℕ) → getD m 0 0 ≤ k → allBelow k (λ q. eqb (getD v q 0) (getD x q 0)) ≡ true → Iterated t l m f at K near mid start v i
     unfolding iterate
-    turned-still b i y z = record {
+    turned-still b k y z = record {
       is = λ d φ e far s w.
           let a = answer d φ e far s w in
           let u = h .are d φ e far s w in
-          let same : (q : ℕ) → q < getD m 0 0 → getD (v .values) q 0 ≡ getD x q 0 = λ q k. eqb-true _ _ (all-at i _ z q (omega arith)) in
+          let same : (q : ℕ) → q < getD m 0 0 → getD v q 0 ≡ getD x q 0 = λ q c. eqb-true _ _ (all-at k _ z q (omega arith)) in
           record {
             next = a .next;
             values = record {

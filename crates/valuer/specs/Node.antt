@@ -15,7 +15,6 @@ use Rattle.theory.specs.Part.{modelOf}
 use Rattle.operations.specs.Table.{opsIn}
 use Rattle.operations.specs.declared.Lattice.{Lattice}
 use Rattle.formula.specs.Bytes.{bytesOf}
-use Rattle.valuer.specs.declared.NodeValues.{NodeValues}
 
 -- At place `at` of f stands φ, under d binders and over the propositions below k: 'At most 3 binders are nested. Every variable is bound.'
 pub record Spelled (f : List ℕ) (at d k : ℕ) (φ : Formula) : Type 0 where
@@ -44,20 +43,20 @@ abbrev pub rounds : Ops ℕ → Model ℕ → ℕ → ℕ → Formula → (ℕ �
 rounds O M n K φ e start = iterate n (λ x. eval O M K φ (bind x e)) (λ q. start)
 
 module _ (t : List ℕ) (l : Lattice) (m f : List ℕ) where
-  -- the answer r at place `at`: φ's values at all states, each fixpoint being its body applied K times, and the place after φ
-  pub record Answer (at K : ℕ) (φ : Formula) (e : ℕ → ℕ → ℕ) (r : NodeValues) : Type 0 where
-    pub next : r .next ≡ at + length (bytesOf φ)
-    pub values : Filled (eval (opsIn t l) (modelOf m) K φ e) (getD m 0 0) (r .values)
+  -- the answer at place `at`: x is φ's values at all states, each fixpoint being its body applied K times, and i is the place after φ
+  pub record Answer (at K : ℕ) (φ : Formula) (e : ℕ → ℕ → ℕ) (x : List ℕ) (i : ℕ) : Type 0 where
+    pub next : i ≡ at + length (bytesOf φ)
+    pub values : Filled (eval (opsIn t l) (modelOf m) K φ e) (getD m 0 0) x
 
-  -- whatever stands there, r is its answer
-  pub record Node (at K : ℕ) (near mid far : List ℕ) (r : NodeValues) : Type 0 where
-    pub is : (d : ℕ) (φ : Formula) (e : ℕ → ℕ → ℕ) → Spelled f at d (getD m 1 0) φ → SlotsHold (getD m 0 0) near mid far d e → Answer at K φ e r
+  -- whatever stands there, x and i are its answer
+  pub record Node (at K : ℕ) (near mid far x : List ℕ) (i : ℕ) : Type 0 where
+    pub is : (d : ℕ) (φ : Formula) (e : ℕ → ℕ → ℕ) → Spelled f at d (getD m 1 0) φ → SlotsHold (getD m 0 0) near mid far d e → Answer at K φ e x i
 
-  -- the answer r of a fixpoint whose body φ stands at place `at`
-  pub record Fixed (at K : ℕ) (φ : Formula) (e : ℕ → ℕ → ℕ) (start : ℕ) (r : NodeValues) : Type 0 where
-    pub next : r .next ≡ at + length (bytesOf φ)
-    pub values : Filled (rounds (opsIn t l) (modelOf m) K K φ e start) (getD m 0 0) (r .values)
+  -- the answer of a fixpoint whose body φ stands at place `at`
+  pub record Fixed (at K : ℕ) (φ : Formula) (e : ℕ → ℕ → ℕ) (start : ℕ) (x : List ℕ) (i : ℕ) : Type 0 where
+    pub next : i ≡ at + length (bytesOf φ)
+    pub values : Filled (rounds (opsIn t l) (modelOf m) K K φ e start) (getD m 0 0) x
 
-  -- whatever body stands there, r is the fixpoint's answer
-  pub record Iterated (at K : ℕ) (near mid : List ℕ) (start : ℕ) (r : NodeValues) : Type 0 where
-    pub is : (d : ℕ) (φ : Formula) (e : ℕ → ℕ → ℕ) (far : List ℕ) → Spelled f at (suc d) (getD m 1 0) φ → SlotsHold (getD m 0 0) near mid far d e → Fixed at K φ e start r
+  -- whatever body stands there, x and i are the fixpoint's answer
+  pub record Iterated (at K : ℕ) (near mid : List ℕ) (start : ℕ) (x : List ℕ) (i : ℕ) : Type 0 where
+    pub is : (d : ℕ) (φ : Formula) (e : ℕ → ℕ → ℕ) (far : List ℕ) → Spelled f at (suc d) (getD m 1 0) φ → SlotsHold (getD m 0 0) near mid far d e → Fixed at K φ e start x i

@@ -1,6 +1,7 @@
 // The values of formulas at the states of a model: a valuer of nodes and a fixpoint iteration that call each other, over a function for
 // each kind of node. A map from states to elements is an array of 64, of which the first N entries count. t and l are a lattice's tables
-// and numbers (operations), m is a model part (model), f a formula part (formula).
+// and numbers (operations), m is a model part (model), f a formula part (formula). A map is written into the lent array `out`, so that a
+// level of nesting takes little of the stack.
 use model::Proposition;
 use model::State;
 use operations::Element;
@@ -8,7 +9,7 @@ use operations::Lattice;
 ghost use mathlib.Core.Path.{_≡_};
 ghost use Prim.Native.Nat.{_*_, _-_, _≤_, _<_};
 ghost use lib.Dec.{eqb};
-ghost use lib.ListN.{getD};
+ghost use lib.ListN.{getD, replicate};
 ghost use Rattle.theory.specs.Part.{modelOf, ModelShape};
 ghost use Rattle.theory.specs.Value.{allNext, someNext};
 ghost use Rattle.theory.specs.Test.{allBelow};
@@ -27,52 +28,49 @@ fn state(q: usize) -> State
 }
 
 // The values of a proposition at all states.
-fn labels(m: &[u8], p: Proposition) -> [u8; 64]
+fn labels(m: &[u8], p: Proposition, out: &mut [u8; 64])
     requires { ⌜ ModelShape (now m) × (p .0 < getD (now m) 1 0) ⌝ }
-    ensures { λ r. ⌜ Filled (λ q. modelOf (now (m .entry)) .label q (p .0)) (getD (now (m .entry)) 0 0) r ⌝ }
+    ensures { λ _. ⌜ Filled (λ q. modelOf (now (m .entry)) .label q (p .0)) (getD (now (m .entry)) 0 0) (now (out .exit)) ⌝ }
 {
     let n = model::states(m);
-    let mut out = [0u8; 64];
+    *out = [0u8; 64];
     for q in 0..n {
         out[q] = model::label(m, state(q), p).0;
     }
-    out
 }
 
-// The complements of the first n values.
-fn complements(t: &[u8; 12352], n: usize, x: &[u8; 64]) -> [u8; 64]
-    requires { ⌜ n ≤ 64 ⌝ }
-    ensures { λ r. ⌜ Filled (λ q. complementIn (now (t .entry)) (getD (now (x .entry)) q 0)) n r ⌝ }
+// Their complements.
+fn negated(t: &[u8; 12352], m: &[u8], p: Proposition, out: &mut [u8; 64])
+    requires { ⌜ ModelShape (now m) × (p .0 < getD (now m) 1 0) ⌝ }
+    ensures { λ _. ⌜ Filled (λ q. complementIn (now (t .entry)) (modelOf (now (m .entry)) .label q (p .0))) (getD (now (m .entry)) 0 0) (now (out .exit)) ⌝ }
 {
-    let mut out = [0u8; 64];
+    let n = model::states(m);
+    *out = [0u8; 64];
     for q in 0..n {
-        out[q] = operations::complement(t, Element(x[q])).0;
+        out[q] = operations::complement(t, model::label(m, state(q), p)).0;
     }
-    out
 }
 
 // The joins of the first n values, one by one.
-fn joins(t: &[u8; 12352], n: usize, x: &[u8; 64], y: &[u8; 64]) -> [u8; 64]
+fn joins(t: &[u8; 12352], n: usize, x: &[u8; 64], y: &[u8; 64], out: &mut [u8; 64])
     requires { ⌜ n ≤ 64 ⌝ }
-    ensures { λ r. ⌜ Filled (λ q. joinIn (now (t .entry)) (getD (now (x .entry)) q 0) (getD (now (y .entry)) q 0)) n r ⌝ }
+    ensures { λ _. ⌜ Filled (λ q. joinIn (now (t .entry)) (getD (now (x .entry)) q 0) (getD (now (y .entry)) q 0)) n (now (out .exit)) ⌝ }
 {
-    let mut out = [0u8; 64];
+    *out = [0u8; 64];
     for q in 0..n {
         out[q] = operations::join(t, Element(x[q]), Element(y[q])).0;
     }
-    out
 }
 
 // The meets likewise.
-fn meets(t: &[u8; 12352], n: usize, x: &[u8; 64], y: &[u8; 64]) -> [u8; 64]
+fn meets(t: &[u8; 12352], n: usize, x: &[u8; 64], y: &[u8; 64], out: &mut [u8; 64])
     requires { ⌜ n ≤ 64 ⌝ }
-    ensures { λ r. ⌜ Filled (λ q. meetIn (now (t .entry)) (getD (now (x .entry)) q 0) (getD (now (y .entry)) q 0)) n r ⌝ }
+    ensures { λ _. ⌜ Filled (λ q. meetIn (now (t .entry)) (getD (now (x .entry)) q 0) (getD (now (y .entry)) q 0)) n (now (out .exit)) ⌝ }
 {
-    let mut out = [0u8; 64];
+    *out = [0u8; 64];
     for q in 0..n {
         out[q] = operations::meet(t, Element(x[q]), Element(y[q])).0;
     }
-    out
 }
 
 // What a transition of value r to a state with value x gives to AX: r → x.
@@ -118,29 +116,27 @@ fn some_next_at(t: &[u8; 12352], l: Lattice, m: &[u8], x: &[u8; 64], q: State) -
 }
 
 // AX of x at all states.
-fn all_next(t: &[u8; 12352], l: Lattice, m: &[u8], x: &[u8; 64]) -> [u8; 64]
+fn all_next(t: &[u8; 12352], l: Lattice, m: &[u8], x: &[u8; 64], out: &mut [u8; 64])
     requires { ⌜ ModelShape (now m) ⌝ }
-    ensures { λ r. ⌜ Filled (allNext (opsIn (now (t .entry)) l) (modelOf (now (m .entry))) (λ s. getD (now (x .entry)) s 0)) (getD (now (m .entry)) 0 0) r ⌝ }
+    ensures { λ _. ⌜ Filled (allNext (opsIn (now (t .entry)) l) (modelOf (now (m .entry))) (λ s. getD (now (x .entry)) s 0)) (getD (now (m .entry)) 0 0) (now (out .exit)) ⌝ }
 {
     let n = model::states(m);
-    let mut out = [0u8; 64];
+    *out = [0u8; 64];
     for q in 0..n {
         out[q] = all_next_at(t, l, m, x, state(q)).0;
     }
-    out
 }
 
 // EX of x at all states.
-fn some_next(t: &[u8; 12352], l: Lattice, m: &[u8], x: &[u8; 64]) -> [u8; 64]
+fn some_next(t: &[u8; 12352], l: Lattice, m: &[u8], x: &[u8; 64], out: &mut [u8; 64])
     requires { ⌜ ModelShape (now m) ⌝ }
-    ensures { λ r. ⌜ Filled (someNext (opsIn (now (t .entry)) l) (modelOf (now (m .entry))) (λ s. getD (now (x .entry)) s 0)) (getD (now (m .entry)) 0 0) r ⌝ }
+    ensures { λ _. ⌜ Filled (someNext (opsIn (now (t .entry)) l) (modelOf (now (m .entry))) (λ s. getD (now (x .entry)) s 0)) (getD (now (m .entry)) 0 0) (now (out .exit)) ⌝ }
 {
     let n = model::states(m);
-    let mut out = [0u8; 64];
+    *out = [0u8; 64];
     for q in 0..n {
         out[q] = some_next_at(t, l, m, x, state(q)).0;
     }
-    out
 }
 
 // The first n values are the same.
@@ -156,64 +152,77 @@ fn same(n: usize, x: &[u8; 64], y: &[u8; 64]) -> bool
     true
 }
 
-// The values of a formula at all states, and the place after it.
-struct NodeValues {
-    values: [u8; 64],
-    next: usize,
-}
-
-// An answer, put together.
-fn answer(values: [u8; 64], next: usize) -> NodeValues
-    ensures { λ r. ⌜ r ≡ record { values = values; next = next } ⌝ }
+// The same value at all states. This and the next two answer the place after their node, which they are given.
+fn constant(e: Element, next: usize, out: &mut [u8; 64]) -> usize
+    ensures { λ r. ⌜ (r ≡ next) × (now (out .exit) ≡ replicate 64 (e .0)) ⌝ }
 {
-    NodeValues { values, next }
+    *out = [e.0; 64];
+    next
 }
 
 // The map of variable v: the nearest binder's, or one or two binders further out.
-fn variable(near: &[u8; 64], mid: &[u8; 64], far: &[u8; 64], v: u8) -> [u8; 64]
-    ensures { λ r. ⌜ r ≡ slotOf (now (near .entry)) (now (mid .entry)) (now (far .entry)) v ⌝ }
+fn variable(
+    near: &[u8; 64],
+    mid: &[u8; 64],
+    far: &[u8; 64],
+    v: u8,
+    next: usize,
+    out: &mut [u8; 64],
+) -> usize
+    ensures { λ r. ⌜ (r ≡ next) × (now (out .exit) ≡ slotOf (now (near .entry)) (now (mid .entry)) (now (far .entry)) v) ⌝ }
 {
     if v == 0 {
-        return *near;
+        *out = *near;
+        return next;
     }
     if v == 1 {
-        return *mid;
+        *out = *mid;
+        return next;
     }
-    *far
+    *out = *far;
+    next
 }
 
 // A proposition (code 2) or a negated one.
-fn literals(t: &[u8; 12352], m: &[u8], code: u8, p: Proposition) -> [u8; 64]
+fn literals(
+    t: &[u8; 12352],
+    m: &[u8],
+    code: u8,
+    p: Proposition,
+    next: usize,
+    out: &mut [u8; 64],
+) -> usize
     requires { ⌜ ModelShape (now m) × (p .0 < getD (now m) 1 0) ⌝ }
-    ensures { λ r. ⌜ Filled (λ q. literal (now (t .entry)) code (modelOf (now (m .entry)) .label q (p .0))) (getD (now (m .entry)) 0 0) r ⌝ }
+    ensures { λ r. ⌜ (r ≡ next) × Filled (λ q. literal (now (t .entry)) code (modelOf (now (m .entry)) .label q (p .0))) (getD (now (m .entry)) 0 0) (now (out .exit)) ⌝ }
 {
-    let x = labels(m, p);
     if code == 2 {
-        return x;
+        labels(m, p, out);
+        return next;
     }
-    complements(t, model::states(m), &x)
+    negated(t, m, p, out);
+    next
 }
 
 // The join (code 5) or the meet of two maps.
-fn combined(t: &[u8; 12352], n: usize, code: u8, x: &[u8; 64], y: &[u8; 64]) -> [u8; 64]
+fn combined(t: &[u8; 12352], n: usize, code: u8, x: &[u8; 64], y: &[u8; 64], out: &mut [u8; 64])
     requires { ⌜ n ≤ 64 ⌝ }
-    ensures { λ r. ⌜ Filled (λ q. combine (now (t .entry)) code (getD (now (x .entry)) q 0) (getD (now (y .entry)) q 0)) n r ⌝ }
+    ensures { λ _. ⌜ Filled (λ q. combine (now (t .entry)) code (getD (now (x .entry)) q 0) (getD (now (y .entry)) q 0)) n (now (out .exit)) ⌝ }
 {
     if code == 5 {
-        return joins(t, n, x, y);
+        return joins(t, n, x, y, out);
     }
-    meets(t, n, x, y)
+    meets(t, n, x, y, out)
 }
 
 // AX (code 7) or EX of a map.
-fn next_values(t: &[u8; 12352], l: Lattice, m: &[u8], code: u8, x: &[u8; 64]) -> [u8; 64]
+fn next_values(t: &[u8; 12352], l: Lattice, m: &[u8], code: u8, x: &[u8; 64], out: &mut [u8; 64])
     requires { ⌜ ModelShape (now m) ⌝ }
-    ensures { λ r. ⌜ Filled (nextOf (opsIn (now (t .entry)) l) (modelOf (now (m .entry))) code (λ s. getD (now (x .entry)) s 0)) (getD (now (m .entry)) 0 0) r ⌝ }
+    ensures { λ _. ⌜ Filled (nextOf (opsIn (now (t .entry)) l) (modelOf (now (m .entry))) code (λ s. getD (now (x .entry)) s 0)) (getD (now (m .entry)) 0 0) (now (out .exit)) ⌝ }
 {
     if code == 7 {
-        return all_next(t, l, m, x);
+        return all_next(t, l, m, x, out);
     }
-    some_next(t, l, m, x)
+    some_next(t, l, m, x, out)
 }
 
 // Where a fixpoint starts: the least one (code 9) from bottom, the greatest from top.
@@ -227,7 +236,7 @@ fn start_of(l: Lattice, code: u8) -> Element
 }
 
 // The formula at place `at`, where near, mid and far are the maps of the variables, the nearest binder's first, and limit is the most
-// rounds that a fixpoint takes.
+// rounds that a fixpoint takes. Its values are written into out; the answer is the place after it.
 fn value_node(
     t: &[u8; 12352],
     l: Lattice,
@@ -238,31 +247,33 @@ fn value_node(
     near: &[u8; 64],
     mid: &[u8; 64],
     far: &[u8; 64],
-) -> NodeValues
+    out: &mut [u8; 64],
+) -> usize
     requires { ⌜ ModelShape (now m) × Here (now f) at (getD (now m) 1 0) ⌝ }
-    ensures { λ r. ⌜ Node (now (t .entry)) l (now (m .entry)) (now (f .entry)) at limit (now (near .entry)) (now (mid .entry)) (now (far .entry)) r ⌝ }
+    ensures { λ r. ⌜ Node (now (t .entry)) l (now (m .entry)) (now (f .entry)) at limit (now (near .entry)) (now (mid .entry)) (now (far .entry)) (now (out .exit)) r ⌝ }
 {
     let code = f[at];
     let here = at + 1;
+    let mut x = [0u8; 64];
     match code {
-        0 => answer([l.bottom.0; 64], here),
-        1 => answer([l.top.0; 64], here),
-        2 | 3 => answer(literals(t, m, code, Proposition(f[here])), here + 1),
-        4 => answer(variable(near, mid, far, f[here]), here + 1),
+        0 => constant(l.bottom, here, out),
+        1 => constant(l.top, here, out),
+        2 | 3 => literals(t, m, code, Proposition(f[here]), here + 1, out),
+        4 => variable(near, mid, far, f[here], here + 1, out),
         5 | 6 => {
-            let first = value_node(t, l, m, f, here, limit, near, mid, far);
-            let x = first.values;
-            let second = value_node(t, l, m, f, first.next, limit, near, mid, far);
-            let y = second.values;
-            answer(combined(t, model::states(m), code, &x, &y), second.next)
+            let mut y = [0u8; 64];
+            let second = value_node(t, l, m, f, here, limit, near, mid, far, &mut x);
+            let next = value_node(t, l, m, f, second, limit, near, mid, far, &mut y);
+            combined(t, model::states(m), code, &x, &y, out);
+            next
         }
         7 | 8 => {
-            let inner = value_node(t, l, m, f, here, limit, near, mid, far);
-            let x = inner.values;
-            answer(next_values(t, l, m, code, &x), inner.next)
+            let next = value_node(t, l, m, f, here, limit, near, mid, far, &mut x);
+            next_values(t, l, m, code, &x, out);
+            next
         }
-        9 | 10 => iterate(t, l, m, f, here, limit, near, mid, start_of(l, code)),
-        11..=255 => answer([0u8; 64], here),
+        9 | 10 => iterate(t, l, m, f, here, limit, near, mid, start_of(l, code), out),
+        11..=255 => here,
     }
 }
 
@@ -277,23 +288,24 @@ fn iterate(
     near: &[u8; 64],
     mid: &[u8; 64],
     start: Element,
-) -> NodeValues
+    out: &mut [u8; 64],
+) -> usize
     requires { ⌜ ModelShape (now m) × Here (now f) body (getD (now m) 1 0) ⌝ }
-    ensures { λ r. ⌜ Iterated (now (t .entry)) l (now (m .entry)) (now (f .entry)) body limit (now (near .entry)) (now (mid .entry)) (start .0) r ⌝ }
+    ensures { λ r. ⌜ Iterated (now (t .entry)) l (now (m .entry)) (now (f .entry)) body limit (now (near .entry)) (now (mid .entry)) (start .0) (now (out .exit)) r ⌝ }
 {
     let n = model::states(m);
     let mut current = [start.0; 64];
     let mut left = limit;
     loop {
-        let round = value_node(t, l, m, f, body, limit, &current, near, mid);
-        let x = round.values;
+        let next = value_node(t, l, m, f, body, limit, &current, near, mid, out);
         if left == 0 {
-            return answer(current, round.next);
+            *out = current;
+            return next;
         }
-        if same(n, &x, &current) {
-            return round;
+        if same(n, out, &current) {
+            return next;
         }
-        current = x;
+        current = *out;
         left -= 1;
     }
 }
@@ -317,8 +329,10 @@ pub fn values(t: &[u8; 12352], l: Lattice, m: &[u8], f: &[u8]) -> [u8; 64]
     ensures { λ r. ⌜ Values (now (t .entry)) l (now (m .entry)) (now (f .entry)) r ⌝ }
 {
     let none = [0u8; 64];
-    let r = value_node(t, l, m, f, 0, round_limit(l, m), &none, &none, &none);
-    r.values
+    let mut out = [0u8; 64];
+    let limit = round_limit(l, m);
+    let _ = value_node(t, l, m, f, 0, limit, &none, &none, &none, &mut out);
+    out
 }
 
 // The value at one state.

@@ -12,14 +12,14 @@ joins-requires c κs = search needs
 
 returns : tie.Need-returns
 unfolding combine
-returns c = filled-as (c .joins .ensures) (le-refl _) (λ i b. rw (c .before .if1 .taken))
+returns c = filled-as (c .joins .ensures) (le-refl _) (λ i b. rw (c .before .before .if1 .taken))
 
 meets-requires : tie.Need-meets-requires
 meets-requires c κs = search needs
 
 returns-2 : tie.Need-returns-2
 unfolding combine
-returns-2 c = filled-as (c .meets .ensures) (le-refl _) (λ i b. rw (ne-eqb _ _ (c .before .if1 .left)))
+returns-2 c = filled-as (c .meets .ensures) (le-refl _) (λ i b. rw (ne-eqb _ _ (c .before .before .if1 .left)))
 
 pub combined-spec : {M : Type 1} → statement M
 combined-spec = tie.close (tie.spec joins-requires returns meets-requires returns-2)

@@ -29,8 +29,8 @@ element-copy-out-t15 c = omega arith
 join-requires : tie.Need-join-requires Inv-loop μ-loop
 join-requires c κs = search needs
 
-array-write-out : tie.Need-array-write-out Inv-loop μ-loop
-array-write-out c = search needs
+element-write-out : tie.Need-element-write-out Inv-loop μ-loop
+element-write-out c = search needs
 
 add-q : tie.Need-add-q Inv-loop μ-loop
 add-q c = omega arith
@@ -56,7 +56,7 @@ joins-spec =
     element-copy-out-t11
     element-copy-out-t15
     join-requires
-    array-write-out
+    element-write-out
     add-q
     loop-less
     loop-again

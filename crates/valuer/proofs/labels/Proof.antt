@@ -12,10 +12,10 @@ use Rattle.valuer.proofs.labels.Statement.{statement}
 use Rattle.valuer.proofs.labels.Tie as tie
 
 abbrev Inv-loop : tie.InvT-loop
-Inv-loop m p n out₀ q₀ out q = (q ≤ n) × (length out ≡ 64) × Filled (λ s. modelOf m .label s (p .0)) q out
+Inv-loop m p out₀ n q₀ out q = (q ≤ n) × (length out ≡ 64) × Filled (λ s. modelOf m .label s (p .0)) q out
 
 abbrev μ-loop : tie.MeasureT-loop
-μ-loop m p n out₀ q₀ out q = n - q
+μ-loop m p out₀ n q₀ out q = n - q
 
 states-requires : tie.Need-states-requires Inv-loop μ-loop
 states-requires c κs = search needs
@@ -27,10 +27,10 @@ state-requires : tie.Need-state-requires Inv-loop μ-loop
 state-requires c κs = omega arith
 
 label-requires : tie.Need-label-requires Inv-loop μ-loop
-label-requires c κs = (c .before .before .before .before .before .pre .0, omega arith, c .before .before .before .before .before .pre .1)
+label-requires c κs = (c .before .before .before .before .before .before .pre .0, omega arith, c .before .before .before .before .before .before .pre .1)
 
-array-write-out : tie.Need-array-write-out Inv-loop μ-loop
-array-write-out c = omega arith
+element-write-out : tie.Need-element-write-out Inv-loop μ-loop
+element-write-out c = omega arith
 
 add-q : tie.Need-add-q Inv-loop μ-loop
 add-q c = omega arith
@@ -56,7 +56,7 @@ labels-spec =
     loop-holds
     state-requires
     label-requires
-    array-write-out
+    element-write-out
     add-q
     loop-less
     loop-again

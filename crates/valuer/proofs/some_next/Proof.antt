@@ -14,10 +14,10 @@ use Rattle.valuer.proofs.some_next.Statement.{statement}
 use Rattle.valuer.proofs.some_next.Tie as tie
 
 abbrev Inv-loop : tie.InvT-loop
-Inv-loop t l m x n out₀ q₀ out q = (q ≤ n) × (length out ≡ 64) × Filled (someNext (opsIn t l) (modelOf m) (λ s. getD x s 0)) q out
+Inv-loop t l m x out₀ n q₀ out q = (q ≤ n) × (length out ≡ 64) × Filled (someNext (opsIn t l) (modelOf m) (λ s. getD x s 0)) q out
 
 abbrev μ-loop : tie.MeasureT-loop
-μ-loop t l m x n out₀ q₀ out q = n - q
+μ-loop t l m x out₀ n q₀ out q = n - q
 
 states-requires : tie.Need-states-requires Inv-loop μ-loop
 states-requires c κs = search needs
@@ -29,10 +29,10 @@ state-requires : tie.Need-state-requires Inv-loop μ-loop
 state-requires c κs = omega arith
 
 some-next-at-requires : tie.Need-some-next-at-requires Inv-loop μ-loop
-some-next-at-requires c κs = (c .before .before .before .before .before .pre, omega arith)
+some-next-at-requires c κs = (c .before .before .before .before .before .before .pre, omega arith)
 
-array-write-out : tie.Need-array-write-out Inv-loop μ-loop
-array-write-out c = omega arith
+element-write-out : tie.Need-element-write-out Inv-loop μ-loop
+element-write-out c = omega arith
 
 add-q : tie.Need-add-q Inv-loop μ-loop
 add-q c = omega arith
@@ -58,7 +58,7 @@ some-next-spec =
     loop-holds
     state-requires
     some-next-at-requires
-    array-write-out
+    element-write-out
     add-q
     loop-less
     loop-again
