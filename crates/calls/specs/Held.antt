@@ -13,7 +13,7 @@ use Rattle.theory.specs.TestLaws.{all-cong}
 use Rattle.refusal.specs.declared.Refusal.{Refusal}
 use Rattle.refusal.specs.declared.Refusal.the-variants.{ShortDesk, SpoiledDesk, OutOfRange}
 use Rattle.casefile.specs.declared.Sizes.{Sizes}
-use Rattle.casefile.specs.Reading.{Content, CaseReading, refused, content, storeReading}
+use Rattle.casefile.specs.Reading.{CaseReading, refused, content, storeReading}
 use Rattle.casefile.specs.Answer.{sizesOf}
 use Rattle.casefile.specs.Accepted.{refused-content}
 use Rattle.casefile.specs.Caller.{AcceptedCase, accepted-as}

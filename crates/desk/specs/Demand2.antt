@@ -1,6 +1,6 @@
 -- Demand 2, of the desk after every list of calls with an accepted opening in it: the settled table is the greatest latticed simulation, and
 -- values are those of the latticed mu-calculus. Rests on Run, and for the proof on Demand3, Listed, RefusedLaws, theory's Rounds and Fixpoint.
-use Prim.Native.Nat.{ℕ, _<_}
+use Prim.Native.Nat.{ℕ}
 use mathlib.Core.Path.{_≡_, refl, sym, ap, _∙_}
 use mathlib.Core.Bool.{Bool, true, false, cond, _&&_}
 use mathlib.Core.List.{List}

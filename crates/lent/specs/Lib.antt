@@ -1,2 +1,2 @@
 -- What the reading calls say of a standing that is lent.
-pub mod Reads
+pub mod Asked

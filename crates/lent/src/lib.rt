@@ -10,7 +10,7 @@ use operations::Element;
 ghost use Rattle.desk.specs.Desk.{Call, Question, Reply};
 ghost use Rattle.calls.specs.Read.{deskOf};
 ghost use Rattle.calls.specs.Answer.{Does, stepReply, openReply, elementReply, shareReply, judgeReply};
-ghost use Rattle.lent.specs.Reads.{Reads};
+ghost use Rattle.lent.specs.Asked.{AsksOnly};
 
 // ---- the calls that move the standing on
 
@@ -42,14 +42,14 @@ pub fn step(s: &mut Standing, store: &[u8], first: &mut [u8], second: &mut [u8])
 
 // The first N1·N2 bytes of the whole table; an empty part where the desk is refused.
 pub fn show<'a>(s: &mut Standing, store: &[u8], first: &'a [u8], second: &'a [u8]) -> &'a [u8]
-    ensures { λ r. ⌜ Reads Question.Show (now (s .entry)) (now (store .entry)) (now (first .entry)) (now (second .entry)) (Reply.Shown (now r)) (now (s .exit)) ⌝ }
+    ensures { λ r. ⌜ AsksOnly Question.Show (now (s .entry)) (now (store .entry)) (now (first .entry)) (now (second .entry)) (Reply.Shown (now r)) (now (s .exit)) ⌝ }
 {
     calls::show(*s, store, first, second)
 }
 
 // The score of the shown table.
 pub fn score<'a>(s: &mut Standing, store: &[u8], first: &'a [u8], second: &'a [u8]) -> ElementAnswer
-    ensures { λ r. ⌜ Reads Question.Score (now (s .entry)) (now (store .entry)) (now (first .entry)) (now (second .entry)) (elementReply r) (now (s .exit)) ⌝ }
+    ensures { λ r. ⌜ AsksOnly Question.Score (now (s .entry)) (now (store .entry)) (now (first .entry)) (now (second .entry)) (elementReply r) (now (s .exit)) ⌝ }
 {
     calls::score(*s, store, first, second)
 }
@@ -62,7 +62,7 @@ pub fn share<'a>(
     second: &'a [u8],
     e: Element,
 ) -> ShareAnswer
-    ensures { λ r. ⌜ Reads (Question.Share (e .0)) (now (s .entry)) (now (store .entry)) (now (first .entry)) (now (second .entry)) (shareReply r) (now (s .exit)) ⌝ }
+    ensures { λ r. ⌜ AsksOnly (Question.Share (e .0)) (now (s .entry)) (now (store .entry)) (now (first .entry)) (now (second .entry)) (shareReply r) (now (s .exit)) ⌝ }
 {
     calls::share(*s, store, first, second, e)
 }
@@ -75,7 +75,7 @@ pub fn judge(
     second: &[u8],
     table: &[u8],
 ) -> JudgeAnswer
-    ensures { λ r. ⌜ Reads (Question.Judge (now (table .entry))) (now (s .entry)) (now (store .entry)) (now (first .entry)) (now (second .entry)) (judgeReply r) (now (s .exit)) ⌝ }
+    ensures { λ r. ⌜ AsksOnly (Question.Judge (now (table .entry))) (now (s .entry)) (now (store .entry)) (now (first .entry)) (now (second .entry)) (judgeReply r) (now (s .exit)) ⌝ }
 {
     calls::judge(*s, store, first, second, table)
 }
@@ -89,7 +89,7 @@ pub fn whole(
     f: u8,
     m: u8,
 ) -> ElementAnswer
-    ensures { λ r. ⌜ Reads (Question.Whole f m) (now (s .entry)) (now (store .entry)) (now (first .entry)) (now (second .entry)) (elementReply r) (now (s .exit)) ⌝ }
+    ensures { λ r. ⌜ AsksOnly (Question.Whole f m) (now (s .entry)) (now (store .entry)) (now (first .entry)) (now (second .entry)) (elementReply r) (now (s .exit)) ⌝ }
 {
     calls::whole(*s, store, first, second, f, m)
 }
@@ -104,7 +104,7 @@ pub fn value(
     m: u8,
     q: State,
 ) -> ElementAnswer
-    ensures { λ r. ⌜ Reads (Question.Value f m (q .0)) (now (s .entry)) (now (store .entry)) (now (first .entry)) (now (second .entry)) (elementReply r) (now (s .exit)) ⌝ }
+    ensures { λ r. ⌜ AsksOnly (Question.Value f m (q .0)) (now (s .entry)) (now (store .entry)) (now (first .entry)) (now (second .entry)) (elementReply r) (now (s .exit)) ⌝ }
 {
     calls::value(*s, store, first, second, f, m, q)
 }

@@ -9,7 +9,7 @@ use base.Logic.{SProp, ent, sep, emp, via, emp∗, comm∗}
 use base.Fml.{fsep, fat}
 use prog.Wp.{Heap}
 use ghost.Atoms.{Atoms, sem}
-use types.Kit.{Given, Item, ‵, given, mean, Step, step, prop, _$_, _∵_, !, qed, move, use1, learn, fsplit, fjoin, fpick, fpack, check, done}
+use types.Kit.{Given, Item, ‵, given, mean, Step, step, prop, _$_, _∵_, !, qed, move, use1, fsplit, fjoin, fpick, fpack, check, done}
 use denote.RattleType.{RattleType}
 use denote.Memory.{mem, cellAt, partOf}
 use denote.Laws.{Is, shows}

@@ -1,6 +1,6 @@
--- `lent_examples::share` meets its contract, which asks and says nothing: a walk of its MIR. The standing is lent to `lent::share` for a lifetime that is made for the call, and is taken back.
--- All that the proof knows of `lent::share` is that it meets its contract. Assumes nothing.
-use mathlib.Core.Path.{_≡_, refl, ap}
+-- `lent_examples::share` meets its contract, which asks and says nothing: a walk of its MIR. The standing is lent to `lent::share` for a lifetime that
+-- is made for the call, and is taken back. All that the proof knows of `lent::share` is that it meets its contract. Assumes nothing.
+use mathlib.Core.Path.{refl}
 use mathlib.Core.List.{[], _∷_, List}
 use Prim.Native.Nat.{ℕ}
 use lib.Dec.{T as Holds}
@@ -15,13 +15,12 @@ use prog.Memory.{Memory}
 use prog.Routine.{Routine}
 use prog.Wp.{Heap, Calls, Loops, WpFn, Tables}
 use ghost.Atoms.{Atoms}
-use contract.Monad.{Fun, fact}
+use contract.Monad.{Fun}
 use contract.Lifetimes.{Lfts, Shares}
 use contract.Running.{givenOf, tables, tablesOf}
-use types.Kit.{Given, Item, ‵, raw, some, later, given, learn, _⊛_, ⋆, mean, _$_, _∵_, !, qed, by, move, keep, drop, use1, use2, use3, split, join, pick, rewrite, fsplit, fjoin, feqL, suffices, frame, await, done}
+use types.Kit.{Given, Item, ‵, raw, some, later, given, learn, _⊛_, ⋆, _$_, _∵_, !, qed, by, move, keep, drop, use1, use2, use3, split, join, pick, fsplit, fjoin, suffices, frame, await, done}
 use types.Tokens.{lft-new, lft-end}
-use types.Run.{look, init, forget, stop, hop, fld, from, load, addr, of-opd, and-then, no-more, assigns, land, returns, enter, alloc1, alloc0, params1, pass1, pass0, free1, free0}
-use types.Part.{agg, whole, sub, look-in}
+use types.Run.{look, init, forget, stop, from, load, addr, of-opd, and-then, no-more, assigns, land, returns, enter, alloc1, alloc0, params1, pass1, pass0, free1, free0}
 use types.SemTy.{Body}
 use sound.WpLaws.{FmC, fmOf, WpFn-mono}
 use denote.RattleType.{RattleType, owns}
@@ -29,7 +28,7 @@ use denote.Memory.{mem}
 use denote.Laws.{Is, shows}
 use denote.Builtin.{u8}
 use denote.Ref.{RefT, MutRef}
-use denote.Slice.{sliceVal, ShrSlice, MutSlice, Room, finally, slice-vals, shr-slice-tells, mut-slice-tells, shr-slice-lawful, shr-slice-copy}
+use denote.Slice.{sliceVal, ShrSlice, slice-vals, shr-slice-tells, shr-slice-lawful, shr-slice-copy}
 use denote.Lend.{lends-ref, ref-back}
 use denote.Steps.{only, owned, peeks, nothing}
 use denote.Struct.Laws as LL
@@ -40,7 +39,7 @@ use denote.Triple.Statement.{Contract, Triple}
 use denote.Triple.Call.{calls-at}
 use denote.Triple.Clauses.{ensured, lasts, atExit}
 use denote.Triple.Table.{entered, cited}
-use denote.Triple.Walked.{Stays, stay-none, stay-none-slice, gave-slice, walkOf, goes-none, goes-none-slice, goes-gave-slice, Walks, ends-at, walked, walk-meets}
+use denote.Triple.Walked.{Stays, stay-none, stay-none-slice, walkOf, goes-none, goes-none-slice, Walks, ends-at, walked, walk-meets}
 use denote.Exit.{yes}
 use denote.Signature.{Slot, plain}
 use Rattle.calls.specs.declared.Standing.{Standing}
@@ -149,19 +148,47 @@ module _ {M : Type 1} (𝓤 : URA M) (H : Heap 𝓤) (A : Atoms 𝓤) (W : Given
     walk : Is (ShrSlice (named 0) κ0 u8) x1 (v1 ∷ []) → Is (ShrSlice (named 1) κ1 u8) x2 (v2 ∷ []) → Is (ShrSlice (named 1) κ1 u8) x3 (v3 ∷ []) → ent 𝓤 (onEntry 𝓤 H A here.signature κs qs a vals) (WpFn 𝓤 H C Λ code.function flats Post)
     walk is1 is2 is3 =
         qed W (Toks ∷ ‵ (owns (St ∷ ShrSlice (named 0) κ0 u8 ∷ ShrSlice (named 1) κ1 u8 ∷ ShrSlice (named 1) κ1 u8 ∷ Element-type.the-row ∷ []) a vals) ∷ []) ∵ enter ! C Λ code.function flats _ $
-        alloc1 ! (λ l0. alloc1 ! (λ l1. alloc1 ! (λ l2. alloc1 ! (λ l3. alloc1 ! (λ l4. alloc1 ! (λ l5. alloc1 ! (λ l6. alloc1 ! (λ l7. alloc0 ! $ params1 ! $ pass1 ! (init ! 12 refl (typed x0 f0)) $ pass1 ! (init ! 10 refl (shr-slice-lawful 𝓤 H A W (named 0) κ0 u8 .typed x1 _ is1 .0)) $ pass1 ! (init ! 8 refl (shr-slice-lawful 𝓤 H A W (named 1) κ1 u8 .typed x2 _ is2 .0)) $ pass1 ! (init ! 6 refl (shr-slice-lawful 𝓤 H A W (named 1) κ1 u8 .typed x3 _ is3 .0)) $ pass1 ! (init ! 4 refl (LL.lawful Element-type.the-type Element-laws.the-laws 𝓤 H A W .typed x4 _ f4 .0)) $ pass0 ! $
-        move ! (17 ∷ []) $ fsplit ! $ move ! (1 ∷ []) $ fsplit ! $ move ! (1 ∷ []) $ fsplit ! $ move ! (1 ∷ []) $ fsplit ! $ move ! (1 ∷ []) $ fsplit ! $ move ! (1 ∷ []) $ drop ! $ move ! (21 ∷ []) $ split ! $ move ! (1 ∷ []) $ split ! $ move ! (1 ∷ []) $ drop ! $ move ! (6 ∷ []) $ drop ! $
+        alloc1 ! (λ l0. alloc1 ! (λ l1. alloc1 ! (λ l2. alloc1 ! (λ l3. alloc1 ! (λ l4. alloc1 ! (λ l5. alloc1 ! (λ l6. alloc1 ! (λ l7. alloc0 ! $ params1 ! $
+        pass1 ! (init ! 12 refl (typed x0 f0)) $ pass1 ! (init ! 10 refl (shr-slice-lawful 𝓤 H A W (named 0) κ0 u8 .typed x1 _ is1 .0)) $
+        pass1 ! (init ! 8 refl (shr-slice-lawful 𝓤 H A W (named 1) κ1 u8 .typed x2 _ is2 .0)) $
+        pass1 ! (init ! 6 refl (shr-slice-lawful 𝓤 H A W (named 1) κ1 u8 .typed x3 _ is3 .0)) $
+        pass1 ! (init ! 4 refl (LL.lawful Element-type.the-type Element-laws.the-laws 𝓤 H A W .typed x4 _ f4 .0)) $ pass0 ! $
+        move ! (17 ∷ []) $ fsplit ! $ move ! (1 ∷ []) $ fsplit ! $ move ! (1 ∷ []) $ fsplit ! $ move ! (1 ∷ []) $ fsplit ! $ move ! (1 ∷ []) $ fsplit ! $
+        move ! (1 ∷ []) $ drop ! $ move ! (21 ∷ []) $ split ! $ move ! (1 ∷ []) $ split ! $ move ! (1 ∷ []) $ drop ! $ move ! (6 ∷ []) $ drop ! $
         assigns ! (of-opd ! (load ! (from ! (stop !)) (look ! 18 refl))) (from ! (stop !)) (init ! 8 refl (typed x0 f0)) $
         assigns ! (addr ! (from ! (stop !))) (from ! (stop !)) (init ! 6 refl (tt, tt)) $
         -- the standing is lent for a lifetime that is made for the call
-        lft-new ! tt (λ α. move ! (9 ∷ []) $ use1 W (‵ (mem St .lies x0 l6 0)) (lies 𝓤 H A W x0 l6 f0) $ use1 W (later (some (λ (γ : GName). ‵ (MutRef (named 0) (α ∷ []) St .own (at l6 γ) (vptr l6 0 ∷ [])) ⊛ ‵ (flent (α ∷ []) (Body (mem St) l6 0 γ))))) (lends-ref 𝓤 H A W St (named 0) (α ∷ []) x0 l6 0) $ await ! tt $ pick ! (λ γ. split ! $
-        move ! (8 ∷ []) $ use1 W (‵ (ShrSlice (named 0) κ0 u8 .own x1 (v1 ∷ [])) ⊛ ‵ (ShrSlice (named 0) κ0 u8 .own x1 (v1 ∷ []))) (shr-slice-copy 𝓤 H A W (named 0) κ0 u8 .twice x1 (v1 ∷ [])) $ split ! $ move ! (9 ∷ []) $ use1 W (‵ (ShrSlice (named 1) κ1 u8 .own x2 (v2 ∷ [])) ⊛ ‵ (ShrSlice (named 1) κ1 u8 .own x2 (v2 ∷ []))) (shr-slice-copy 𝓤 H A W (named 1) κ1 u8 .twice x2 (v2 ∷ [])) $ split ! $ move ! (10 ∷ []) $ use1 W (‵ (ShrSlice (named 1) κ1 u8 .own x3 (v3 ∷ [])) ⊛ ‵ (ShrSlice (named 1) κ1 u8 .own x3 (v3 ∷ []))) (shr-slice-copy 𝓤 H A W (named 1) κ1 u8 .twice x3 (v3 ∷ [])) $ split ! $ move ! (11 ∷ []) $ drop ! $ nothing ! $ owned ! Element-type.the-row (Is Element-type.the-row) (LL.makes Element-type.the-type Element-laws.the-plain 𝓤 H A) x4 _ f4 $ fjoin ! $ move ! (1 ∷ 0 ∷ []) $ fjoin ! $ move ! (2 ∷ 0 ∷ []) $ fjoin ! $ move ! (3 ∷ 0 ∷ []) $ fjoin ! $ move ! (4 ∷ 0 ∷ []) $ fjoin ! $ nothing ! $ move ! (7 ∷ 0 ∷ []) $ join ! $ move ! (7 ∷ 0 ∷ []) $ join ! $ move ! (6 ∷ 0 ∷ []) $ join ! $ use2 W (raw (Core 𝓤 H A at-mem run .pre (to l6 α γ))) (asked l6 α γ) $
+        lft-new ! tt (λ α. move ! (9 ∷ []) $ use1 W (‵ (mem St .lies x0 l6 0)) (lies 𝓤 H A W x0 l6 f0) $
+        use1 W (later (some (λ (γ : GName). ‵ (MutRef (named 0) (α ∷ []) St .own (at l6 γ) (vptr l6 0 ∷ [])) ⊛ ‵ (flent (α ∷ []) (Body (mem St) l6 0 γ))))) (lends-ref 𝓤 H A W St (named 0) (α ∷ []) x0 l6 0) $
+        await ! tt $ pick ! (λ γ. split ! $
+        move ! (8 ∷ []) $
+        use1 W (‵ (ShrSlice (named 0) κ0 u8 .own x1 (v1 ∷ [])) ⊛ ‵ (ShrSlice (named 0) κ0 u8 .own x1 (v1 ∷ []))) (shr-slice-copy 𝓤 H A W (named 0) κ0 u8 .twice x1 (v1 ∷ [])) $
+        split ! $ move ! (9 ∷ []) $
+        use1 W (‵ (ShrSlice (named 1) κ1 u8 .own x2 (v2 ∷ [])) ⊛ ‵ (ShrSlice (named 1) κ1 u8 .own x2 (v2 ∷ []))) (shr-slice-copy 𝓤 H A W (named 1) κ1 u8 .twice x2 (v2 ∷ [])) $
+        split ! $ move ! (10 ∷ []) $
+        use1 W (‵ (ShrSlice (named 1) κ1 u8 .own x3 (v3 ∷ [])) ⊛ ‵ (ShrSlice (named 1) κ1 u8 .own x3 (v3 ∷ []))) (shr-slice-copy 𝓤 H A W (named 1) κ1 u8 .twice x3 (v3 ∷ [])) $
+        split ! $ move ! (11 ∷ []) $ drop ! $ nothing ! $
+        owned ! Element-type.the-row (Is Element-type.the-row) (LL.makes Element-type.the-type Element-laws.the-plain 𝓤 H A) x4 _ f4 $ fjoin ! $
+        move ! (1 ∷ 0 ∷ []) $ fjoin ! $ move ! (2 ∷ 0 ∷ []) $ fjoin ! $ move ! (3 ∷ 0 ∷ []) $ fjoin ! $ move ! (4 ∷ 0 ∷ []) $ fjoin ! $ nothing ! $
+        move ! (7 ∷ 0 ∷ []) $ join ! $ move ! (7 ∷ 0 ∷ []) $ join ! $ move ! (6 ∷ 0 ∷ []) $ join ! $
+        use2 W (raw (Core 𝓤 H A at-mem run .pre (to l6 α γ))) (asked l6 α γ) $
         calls-at ! fm (Core 𝓤 H A at-mem run) known (to l6 α γ) (and-then ! (load ! (from ! (stop !)) (look ! 5 refl)) (and-then ! (load ! (from ! (stop !)) (look ! 14 refl)) (and-then ! (load ! (from ! (stop !)) (look ! 12 refl)) (and-then ! (load ! (from ! (stop !)) (look ! 10 refl)) (and-then ! (load ! (from ! (stop !)) (look ! 8 refl)) (no-more !)))))) (λ w.
-        use1 W (later (some (λ (r : ShareAnswer). (CoreToks α ⊛ ‵ (Res .own r (w ∷ []))) ⊛ raw (ensured 𝓤 H A core.ended (core.clauses 𝓤 H A at-mem run) (κs′ α) (given′ l6 α γ) tt r)))) (id⊢ 𝓤 _) $ await ! tt $ pick ! (λ r.
+        use1 W (later (some (λ (r : ShareAnswer). (CoreToks α ⊛ ‵ (Res .own r (w ∷ []))) ⊛ raw (ensured 𝓤 H A core.ended (core.clauses 𝓤 H A at-mem run) (κs′ α) (given′ l6 α γ) tt r)))) (id⊢ 𝓤 _) $
+        await ! tt $ pick ! (λ r.
         -- the lifetime is ended, and the standing is taken back
-        split ! $ move ! (1 ∷ []) $ use1 W (some (λ (zs : Standing × (Unit {0} × (Unit {0} × (Unit {0} × (Unit {0} × Unit {0}))))). ‵ (lasts core.ended (κs′ α) (given′ l6 α γ) zs) ⊛ raw (core.clauses 𝓤 H A at-mem run (κs′ α) (given′ l6 α γ) .ensures tt r (atExit core.ended (κs′ α) (given′ l6 α γ) zs)))) (id⊢ 𝓤 _) $ pick ! (λ zs. split ! $ move ! (1 ∷ []) $ drop ! $ fsplit ! $ move ! (1 ∷ []) $ fsplit ! $ move ! (1 ∷ []) $ fsplit ! $ move ! (1 ∷ []) $ fsplit ! $ move ! (1 ∷ []) $ fsplit ! $ move ! (1 ∷ []) $ drop ! $ move ! (5 ∷ []) $ split ! $ split ! $ move ! (1 ∷ []) $ split ! $ move ! (1 ∷ []) $ split ! $ move ! (1 ∷ []) $ drop ! $ move ! (2 ∷ []) $ lft-end ! tt $ move ! (0 ∷ 12 ∷ 8 ∷ []) $ use3 W (later (‵ (mem St .lies (zs .0) l6 0))) (ref-back 𝓤 H A W St (α ∷ []) γ (zs .0) l6 0) $ await ! tt $ use1 W (given (Is St (zs .0) (sv (zs .0))) (‵ (fat fullShare T′.mir l6 0 (only (sv (zs .0)))))) (taken 𝓤 H A W (zs .0) l6) $ learn ! (λ iz. move ! (3 ∷ []) $ peeks ! Res (Is Res) (shows 𝓤 H A Res) r (w ∷ []) (λ ir.
+        split ! $ move ! (1 ∷ []) $
+        use1 W (some (λ (zs : Standing × (Unit {0} × (Unit {0} × (Unit {0} × (Unit {0} × Unit {0}))))). ‵ (lasts core.ended (κs′ α) (given′ l6 α γ) zs) ⊛ raw (core.clauses 𝓤 H A at-mem run (κs′ α) (given′ l6 α γ) .ensures tt r (atExit core.ended (κs′ α) (given′ l6 α γ) zs)))) (id⊢ 𝓤 _) $
+        pick ! (λ zs. split ! $ move ! (1 ∷ []) $ drop ! $ fsplit ! $ move ! (1 ∷ []) $ fsplit ! $ move ! (1 ∷ []) $ fsplit ! $ move ! (1 ∷ []) $ fsplit ! $
+        move ! (1 ∷ []) $ fsplit ! $ move ! (1 ∷ []) $ drop ! $ move ! (5 ∷ []) $ split ! $ split ! $ move ! (1 ∷ []) $ split ! $ move ! (1 ∷ []) $ split ! $
+        move ! (1 ∷ []) $ drop ! $ move ! (2 ∷ []) $ lft-end ! tt $ move ! (0 ∷ 12 ∷ 8 ∷ []) $
+        use3 W (later (‵ (mem St .lies (zs .0) l6 0))) (ref-back 𝓤 H A W St (α ∷ []) γ (zs .0) l6 0) $ await ! tt $
+        use1 W (given (Is St (zs .0) (sv (zs .0))) (‵ (fat fullShare T′.mir l6 0 (only (sv (zs .0)))))) (taken 𝓤 H A W (zs .0) l6) $
+        learn ! (λ iz. move ! (3 ∷ []) $ peeks ! Res (Is Res) (shows 𝓤 H A Res) r (w ∷ []) (λ ir.
         land ! (from ! (stop !)) (init ! 24 refl (res-typed r w ir)) $
-        returns ! (look ! 24 refl) $ forget ! 11 refl $ forget ! 1 refl $ forget ! 14 refl $ forget ! 16 refl $ forget ! 18 refl $ forget ! 20 refl $ forget ! 22 refl $ forget ! 24 refl $ move ! (24 ∷ 25 ∷ []) $ free1 ! $ move ! (22 ∷ 23 ∷ []) $ free1 ! $ move ! (20 ∷ 21 ∷ []) $ free1 ! $ move ! (18 ∷ 19 ∷ []) $ free1 ! $ move ! (16 ∷ 17 ∷ []) $ free1 ! $ move ! (14 ∷ 15 ∷ []) $ free1 ! $ move ! (1 ∷ 13 ∷ []) $ free1 ! $ move ! (10 ∷ 11 ∷ []) $ free1 ! $ free0 ! $ keep ! (0 ∷ 2 ∷ 1 ∷ 9 ∷ 8 ∷ 7 ∷ []) $
+        returns ! (look ! 24 refl) $ forget ! 11 refl $ forget ! 1 refl $ forget ! 14 refl $ forget ! 16 refl $ forget ! 18 refl $ forget ! 20 refl $
+        forget ! 22 refl $ forget ! 24 refl $ move ! (24 ∷ 25 ∷ []) $ free1 ! $ move ! (22 ∷ 23 ∷ []) $ free1 ! $ move ! (20 ∷ 21 ∷ []) $ free1 ! $
+        move ! (18 ∷ 19 ∷ []) $ free1 ! $ move ! (16 ∷ 17 ∷ []) $ free1 ! $ move ! (14 ∷ 15 ∷ []) $ free1 ! $ move ! (1 ∷ 13 ∷ []) $ free1 ! $
+        move ! (10 ∷ 11 ∷ []) $ free1 ! $ free0 ! $ keep ! (0 ∷ 2 ∷ 1 ∷ 9 ∷ 8 ∷ 7 ∷ []) $
         by ! (exits r w))))))))))))))))
 
 module _ {M : Type 1} (𝓤 : URA M) (H : Heap 𝓤) (A : Atoms 𝓤) (W : Given 𝓤 H A) (at-mem : Memory → SProp 𝓤) (run : Routine → Fun 𝓤) where

@@ -1,5 +1,5 @@
--- `lent_examples::step` meets its contract, which asks and says nothing: a walk of its MIR. The standing is lent to `lent::step` for a lifetime that is made for the call, and is taken back.
--- All that the proof knows of `lent::step` is that it meets its contract. Assumes nothing.
+-- `lent_examples::step` meets its contract, which asks and says nothing: a walk of its MIR. The standing is lent to `lent::step` for a lifetime that
+-- is made for the call, and is taken back. All that the proof knows of `lent::step` is that it meets its contract. Assumes nothing.
 use mathlib.Core.Path.{_≡_, refl, ap}
 use mathlib.Core.List.{[], _∷_, List}
 use Prim.Native.Nat.{ℕ}
@@ -15,10 +15,10 @@ use prog.Memory.{Memory}
 use prog.Routine.{Routine}
 use prog.Wp.{Heap, Calls, Loops, WpFn, Tables}
 use ghost.Atoms.{Atoms}
-use contract.Monad.{Fun, fact}
+use contract.Monad.{Fun}
 use contract.Lifetimes.{Lfts, Shares}
 use contract.Running.{givenOf, tables, tablesOf}
-use types.Kit.{Given, Item, ‵, raw, some, later, given, learn, _⊛_, ⋆, mean, _$_, _∵_, !, qed, by, move, keep, drop, use1, use2, use3, split, join, pick, rewrite, fsplit, fjoin, feqL, suffices, frame, await, done}
+use types.Kit.{Given, Item, ‵, raw, some, later, given, learn, _⊛_, ⋆, _$_, _∵_, !, qed, by, move, keep, drop, use1, use2, use3, split, join, pick, rewrite, fsplit, fjoin, feqL, suffices, frame, await, done}
 use types.Tokens.{lft-new, lft-end}
 use types.Run.{look, init, forget, stop, hop, fld, from, load, addr, of-opd, and-then, no-more, assigns, land, returns, enter, alloc1, alloc0, params1, pass1, pass0, free1, free0}
 use types.Part.{agg, whole, sub, look-in}
@@ -155,8 +155,12 @@ module _ {M : Type 1} (𝓤 : URA M) (H : Heap 𝓤) (A : Atoms 𝓤) (W : Given
     walk : Is (ShrSlice (named 0) κ0 u8) x1 (v1 ∷ []) → Room u8 (length (x2 .now)) → Room u8 (length (x3 .now)) → ent 𝓤 (onEntry 𝓤 H A here.signature κs qs a vals) (WpFn 𝓤 H C Λ code.function flats Post)
     walk is1 room2 room3 =
         qed W (Toks ∷ ‵ (owns (St ∷ ShrSlice (named 0) κ0 u8 ∷ MutSlice (named 1) κ1 u8 ∷ MutSlice (named 2) κ2 u8 ∷ []) a vals) ∷ []) ∵ enter ! C Λ code.function flats _ $
-        alloc1 ! (λ l0. alloc1 ! (λ l1. alloc1 ! (λ l2. alloc1 ! (λ l3. alloc1 ! (λ l4. alloc1 ! (λ l5. alloc1 ! (λ l6. alloc1 ! (λ l7. alloc1 ! (λ l8. alloc1 ! (λ l9. alloc1 ! (λ l10. alloc1 ! (λ l11. alloc1 ! (λ l12. alloc0 ! $ params1 ! $ pass1 ! (init ! 22 refl (typed x0 f0)) $ pass1 ! (init ! 20 refl (shr-slice-lawful 𝓤 H A W (named 0) κ0 u8 .typed x1 _ is1 .0)) $ pass1 ! (init ! 18 refl (tt, (tt, (record { fits = room2 .0 }, tt)))) $ pass1 ! (init ! 16 refl (tt, (tt, (record { fits = room3 .0 }, tt)))) $ pass0 ! $
-        move ! (27 ∷ []) $ fsplit ! $ move ! (1 ∷ []) $ fsplit ! $ move ! (1 ∷ []) $ fsplit ! $ move ! (1 ∷ []) $ fsplit ! $ move ! (1 ∷ []) $ drop ! $ move ! (30 ∷ []) $ split ! $ move ! (1 ∷ []) $ split ! $ move ! (1 ∷ []) $ split ! $ move ! (1 ∷ []) $ drop ! $ move ! (6 ∷ []) $ drop ! $
+        alloc1 ! (λ l0. alloc1 ! (λ l1. alloc1 ! (λ l2. alloc1 ! (λ l3. alloc1 ! (λ l4. alloc1 ! (λ l5. alloc1 ! (λ l6. alloc1 ! (λ l7. alloc1 ! (λ l8. alloc1 ! (λ l9. alloc1 ! (λ l10. alloc1 ! (λ l11. alloc1 ! (λ l12. alloc0 ! $
+        params1 ! $ pass1 ! (init ! 22 refl (typed x0 f0)) $ pass1 ! (init ! 20 refl (shr-slice-lawful 𝓤 H A W (named 0) κ0 u8 .typed x1 _ is1 .0)) $
+        pass1 ! (init ! 18 refl (tt, (tt, (record { fits = room2 .0 }, tt)))) $ pass1 ! (init ! 16 refl (tt, (tt, (record { fits = room3 .0 }, tt)))) $
+        pass0 ! $
+        move ! (27 ∷ []) $ fsplit ! $ move ! (1 ∷ []) $ fsplit ! $ move ! (1 ∷ []) $ fsplit ! $ move ! (1 ∷ []) $ fsplit ! $ move ! (1 ∷ []) $ drop ! $
+        move ! (30 ∷ []) $ split ! $ move ! (1 ∷ []) $ split ! $ move ! (1 ∷ []) $ split ! $ move ! (1 ∷ []) $ drop ! $ move ! (6 ∷ []) $ drop ! $
         assigns ! (of-opd ! (load ! (from ! (stop !)) (look ! 28 refl))) (from ! (stop !)) (init ! 20 refl (typed x0 f0)) $
         assigns ! (addr ! (from ! (stop !))) (from ! (stop !)) (init ! 16 refl (tt, tt)) $
         assigns ! (addr ! (from ! (fld ! refl (hop ! (look-in ! 24 (sub ! 0 refl (whole !))) (stop !))))) (from ! (stop !)) (init ! 14 refl (tt, tt)) $
@@ -164,17 +168,36 @@ module _ {M : Type 1} (𝓤 : URA M) (H : Heap 𝓤) (A : Atoms 𝓤) (W : Given
         assigns ! (addr ! (from ! (fld ! refl (hop ! (look-in ! 22 (sub ! 0 refl (whole !))) (stop !))))) (from ! (stop !)) (init ! 10 refl (tt, tt)) $
         assigns ! (agg ! (and-then ! (load ! (from ! (stop !)) (look ! 10 refl)) (and-then ! (load ! (from ! (fld ! refl (stop !))) (look-in ! 22 (sub ! 1 refl (whole !)))) (no-more !)))) (from ! (stop !)) (init ! 8 refl (tt, (tt, (record { fits = room3 .0 }, tt)))) $
         -- the standing is lent for a lifetime that is made for the call
-        lft-new ! tt (λ α. move ! (21 ∷ []) $ use1 W (‵ (mem St .lies x0 l5 0)) (lies 𝓤 H A W x0 l5 f0) $ use1 W (later (some (λ (γ : GName). ‵ (MutRef (named 0) (α ∷ []) St .own (at l5 γ) (vptr l5 0 ∷ [])) ⊛ ‵ (flent (α ∷ []) (Body (mem St) l5 0 γ))))) (lends-ref 𝓤 H A W St (named 0) (α ∷ []) x0 l5 0) $ await ! tt $ pick ! (λ γ. split ! $
-        move ! (8 ∷ []) $ use1 W (‵ (ShrSlice (named 0) κ0 u8 .own x1 (v1 ∷ [])) ⊛ ‵ (ShrSlice (named 0) κ0 u8 .own x1 (v1 ∷ []))) (shr-slice-copy 𝓤 H A W (named 0) κ0 u8 .twice x1 (v1 ∷ [])) $ split ! $ nothing ! $ move ! (9 ∷ 0 ∷ []) $ fjoin ! $ move ! (9 ∷ 0 ∷ []) $ fjoin ! $ move ! (1 ∷ 0 ∷ []) $ fjoin ! $ move ! (2 ∷ 0 ∷ []) $ fjoin ! $ nothing ! $ move ! (5 ∷ 0 ∷ []) $ join ! $ move ! (5 ∷ 0 ∷ []) $ join ! $ move ! (5 ∷ 0 ∷ []) $ join ! $ move ! (4 ∷ 0 ∷ []) $ join ! $ use2 W (raw (Core 𝓤 H A at-mem run .pre (to l5 α γ))) (asked l5 α γ) $
+        lft-new ! tt (λ α. move ! (21 ∷ []) $ use1 W (‵ (mem St .lies x0 l5 0)) (lies 𝓤 H A W x0 l5 f0) $
+        use1 W (later (some (λ (γ : GName). ‵ (MutRef (named 0) (α ∷ []) St .own (at l5 γ) (vptr l5 0 ∷ [])) ⊛ ‵ (flent (α ∷ []) (Body (mem St) l5 0 γ))))) (lends-ref 𝓤 H A W St (named 0) (α ∷ []) x0 l5 0) $
+        await ! tt $ pick ! (λ γ. split ! $
+        move ! (8 ∷ []) $
+        use1 W (‵ (ShrSlice (named 0) κ0 u8 .own x1 (v1 ∷ [])) ⊛ ‵ (ShrSlice (named 0) κ0 u8 .own x1 (v1 ∷ []))) (shr-slice-copy 𝓤 H A W (named 0) κ0 u8 .twice x1 (v1 ∷ [])) $
+        split ! $ nothing ! $ move ! (9 ∷ 0 ∷ []) $ fjoin ! $ move ! (9 ∷ 0 ∷ []) $ fjoin ! $ move ! (1 ∷ 0 ∷ []) $ fjoin ! $ move ! (2 ∷ 0 ∷ []) $ fjoin ! $
+        nothing ! $ move ! (5 ∷ 0 ∷ []) $ join ! $ move ! (5 ∷ 0 ∷ []) $ join ! $ move ! (5 ∷ 0 ∷ []) $ join ! $ move ! (4 ∷ 0 ∷ []) $ join ! $
+        use2 W (raw (Core 𝓤 H A at-mem run .pre (to l5 α γ))) (asked l5 α γ) $
         calls-at ! fm (Core 𝓤 H A at-mem run) known (to l5 α γ) (and-then ! (load ! (from ! (stop !)) (look ! 13 refl)) (and-then ! (load ! (from ! (stop !)) (look ! 22 refl)) (and-then ! (load ! (from ! (stop !)) (look ! 9 refl)) (and-then ! (load ! (from ! (stop !)) (look ! 5 refl)) (no-more !))))) (λ w.
-        use1 W (later (some (λ (r : StepAnswer). (CoreToks α ⊛ ‵ (Res .own r (w ∷ []))) ⊛ raw (ensured 𝓤 H A core.ended (core.clauses 𝓤 H A at-mem run) (κs′ α) (given′ l5 α γ) tt r)))) (id⊢ 𝓤 _) $ await ! tt $ pick ! (λ r.
+        use1 W (later (some (λ (r : StepAnswer). (CoreToks α ⊛ ‵ (Res .own r (w ∷ []))) ⊛ raw (ensured 𝓤 H A core.ended (core.clauses 𝓤 H A at-mem run) (κs′ α) (given′ l5 α γ) tt r)))) (id⊢ 𝓤 _) $
+        await ! tt $ pick ! (λ r.
         -- the lifetime is ended, and the standing is taken back
-        split ! $ move ! (1 ∷ []) $ use1 W (some (λ (zs : Standing × (Unit {0} × (List ℕ × (List ℕ × Unit {0})))). ‵ (lasts core.ended (κs′ α) (given′ l5 α γ) zs) ⊛ raw (core.clauses 𝓤 H A at-mem run (κs′ α) (given′ l5 α γ) .ensures tt r (atExit core.ended (κs′ α) (given′ l5 α γ) zs)))) (id⊢ 𝓤 _) $ pick ! (λ zs. split ! $ move ! (1 ∷ []) $ drop ! $ fsplit ! $ move ! (1 ∷ []) $ fsplit ! $ move ! (1 ∷ []) $ fsplit ! $ fsplit ! $ move ! (1 ∷ []) $ feqL ! (λ e2. move ! (1 ∷ []) $ fsplit ! $ fsplit ! $ move ! (1 ∷ []) $ feqL ! (λ e3. move ! (1 ∷ []) $ drop ! $ move ! (4 ∷ []) $ split ! $ split ! $ move ! (1 ∷ []) $ split ! $ move ! (1 ∷ []) $ split ! $ move ! (1 ∷ []) $ split ! $ move ! (1 ∷ []) $ drop ! $ move ! (3 ∷ []) $ lft-end ! tt $ move ! (0 ∷ 10 ∷ 8 ∷ []) $ use3 W (later (‵ (mem St .lies (zs .0) l5 0))) (ref-back 𝓤 H A W St (α ∷ []) γ (zs .0) l5 0) $ await ! tt $ use1 W (given (Is St (zs .0) (sv (zs .0))) (‵ (fat fullShare T′.mir l5 0 (only (sv (zs .0)))))) (taken 𝓤 H A W (zs .0) l5) $ learn ! (λ iz. move ! (4 ∷ []) $ peeks ! Res (Is Res) (shows 𝓤 H A Res) r (w ∷ []) (λ ir.
+        split ! $ move ! (1 ∷ []) $
+        use1 W (some (λ (zs : Standing × (Unit {0} × (List ℕ × (List ℕ × Unit {0})))). ‵ (lasts core.ended (κs′ α) (given′ l5 α γ) zs) ⊛ raw (core.clauses 𝓤 H A at-mem run (κs′ α) (given′ l5 α γ) .ensures tt r (atExit core.ended (κs′ α) (given′ l5 α γ) zs)))) (id⊢ 𝓤 _) $
+        pick ! (λ zs. split ! $ move ! (1 ∷ []) $ drop ! $ fsplit ! $ move ! (1 ∷ []) $ fsplit ! $ move ! (1 ∷ []) $ fsplit ! $ fsplit ! $ move ! (1 ∷ []) $
+        feqL ! (λ e2. move ! (1 ∷ []) $ fsplit ! $ fsplit ! $ move ! (1 ∷ []) $ feqL ! (λ e3. move ! (1 ∷ []) $ drop ! $ move ! (4 ∷ []) $ split ! $ split ! $
+        move ! (1 ∷ []) $ split ! $ move ! (1 ∷ []) $ split ! $ move ! (1 ∷ []) $ split ! $ move ! (1 ∷ []) $ drop ! $ move ! (3 ∷ []) $ lft-end ! tt $
+        move ! (0 ∷ 10 ∷ 8 ∷ []) $ use3 W (later (‵ (mem St .lies (zs .0) l5 0))) (ref-back 𝓤 H A W St (α ∷ []) γ (zs .0) l5 0) $ await ! tt $
+        use1 W (given (Is St (zs .0) (sv (zs .0))) (‵ (fat fullShare T′.mir l5 0 (only (sv (zs .0)))))) (taken 𝓤 H A W (zs .0) l5) $
+        learn ! (λ iz. move ! (4 ∷ []) $ peeks ! Res (Is Res) (shows 𝓤 H A Res) r (w ∷ []) (λ ir.
         land ! (from ! (stop !)) (init ! 21 refl (res-typed r w ir)) $
         rewrite ! 21 (λ (u : Val). ‵ (fat fullShare R-laws.mir l6 0 u)) (ap only (LE.tells R-type.the-type R-laws.the-laws r _ ir)) refl $
         assigns ! (of-opd ! (load ! (from ! (stop !)) (look ! 1 refl))) (from ! (stop !)) (init ! 9 refl (typed (zs .0) iz)) $
         assigns ! (agg ! (and-then ! (load ! (from ! (stop !)) (look ! 9 refl)) (and-then ! (load ! (from ! (stop !)) (look ! 21 refl)) (no-more !)))) (from ! (stop !)) (init ! 32 refl (LL.lawful U.the-type U′.the-laws 𝓤 H A W .typed (record { standing = zs .0; answer = r }) _ (made r (zs .0) w ir iz) .0)) $
-        drop ! $ returns ! (look ! 31 refl) $ forget ! 8 refl $ forget ! 10 refl $ forget ! 12 refl $ forget ! 14 refl $ forget ! 16 refl $ forget ! 18 refl $ forget ! 20 refl $ forget ! 0 refl $ forget ! 23 refl $ forget ! 25 refl $ forget ! 27 refl $ forget ! 29 refl $ forget ! 31 refl $ move ! (31 ∷ 32 ∷ []) $ free1 ! $ move ! (29 ∷ 30 ∷ []) $ free1 ! $ move ! (27 ∷ 28 ∷ []) $ free1 ! $ move ! (25 ∷ 26 ∷ []) $ free1 ! $ move ! (23 ∷ 24 ∷ []) $ free1 ! $ move ! (0 ∷ 22 ∷ []) $ free1 ! $ move ! (19 ∷ 20 ∷ []) $ free1 ! $ move ! (17 ∷ 18 ∷ []) $ free1 ! $ move ! (15 ∷ 16 ∷ []) $ free1 ! $ move ! (13 ∷ 14 ∷ []) $ free1 ! $ move ! (11 ∷ 12 ∷ []) $ free1 ! $ move ! (9 ∷ 10 ∷ []) $ free1 ! $ move ! (7 ∷ 8 ∷ []) $ free1 ! $ free0 ! $ keep ! (2 ∷ 1 ∷ 0 ∷ 6 ∷ 4 ∷ 3 ∷ []) $
+        drop ! $ returns ! (look ! 31 refl) $ forget ! 8 refl $ forget ! 10 refl $ forget ! 12 refl $ forget ! 14 refl $ forget ! 16 refl $ forget ! 18 refl $
+        forget ! 20 refl $ forget ! 0 refl $ forget ! 23 refl $ forget ! 25 refl $ forget ! 27 refl $ forget ! 29 refl $ forget ! 31 refl $
+        move ! (31 ∷ 32 ∷ []) $ free1 ! $ move ! (29 ∷ 30 ∷ []) $ free1 ! $ move ! (27 ∷ 28 ∷ []) $ free1 ! $ move ! (25 ∷ 26 ∷ []) $ free1 ! $
+        move ! (23 ∷ 24 ∷ []) $ free1 ! $ move ! (0 ∷ 22 ∷ []) $ free1 ! $ move ! (19 ∷ 20 ∷ []) $ free1 ! $ move ! (17 ∷ 18 ∷ []) $ free1 ! $
+        move ! (15 ∷ 16 ∷ []) $ free1 ! $ move ! (13 ∷ 14 ∷ []) $ free1 ! $ move ! (11 ∷ 12 ∷ []) $ free1 ! $ move ! (9 ∷ 10 ∷ []) $ free1 ! $
+        move ! (7 ∷ 8 ∷ []) $ free1 ! $ free0 ! $ keep ! (2 ∷ 1 ∷ 0 ∷ 6 ∷ 4 ∷ 3 ∷ []) $
         by ! (exits (record { standing = zs .0; answer = r }) (made r (zs .0) w ir iz) (zs .1 .1 .0) (zs .1 .1 .1 .0) e2 e3)))))))))))))))))))))))
 
 module _ {M : Type 1} (𝓤 : URA M) (H : Heap 𝓤) (A : Atoms 𝓤) (W : Given 𝓤 H A) (at-mem : Memory → SProp 𝓤) (run : Routine → Fun 𝓤) where

@@ -8,5 +8,5 @@ use Rattle.calls.specs.Answer.{Does}
 use Rattle.desk.specs.Desk.{Call, Question, Reply}
 
 -- the question q on the desk of these four answers x and leaves that desk, and the standing is unchanged by it
-abbrev pub Reads : Question → Standing → List ℕ → List ℕ → List ℕ → Reply → Standing → Type 0
-Reads q s store first second x after = Does (Call.Ask q) (deskOf s store first second) x (deskOf after store first second) × (after ≡ s)
+abbrev pub AsksOnly : Question → Standing → List ℕ → List ℕ → List ℕ → Reply → Standing → Type 0
+AsksOnly q s store first second x after = Does (Call.Ask q) (deskOf s store first second) x (deskOf after store first second) × (after ≡ s)
