@@ -1,0 +1,2 @@
+-- Laws of `reader`
+pub mod Laws

@@ -1,0 +1,25 @@
+-- `reader::token_end` meets its contract: the token's size is added to the place, and a token lies within the part.
+use mathlib.Core.Path.{ap, _∙_}
+use native.Mathlib.Omega.{arith}
+use borrow.Author.Needs.{needs}
+use Rattle.reader.specs.Tokens.{sizeOf}
+use Rattle.reader.proofs.Laws.{end-most}
+use Rattle.reader.proofs.token_end.Statement.{statement}
+use Rattle.reader.proofs.token_end.Tie as tie
+
+token-at-requires : tie.Need-token-at-requires
+token-at-requires c κs = search needs
+
+size-requires : tie.Need-size-requires
+size-requires c κs = search needs
+
+add-result : tie.Need-add-result
+add-result c =
+    let e = c .size .ensures ∙ ap sizeOf (c .before .token-at .ensures) in
+    omega (arith, e, end-most (c .before .before .before .args .f .now) (c .before .before .before .args .at))
+
+returns : tie.Need-returns
+returns c = rw (c .size .ensures, c .before .token-at .ensures)
+
+pub token-end-spec : {M : Type 1} → statement M
+token-end-spec = tie.close (tie.spec token-at-requires size-requires add-result returns)

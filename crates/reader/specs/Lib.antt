@@ -1,0 +1,5 @@
+-- `reader`: what stands at a place of a formula part, and the tokens of a formula. Definitions first, then the theorems on them.
+-- ---- what a reader must believe
+pub mod Tokens
+-- ---- theorems
+pub mod Through
