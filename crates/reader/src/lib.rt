@@ -1,5 +1,6 @@
 // Going through a formula part token by token: the code at a place with its number, and where the next one begins.
-// The work is in functions over a slice and a place.
+// The work is in functions over a slice and a place. `FormulaReader` holds both, and the functions over it are thin, since each is
+// proved by hand.
 ghost use mathlib.Core.Path.{_≡_};
 ghost use Prim.Native.Nat.{_+_};
 ghost use Rattle.reader.specs.Tokens.{tokenAt, tokenEnd, sizeOf};
@@ -101,4 +102,41 @@ pub fn token_end(f: &[u8], at: usize) -> usize
     ensures { λ r. ⌜ r ≡ tokenEnd (now (f .entry)) at ⌝ }
 {
     at + size(token_at(f, at))
+}
+
+// A formula part with a place in it.
+pub struct FormulaReader<'a> {
+    pub bytes: &'a [u8],
+    pub at: usize,
+}
+
+// A reader at the beginning of a part.
+pub fn new<'a>(bytes: &'a [u8]) -> FormulaReader<'a>
+    ensures { λ r. ⌜ (r .bytes ≡ bytes .entry) × (r .at ≡ 0) ⌝ }
+{
+    FormulaReader { bytes, at: 0 }
+}
+
+// The token at the reader's place.
+pub fn peek<'a>(r: FormulaReader<'a>) -> Token
+    ensures { λ t. ⌜ t ≡ tokenAt (now (r .entry .bytes)) (r .entry .at) ⌝ }
+{
+    token_at(r.bytes, r.at)
+}
+
+// The reader moved on past the token at its place.
+pub fn advance<'a>(r: FormulaReader<'a>) -> FormulaReader<'a>
+    ensures { λ q. ⌜ (q .bytes ≡ r .entry .bytes) × (q .at ≡ tokenEnd (now (r .entry .bytes)) (r .entry .at)) ⌝ }
+{
+    FormulaReader {
+        bytes: r.bytes,
+        at: token_end(r.bytes, r.at),
+    }
+}
+
+// The token that a part begins with, read by a reader made for it. Its callers need no walk.
+pub fn first(f: &[u8]) -> Token
+    ensures { λ r. ⌜ r ≡ tokenAt (now (f .entry)) 0 ⌝ }
+{
+    peek(new(f))
 }
