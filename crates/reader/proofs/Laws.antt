@@ -1,11 +1,11 @@
 -- The token at a place, by the code that stands there, and how far it reaches. Rests on Tokens.
-use Prim.Native.Nat.{ℕ, zero, suc, _+_, _≤_, _<_, max}
+use Prim.Native.Nat.{ℕ, zero, suc, _+_, _-_, _≤_, _<_, max}
 use mathlib.Core.Path.{_≡_, refl, sym, ap, _∙_}
 use mathlib.Core.Bool.{Bool, true, false}
 use mathlib.Core.Logic.{_⊎_, inl, inr, ⊎-elim}
 use mathlib.Core.List.{List, [], _∷_}
 use native.Mathlib.Nat.{eq-or-lt-of-le}
-use native.Mathlib.Numerals.{add-one}
+use native.Mathlib.Numerals.{add-one, sub-one}
 use native.Mathlib.Omega.{arith}
 use lib.Dec.{ltb}
 use lib.ListN.{length, getD, drop, drop-of-length-le, length-drop}
@@ -13,7 +13,7 @@ use lib.Seq.{drop-cons}
 use borrow.Author.Tests.{ne-eqb, ltb-true, ltb-false}
 use Rattle.reader.specs.declared.Token.{Token}
 use Rattle.reader.specs.declared.Token.the-variants.{Bottom, Top, Proposition, Negated, Variable, Or, And, AllNext, SomeNext, Least, Greatest, End, Broken}
-use Rattle.reader.specs.Tokens.{numbered, withNumber, byCode, tokenOf, sizeOf, tokenAt}
+use Rattle.reader.specs.Tokens.{numbered, withNumber, byCode, tokenOf, sizeOf, tokenAt, tokenEnd, placeFrom}
 
 module _ (f : List ℕ) (at : ℕ) where
   -- the code decides
@@ -110,3 +110,15 @@ end-most f at = go (ltb at (length f)) refl
     go : (x : Bool) → ltb at (length f) ≡ x → at + sizeOf (tokenAt f at) ≤ max at (length f)
     go true e = let l = ltb-true at (length f) e in let h = end-within f at (omega arith) in omega arith
     go false e = let h = end-stays f at (ltb-false at (length f) e) in omega arith
+
+-- ---- going on
+
+pub place-step : (m : ℕ) (f : List ℕ) (at : ℕ) → 0 < m → placeFrom m f at ≡ placeFrom (m - 1) f (tokenEnd f at)
+unfolding placeFrom
+place-step zero f at l = absurd (omega arith)
+place-step (suc m) f at l = simp sub-one
+
+pub place-none : (m : ℕ) (f : List ℕ) (at : ℕ) → m ≤ 0 → placeFrom m f at ≡ at
+unfolding placeFrom
+place-none zero f at l = refl
+place-none (suc m) f at l = absurd (omega arith)

@@ -1,17 +1,17 @@
 -- Reading a formula's bytes token by token gives the formula's nodes in prefix order, and ends where its bytes end.
 -- Rests on Tokens and formula's Bytes.
-use Prim.Native.Nat.{ℕ, zero, suc, _+_}
+use Prim.Native.Nat.{ℕ, zero, suc, _+_, _<_}
 use mathlib.Core.Path.{_≡_, refl, sym, ap, _∙_}
 use mathlib.Core.List.{List, [], _∷_, _++_, append-assoc, append-nil}
 use native.Mathlib.Nat.{zero-add}
 use native.Mathlib.Omega.{arith}
-use lib.ListN.{length, drop, length-append}
+use lib.ListN.{length, getD, drop, length-append, List·getD-append}
 use lib.Seq.{drop-drop, drop-at}
 use Rattle.theory.specs.Formula.{Formula, bottom, top, prop, negated, var, or, and, AX, EX, mu, nu}
 use Rattle.formula.specs.Bytes.{bytesOf}
 use Rattle.reader.specs.declared.Token.{Token}
 use Rattle.reader.specs.declared.Token.the-variants.{Bottom, Top, Proposition, Negated, Variable, Or, And, AllNext, SomeNext, Least, Greatest, End}
-use Rattle.reader.specs.Tokens.{numbered, byCode, tokenOf, sizeOf, tokenAt, tokenEnd, tokensOf}
+use Rattle.reader.specs.Tokens.{numbered, byCode, tokenOf, sizeOf, tokenAt, tokenEnd, placeFrom, tokensOf}
 
 -- n tokens from the place `at` on, each read where the one before it ends
 unfoldable pub tokensFrom : ℕ → List ℕ → ℕ → List Token
@@ -76,3 +76,16 @@ tokens-read front φ rest n =
 pub tokens-of-part : (φ : Formula) → tokensFrom (length (tokensOf φ) + 1) (bytesOf φ) 0 ≡ tokensOf φ ++ (End ∷ [])
 unfolding leftTokens tokenOf
 tokens-of-part φ = left-tokens (length (tokensOf φ) + 1) (bytesOf φ) 0 ∙ ap (leftTokens (length (tokensOf φ) + 1)) (sym (append-nil (bytesOf φ))) ∙ left-bytes φ 1 []
+
+-- ---- the n-th token
+
+nth-from : (m n : ℕ) (f : List ℕ) (at : ℕ) → n < m → tokenAt f (placeFrom n f at) ≡ getD (tokensFrom m f at) n End
+unfolding tokensFrom placeFrom
+nth-from zero n f at l = absurd (omega arith)
+nth-from (suc m) zero f at l = refl
+nth-from (suc m) (suc n) f at l = nth-from m n f (tokenEnd f at) (omega arith)
+
+-- the n-th token of a part that is the bytes of a formula is the formula's n-th node in prefix order
+pub nth-token : (φ : Formula) (n : ℕ) → n < length (tokensOf φ) → tokenAt (bytesOf φ) (placeFrom n (bytesOf φ) 0) ≡ getD (tokensOf φ) n End
+nth-token φ n l =
+    nth-from (length (tokensOf φ) + 1) n (bytesOf φ) 0 (omega arith) ∙ rw (tokens-of-part φ) (List·getD-append (tokensOf φ) (End ∷ []) End n l)

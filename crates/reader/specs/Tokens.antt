@@ -1,5 +1,5 @@
 -- What stands at a place of a formula part, where the next token begins, and the tokens of a formula. Rests on theory's Formula.
-use Prim.Native.Nat.{ℕ, _+_}
+use Prim.Native.Nat.{ℕ, zero, suc, _+_}
 use mathlib.Core.Bool.{cond}
 use mathlib.Core.List.{List, [], _∷_, _++_}
 use lib.Dec.{eqb}
@@ -63,6 +63,11 @@ tokenAt f at = tokenOf (drop at f)
 
 abbrev pub tokenEnd : List ℕ → ℕ → ℕ
 tokenEnd f at = at + sizeOf (tokenAt f at)
+
+-- the place after n tokens, from a place on
+unfoldable pub placeFrom : ℕ → List ℕ → ℕ → ℕ
+placeFrom zero f at = at
+placeFrom (suc n) f at = placeFrom n f (tokenEnd f at)
 
 -- a formula's nodes in prefix order, each as a token
 unfoldable pub tokensOf : Formula → List Token

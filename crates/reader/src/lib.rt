@@ -1,9 +1,9 @@
 // Going through a formula part token by token: the code at a place with its number, and where the next one begins.
 // The work is in functions over a slice and a place. `FormulaReader` holds both, and the functions over it are thin, since each is
-// proved by hand.
+// proved by hand. What a part says as a whole, as its nested AX or whether a fixpoint or EX occurs, would be counted over these tokens.
 ghost use mathlib.Core.Path.{_≡_};
 ghost use Prim.Native.Nat.{_+_};
-ghost use Rattle.reader.specs.Tokens.{tokenAt, tokenEnd, sizeOf};
+ghost use Rattle.reader.specs.Tokens.{tokenAt, tokenEnd, sizeOf, placeFrom};
 use model::Proposition;
 
 // What stands at a place of a formula part: a code with its number, if it has one; the part's end; or neither.
@@ -102,6 +102,19 @@ pub fn token_end(f: &[u8], at: usize) -> usize
     ensures { λ r. ⌜ r ≡ tokenEnd (now (f .entry)) at ⌝ }
 {
     at + size(token_at(f, at))
+}
+
+// The token after n others, counted from the beginning of a part. Past the end it is the end, and past a broken place broken.
+pub fn nth(f: &[u8], n: usize) -> Token
+    ensures { λ r. ⌜ r ≡ tokenAt (now (f .entry)) (placeFrom n (now (f .entry)) 0) ⌝ }
+{
+    let mut at: usize = 0;
+    let mut left = n;
+    while left > 0 {
+        at = token_end(f, at);
+        left -= 1;
+    }
+    token_at(f, at)
 }
 
 // A formula part with a place in it.
