@@ -13,11 +13,11 @@ use lib.Seq.{drop-cons}
 use borrow.Author.Tests.{ne-eqb, ltb-true, ltb-false}
 use Rattle.reader.specs.declared.Token.{Token}
 use Rattle.reader.specs.declared.Token.the-variants.{Bottom, Top, Proposition, Negated, Variable, Or, And, AllNext, SomeNext, Least, Greatest, End, Broken}
-use Rattle.reader.specs.Tokens.{numbered, withNumber, byCode, tokenOf, sizeOf, tokenAt, tokenEnd, placeFrom}
+use Rattle.reader.specs.Tokens.{propositionOf, withNumber, tokenByCode, tokenOf, tokenSize, tokenAt, tokenEnd, placeFrom}
 
 module _ (f : List ℕ) (at : ℕ) where
   -- the code decides
-  pub at-code : (c : ℕ) → at < length f → getD f at 0 ≡ c → tokenAt f at ≡ byCode c (drop (at + 1) f)
+  pub at-code : (c : ℕ) → at < length f → getD f at 0 ≡ c → tokenAt f at ≡ tokenByCode c (drop (at + 1) f)
   unfolding tokenOf
   at-code c l q = rw (drop-cons f at 0 l, q, add-one)
 
@@ -33,8 +33,8 @@ module _ (f : List ℕ) (at : ℕ) where
   number-missing t l = rw (drop-of-length-le f l)
 
 -- 'Any code from 11 to 255 is refused'
-code-refused : (c : ℕ) (b : List ℕ) → 11 ≤ c → Broken ≡ byCode c b
-unfolding byCode
+code-refused : (c : ℕ) (b : List ℕ) → 11 ≤ c → Broken ≡ tokenByCode c b
+unfolding tokenByCode
 code-refused c b l =
     simp (
       ne-eqb c 0 (λ e. omega arith),
@@ -56,7 +56,7 @@ second c x l m n = omega arith
 
 module _ (f : List ℕ) (at : ℕ) (l : at < length f) where
   -- the second of the two codes that begin with c
-  pub at-second : (c : ℕ) → c ≤ getD f at 0 → getD f at 0 ≤ suc c → (getD f at 0 ≡ c → ⊥) → tokenAt f at ≡ byCode (suc c) (drop (at + 1) f)
+  pub at-second : (c : ℕ) → c ≤ getD f at 0 → getD f at 0 ≤ suc c → (getD f at 0 ≡ c → ⊥) → tokenAt f at ≡ tokenByCode (suc c) (drop (at + 1) f)
   at-second c x y n = at-code f at (suc c) l (second c (getD f at 0) x y n)
 
   pub at-other : 11 ≤ getD f at 0 → Broken ≡ tokenAt f at
@@ -64,27 +64,27 @@ module _ (f : List ℕ) (at : ℕ) (l : at < length f) where
 
   -- 'followed by its number'
   pub at-missing : 2 ≤ getD f at 0 → getD f at 0 ≤ 3 → length f ≤ at + 1 → Broken ≡ tokenAt f at
-  unfolding byCode
+  unfolding tokenByCode
   at-missing x y m =
-      ⊎-elim (λ e. number-missing f (at + 1) (λ p. Negated (numbered p)) m ∙ sym (at-code f at 3 l e))
-      (λ h. number-missing f (at + 1) (λ p. Proposition (numbered p)) m ∙ sym (at-code f at 2 l (omega arith)))
+      ⊎-elim (λ e. number-missing f (at + 1) (λ p. Negated (propositionOf p)) m ∙ sym (at-code f at 3 l e))
+      (λ h. number-missing f (at + 1) (λ p. Proposition (propositionOf p)) m ∙ sym (at-code f at 2 l (omega arith)))
       (eq-or-lt-of-le y)
 
 -- ---- a token lies within the part
 
-number-within : (t : ℕ → Token) → ((p : ℕ) → sizeOf (t p) ≡ 2) → (b : List ℕ) → sizeOf (withNumber t b) ≤ suc (length b)
-unfolding sizeOf
+number-within : (t : ℕ → Token) → ((p : ℕ) → tokenSize (t p) ≡ 2) → (b : List ℕ) → tokenSize (withNumber t b) ≤ suc (length b)
+unfolding tokenSize
 number-within t h [] = omega arith
 number-within t h (p ∷ b) = omega (arith, h p)
 
 -- what is left has the token's bytes
-size-within : (b : List ℕ) → sizeOf (tokenOf b) ≤ length b
-unfolding tokenOf sizeOf
+size-within : (b : List ℕ) → tokenSize (tokenOf b) ≤ length b
+unfolding tokenOf tokenSize
 size-within [] = omega arith
 size-within (zero ∷ b) = omega arith
 size-within (suc zero ∷ b) = omega arith
-size-within (suc (suc zero) ∷ b) = number-within (λ p. Proposition (numbered p)) (λ p. refl) b
-size-within (suc (suc (suc zero)) ∷ b) = number-within (λ p. Negated (numbered p)) (λ p. refl) b
+size-within (suc (suc zero) ∷ b) = number-within (λ p. Proposition (propositionOf p)) (λ p. refl) b
+size-within (suc (suc (suc zero)) ∷ b) = number-within (λ p. Negated (propositionOf p)) (λ p. refl) b
 size-within (suc (suc (suc (suc zero))) ∷ b) = number-within (λ v. Variable v) (λ p. refl) b
 size-within (suc (suc (suc (suc (suc zero)))) ∷ b) = omega arith
 size-within (suc (suc (suc (suc (suc (suc zero))))) ∷ b) = omega arith
@@ -94,20 +94,20 @@ size-within (suc (suc (suc (suc (suc (suc (suc (suc (suc zero)))))))) ∷ b) = o
 size-within (suc (suc (suc (suc (suc (suc (suc (suc (suc (suc zero))))))))) ∷ b) = omega arith
 size-within (suc (suc (suc (suc (suc (suc (suc (suc (suc (suc (suc n)))))))))) ∷ b) =
     let h = code-refused (suc (suc (suc (suc (suc (suc (suc (suc (suc (suc (suc n))))))))))) b (omega arith) in
-    let z = ap sizeOf h in omega arith
+    let z = ap tokenSize h in omega arith
 
 -- the place after a token is at or before the part's end, and past the end it does not move
-pub end-within : (f : List ℕ) (at : ℕ) → at ≤ length f → at + sizeOf (tokenAt f at) ≤ length f
+pub end-within : (f : List ℕ) (at : ℕ) → at ≤ length f → at + tokenSize (tokenAt f at) ≤ length f
 end-within f at l = let h = size-within (drop at f) in let m = length-drop at f in omega arith
 
-end-stays : (f : List ℕ) (at : ℕ) → length f ≤ at → sizeOf (tokenAt f at) ≡ 0
-unfolding sizeOf
-end-stays f at l = sym (ap sizeOf (at-end f at l))
+end-stays : (f : List ℕ) (at : ℕ) → length f ≤ at → tokenSize (tokenAt f at) ≡ 0
+unfolding tokenSize
+end-stays f at l = sym (ap tokenSize (at-end f at l))
 
-pub end-most : (f : List ℕ) (at : ℕ) → at + sizeOf (tokenAt f at) ≤ max at (length f)
+pub end-most : (f : List ℕ) (at : ℕ) → at + tokenSize (tokenAt f at) ≤ max at (length f)
 end-most f at = go (ltb at (length f)) refl
   where
-    go : (x : Bool) → ltb at (length f) ≡ x → at + sizeOf (tokenAt f at) ≤ max at (length f)
+    go : (x : Bool) → ltb at (length f) ≡ x → at + tokenSize (tokenAt f at) ≤ max at (length f)
     go true e = let l = ltb-true at (length f) e in let h = end-within f at (omega arith) in omega arith
     go false e = let h = end-stays f at (ltb-false at (length f) e) in omega arith
 

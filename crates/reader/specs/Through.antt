@@ -11,7 +11,7 @@ use Rattle.theory.specs.Formula.{Formula, bottom, top, prop, negated, var, or, 
 use Rattle.formula.specs.Bytes.{bytesOf}
 use Rattle.reader.specs.declared.Token.{Token}
 use Rattle.reader.specs.declared.Token.the-variants.{Bottom, Top, Proposition, Negated, Variable, Or, And, AllNext, SomeNext, Least, Greatest, End}
-use Rattle.reader.specs.Tokens.{numbered, byCode, tokenOf, sizeOf, tokenAt, tokenEnd, placeFrom, tokensOf}
+use Rattle.reader.specs.Tokens.{propositionOf, tokenByCode, tokenOf, tokenSize, tokenAt, tokenEnd, placeFrom, tokensOf}
 
 -- n tokens from the place `at` on, each read where the one before it ends
 unfoldable pub tokensFrom : ℕ → List ℕ → ℕ → List Token
@@ -21,7 +21,7 @@ tokensFrom (suc n) f at = tokenAt f at ∷ tokensFrom n f (tokenEnd f at)
 -- the same, of the bytes that are left
 unfoldable leftTokens : ℕ → List ℕ → List Token
 leftTokens zero b = []
-leftTokens (suc n) b = tokenOf b ∷ leftTokens n (drop (sizeOf (tokenOf b)) b)
+leftTokens (suc n) b = tokenOf b ∷ leftTokens n (drop (tokenSize (tokenOf b)) b)
 
 left-tokens : (n : ℕ) (f : List ℕ) (at : ℕ) → tokensFrom n f at ≡ leftTokens n (drop at f)
 unfolding tokensFrom leftTokens
@@ -29,7 +29,7 @@ left-tokens zero f at = refl
 left-tokens (suc n) f at = simp (left-tokens n f (tokenEnd f at), drop-drop)
 
 -- one token, and those after it
-stepped : (m n : ℕ) (b : List ℕ) → leftTokens (suc m + n) b ≡ tokenOf b ∷ leftTokens (m + n) (drop (sizeOf (tokenOf b)) b)
+stepped : (m n : ℕ) (b : List ℕ) → leftTokens (suc m + n) b ≡ tokenOf b ∷ leftTokens (m + n) (drop (tokenSize (tokenOf b)) b)
 unfolding leftTokens
 stepped m n b = let e : suc m + n ≡ suc (m + n) = omega arith in rw e
 
@@ -49,11 +49,11 @@ two-parts f g n rest p q =
     rw (e, append-assoc (bytesOf f) (bytesOf g) rest, append-assoc (tokensOf f) (tokensOf g) (leftTokens n rest), p (length (tokensOf g) + n) (bytesOf g ++ rest), q)
 
 left-bytes : (φ : Formula) (n : ℕ) (rest : List ℕ) → leftTokens (length (tokensOf φ) + n) (bytesOf φ ++ rest) ≡ tokensOf φ ++ leftTokens n rest
-unfolding leftTokens tokenOf byCode sizeOf bytesOf tokensOf
+unfolding leftTokens tokenOf tokenByCode tokenSize bytesOf tokensOf
 left-bytes bottom n rest = stepped 0 n (0 ∷ rest) ∙ zero-front n Bottom rest
 left-bytes top n rest = stepped 0 n (1 ∷ rest) ∙ zero-front n Top rest
-left-bytes (prop p) n rest = stepped 0 n (2 ∷ p ∷ rest) ∙ zero-front n (Proposition (numbered p)) rest
-left-bytes (negated p) n rest = stepped 0 n (3 ∷ p ∷ rest) ∙ zero-front n (Negated (numbered p)) rest
+left-bytes (prop p) n rest = stepped 0 n (2 ∷ p ∷ rest) ∙ zero-front n (Proposition (propositionOf p)) rest
+left-bytes (negated p) n rest = stepped 0 n (3 ∷ p ∷ rest) ∙ zero-front n (Negated (propositionOf p)) rest
 left-bytes (var v) n rest = stepped 0 n (4 ∷ v ∷ rest) ∙ zero-front n (Variable v) rest
 left-bytes (or f g) n rest = stepped _ n _ ∙ ap (λ (t : List Token). Or ∷ t) (two-parts f g n rest (left-bytes f) (left-bytes g n rest))
 left-bytes (and f g) n rest = stepped _ n _ ∙ ap (λ (t : List Token). And ∷ t) (two-parts f g n rest (left-bytes f) (left-bytes g n rest))

@@ -3,7 +3,7 @@
 // proved by hand. What a part says as a whole, as its nested AX or whether a fixpoint or EX occurs, would be counted over these tokens.
 ghost use mathlib.Core.Path.{_≡_};
 ghost use Prim.Native.Nat.{_+_};
-ghost use Rattle.reader.specs.Tokens.{tokenAt, tokenEnd, sizeOf, placeFrom};
+ghost use Rattle.reader.specs.Tokens.{tokenAt, tokenEnd, tokenSize, placeFrom};
 use model::Proposition;
 
 // What stands at a place of a formula part: a code with its number, if it has one; the part's end; or neither.
@@ -78,7 +78,7 @@ pub fn token_at(f: &[u8], at: usize) -> Token
 
 // How many bytes a token has: its code, and its number if it has one. The end and a broken place have none.
 pub fn size(t: Token) -> usize
-    ensures { λ r. ⌜ r ≡ sizeOf t ⌝ }
+    ensures { λ r. ⌜ r ≡ tokenSize t ⌝ }
 {
     match t {
         Token::Proposition(_) => 2,

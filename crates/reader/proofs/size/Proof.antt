@@ -1,7 +1,7 @@
 -- `reader::size` meets its contract: each arm says which token it is.
 use mathlib.Core.Path.{sym, ap}
 use borrow.Author.Needs.{needs}
-use Rattle.reader.specs.Tokens.{sizeOf}
+use Rattle.reader.specs.Tokens.{tokenSize}
 use Rattle.reader.proofs.size.Statement.{statement}
 use Rattle.reader.proofs.size.Tie as tie
 
@@ -45,56 +45,56 @@ enum-told-13 : tie.Need-enum-told-13
 enum-told-13 c = search needs
 
 returns : tie.Need-returns
-unfolding sizeOf
-returns c = sym (ap sizeOf (c .enum-told .given .1))
+unfolding tokenSize
+returns c = sym (ap tokenSize (c .enum-told .given .1))
 
 returns-2 : tie.Need-returns-2
-unfolding sizeOf
-returns-2 c = sym (ap sizeOf (c .enum-told2 .given .1))
+unfolding tokenSize
+returns-2 c = sym (ap tokenSize (c .enum-told2 .given .1))
 
 returns-3 : tie.Need-returns-3
-unfolding sizeOf
-returns-3 c = sym (ap sizeOf (c .enum-told3 .given .1))
+unfolding tokenSize
+returns-3 c = sym (ap tokenSize (c .enum-told3 .given .1))
 
 returns-4 : tie.Need-returns-4
-unfolding sizeOf
-returns-4 c = sym (ap sizeOf (c .enum-told4 .given .1))
+unfolding tokenSize
+returns-4 c = sym (ap tokenSize (c .enum-told4 .given .1))
 
 returns-5 : tie.Need-returns-5
-unfolding sizeOf
-returns-5 c = sym (ap sizeOf (c .enum-told5 .given .1))
+unfolding tokenSize
+returns-5 c = sym (ap tokenSize (c .enum-told5 .given .1))
 
 returns-6 : tie.Need-returns-6
-unfolding sizeOf
-returns-6 c = sym (ap sizeOf (c .enum-told6 .given .1))
+unfolding tokenSize
+returns-6 c = sym (ap tokenSize (c .enum-told6 .given .1))
 
 returns-7 : tie.Need-returns-7
-unfolding sizeOf
-returns-7 c = sym (ap sizeOf (c .enum-told7 .given .1))
+unfolding tokenSize
+returns-7 c = sym (ap tokenSize (c .enum-told7 .given .1))
 
 returns-8 : tie.Need-returns-8
-unfolding sizeOf
-returns-8 c = sym (ap sizeOf (c .enum-told8 .given .1))
+unfolding tokenSize
+returns-8 c = sym (ap tokenSize (c .enum-told8 .given .1))
 
 returns-9 : tie.Need-returns-9
-unfolding sizeOf
-returns-9 c = sym (ap sizeOf (c .enum-told9 .given .1))
+unfolding tokenSize
+returns-9 c = sym (ap tokenSize (c .enum-told9 .given .1))
 
 returns-10 : tie.Need-returns-10
-unfolding sizeOf
-returns-10 c = sym (ap sizeOf (c .enum-told10 .given .1))
+unfolding tokenSize
+returns-10 c = sym (ap tokenSize (c .enum-told10 .given .1))
 
 returns-11 : tie.Need-returns-11
-unfolding sizeOf
-returns-11 c = sym (ap sizeOf (c .enum-told11 .given .1))
+unfolding tokenSize
+returns-11 c = sym (ap tokenSize (c .enum-told11 .given .1))
 
 returns-12 : tie.Need-returns-12
-unfolding sizeOf
-returns-12 c = sym (ap sizeOf (c .enum-told12 .given .1))
+unfolding tokenSize
+returns-12 c = sym (ap tokenSize (c .enum-told12 .given .1))
 
 returns-13 : tie.Need-returns-13
-unfolding sizeOf
-returns-13 c = sym (ap sizeOf (c .enum-told13 .given .1))
+unfolding tokenSize
+returns-13 c = sym (ap tokenSize (c .enum-told13 .given .1))
 
 pub size-spec : {M : Type 1} → statement M
 size-spec =

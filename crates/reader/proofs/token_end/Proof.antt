@@ -2,7 +2,7 @@
 use mathlib.Core.Path.{ap, _∙_}
 use native.Mathlib.Omega.{arith}
 use borrow.Author.Needs.{needs}
-use Rattle.reader.specs.Tokens.{sizeOf}
+use Rattle.reader.specs.Tokens.{tokenSize}
 use Rattle.reader.proofs.Laws.{end-most}
 use Rattle.reader.proofs.token_end.Statement.{statement}
 use Rattle.reader.proofs.token_end.Tie as tie
@@ -15,7 +15,7 @@ size-requires c κs = search needs
 
 add-result : tie.Need-add-result
 add-result c =
-    let e = c .size .ensures ∙ ap sizeOf (c .before .token-at .ensures) in
+    let e = c .size .ensures ∙ ap tokenSize (c .before .token-at .ensures) in
     omega (arith, e, end-most (c .before .before .before .args .f .now) (c .before .before .before .args .at))
 
 returns : tie.Need-returns
