@@ -2,7 +2,6 @@
 // The work is in functions over a slice and a place. `FormulaReader` holds both, and the functions over it are thin, since each is
 // proved by hand. What a part says as a whole, as its nested AX or whether a fixpoint or EX occurs, would be counted over these tokens.
 ghost use mathlib.Core.Path.{_≡_};
-ghost use Prim.Native.Nat.{_+_};
 ghost use Rattle.reader.specs.Tokens.{tokenAt, tokenEnd, sizeOf, placeFrom};
 use model::Proposition;
 
