@@ -2,7 +2,7 @@
 use Prim.Native.Nat.{ℕ, zero, suc, _+_, _-_, _≤_, _<_, max}
 use mathlib.Core.Path.{_≡_, refl, sym, ap, _∙_}
 use mathlib.Core.Bool.{Bool, true, false}
-use mathlib.Core.Logic.{_⊎_, inl, inr, ⊎-elim}
+use mathlib.Core.Logic.{⊎-elim}
 use mathlib.Core.List.{List, [], _∷_}
 use native.Mathlib.Nat.{eq-or-lt-of-le}
 use native.Mathlib.Numerals.{add-one, sub-one}
@@ -12,7 +12,7 @@ use lib.ListN.{length, getD, drop, drop-of-length-le, length-drop}
 use lib.Seq.{drop-cons}
 use borrow.Author.Tests.{ne-eqb, ltb-true, ltb-false}
 use Rattle.reader.specs.declared.Token.{Token}
-use Rattle.reader.specs.declared.Token.the-variants.{Bottom, Top, Proposition, Negated, Variable, Or, And, AllNext, SomeNext, Least, Greatest, End, Broken}
+use Rattle.reader.specs.declared.Token.the-variants.{Proposition, Negated, Variable, End, Broken}
 use Rattle.reader.specs.Tokens.{propositionOf, withNumber, tokenByCode, tokenOf, tokenSize, tokenAt, tokenEnd, placeFrom}
 
 module _ (f : List ℕ) (at : ℕ) where
