@@ -1,15 +1,10 @@
-// The calls with the standing lent, on worked example 4 of document 01: from open to Settled(3), and what is answered then.
-use calls::ElementAnswer;
-use calls::JudgeAnswer;
+// The calls open, step and show with the standing lent, on worked example 4 of document 01: from open to Settled(3).
 use calls::OpenAnswer;
 use calls::Opened;
-use calls::ShareAnswer;
 use calls::Standing;
 use calls::StepAnswer;
 use calls::Stepped;
 use libc::STDOUT_FILENO;
-use model::State;
-use operations::Element;
 use refusal::Refusal;
 
 // ---- each call, with a standing that is lent to it
@@ -38,47 +33,6 @@ fn step(mut s: Standing, store: &[u8], first: &mut [u8], second: &mut [u8]) -> S
 
 fn shown<'a>(mut s: Standing, store: &[u8], first: &'a [u8], second: &'a [u8]) -> &'a [u8] {
     lent::show(&mut s, store, first, second)
-}
-
-fn score<'a>(mut s: Standing, store: &[u8], first: &'a [u8], second: &'a [u8]) -> ElementAnswer {
-    lent::score(&mut s, store, first, second)
-}
-
-fn share<'a>(
-    mut s: Standing,
-    store: &[u8],
-    first: &'a [u8],
-    second: &'a [u8],
-    e: Element,
-) -> ShareAnswer {
-    lent::share(&mut s, store, first, second, e)
-}
-
-fn judge(mut s: Standing, store: &[u8], first: &[u8], second: &[u8], table: &[u8]) -> JudgeAnswer {
-    lent::judge(&mut s, store, first, second, table)
-}
-
-fn whole(
-    mut s: Standing,
-    store: &[u8],
-    first: &[u8],
-    second: &[u8],
-    f: u8,
-    m: u8,
-) -> ElementAnswer {
-    lent::whole(&mut s, store, first, second, f, m)
-}
-
-fn value(
-    mut s: Standing,
-    store: &[u8],
-    first: &[u8],
-    second: &[u8],
-    f: u8,
-    m: u8,
-    q: State,
-) -> ElementAnswer {
-    lent::value(&mut s, store, first, second, f, m, q)
 }
 
 // ---- what is printed
@@ -165,60 +119,6 @@ fn steps(s: Standing, n: u8, store: &[u8], first: &mut [u8], second: &mut [u8]) 
     t
 }
 
-fn say_element(a: ElementAnswer) {
-    match a {
-        ElementAnswer::Refused(r) => say_refusal(r),
-        ElementAnswer::Is(e) => {
-            say(b" ");
-            say_number(number(e.0));
-        }
-    }
-    say(b"\n");
-}
-
-fn say_share(a: ShareAnswer) {
-    match a {
-        ShareAnswer::Refused(r) => say_refusal(r),
-        ShareAnswer::PerCent(p) => {
-            say(b" ");
-            say_number(number(p));
-        }
-    }
-    say(b"\n");
-}
-
-fn say_judge(a: JudgeAnswer) {
-    match a {
-        JudgeAnswer::Refused(r) => say_refusal(r),
-        JudgeAnswer::Says(yes) => {
-            if yes {
-                say(b" yes");
-            } else {
-                say(b" no");
-            }
-        }
-    }
-    say(b"\n");
-}
-
-// Score, the share of element 1, and the judgement of the table of 0s.
-fn tables<'a>(s: Standing, store: &[u8], first: &'a [u8], second: &'a [u8]) {
-    say(b"score");
-    say_element(score(s, store, first, second));
-    say(b"share");
-    say_share(share(s, store, first, second, Element(1)));
-    say(b"judge");
-    say_judge(judge(s, store, first, second, b"\x00\x00\x00\x00"));
-}
-
-// The value of formula 0 at state 0 of model m, and on that model.
-fn values(s: Standing, store: &[u8], first: &[u8], second: &[u8], m: u8) {
-    say(b"value");
-    say_element(value(s, store, first, second, 0, m, State(0)));
-    say(b"whole");
-    say_element(whole(s, store, first, second, 0, m));
-}
-
 fn example(s: Standing, store: &mut [u8], first: &mut [u8], second: &mut [u8]) {
     let t = opened(
         s,
@@ -227,10 +127,7 @@ fn example(s: Standing, store: &mut [u8], first: &mut [u8], second: &mut [u8]) {
         first,
         second,
     );
-    let u = steps(t, 7, store, first, second);
-    tables(u, store, first, second);
-    values(u, store, first, second, 1);
-    values(u, store, first, second, 2);
+    let _ = steps(t, 7, store, first, second);
 }
 
 fn main() {
