@@ -193,3 +193,48 @@ impl Calls {
         })
     }
 }
+
+#[cfg(test)]
+mod tests {
+    use super::*;
+    use crate::cases::{Lattice, FIXPOINTS, NESTED};
+
+    fn calls() -> Calls {
+        Calls::new(Setting {
+            lattice: Lattice::Chain(5),
+            states1: 4,
+            states2: 3,
+            seed: 1,
+        })
+    }
+
+    /// A call that is answered differently stops the test, as it stops the benchmark.
+    #[test]
+    fn both_answer_alike() {
+        let calls = calls();
+        let times = [
+            calls.open(1),
+            calls.step(1),
+            calls.show(1),
+            calls.value(1, NESTED),
+            calls.whole(1, FIXPOINTS),
+            calls.score(1),
+            calls.share(1),
+            calls.judge(1),
+        ];
+        assert!(times.iter().all(|t| t.proved > 0.0 && t.second > 0.0));
+    }
+
+    #[test]
+    fn both_report_alike() {
+        assert!(calls().report(1).proved > 0.0);
+    }
+
+    #[test]
+    #[should_panic(expected = "the first tables differ")]
+    fn another_table_is_seen() {
+        let mut calls = calls();
+        calls.second.first[0] ^= 1;
+        calls.step(1);
+    }
+}

@@ -63,25 +63,31 @@ struct Check {
 
 /// Prints the table of calls; gives the rows of the next table.
 fn print_calls(options: &Options) -> Vec<Check> {
+    let sizes = SIZES.map(|(lattice, states)| (lattice, states, wanted(options, lattice, states)));
+    if sizes.iter().all(|(_, _, calls)| calls.is_empty()) {
+        return Vec::new();
+    }
     println!("| Lattice, elements | States | Call | Proved, µs | Second, µs | Second / proved | Middle half | Samples |");
     println!("|---|---|---|---|---|---|---|---|");
-    let checks = SIZES
-        .iter()
-        .filter_map(|&(lattice, states)| print_size(options, lattice, states))
+    let checks = sizes
+        .into_iter()
+        .filter(|(_, _, calls)| !calls.is_empty())
+        .filter_map(|(lattice, states, calls)| print_size(options.repeat, lattice, states, &calls))
         .collect();
     println!();
     checks
 }
 
-/// Prints the rows of one size; gives the times of show and step where both are asked for.
-fn print_size(options: &Options, lattice: Lattice, states: u8) -> Option<Check> {
-    let wanted: Vec<Measured> = CALLS
+/// The calls that are asked for at this size.
+fn wanted(options: &Options, lattice: Lattice, states: u8) -> Vec<Measured> {
+    CALLS
         .into_iter()
         .filter(|(call, _)| options.wants(&format!("{lattice}; {states}; {call}")))
-        .collect();
-    if wanted.is_empty() {
-        return None;
-    }
+        .collect()
+}
+
+/// Prints the rows of one size; gives the times of show and step where both are among them.
+fn print_size(repeat: usize, lattice: Lattice, states: u8, wanted: &[Measured]) -> Option<Check> {
     let calls = Calls::new(Setting {
         lattice,
         states1: states,
@@ -89,8 +95,8 @@ fn print_size(options: &Options, lattice: Lattice, states: u8) -> Option<Check> 
         seed: SEED,
     });
     let (mut show, mut step) = (None, None);
-    for (call, measure) in wanted {
-        let times = measure(&calls, options.repeat);
+    for &(call, measure) in wanted {
+        let times = measure(&calls, repeat);
         print!("| {lattice} | {states} | {call}");
         match call {
             "report" => print!(", {} rounds", calls.rounds()),
