@@ -122,8 +122,8 @@ fn print_checks(checks: &[Check]) {
     }
     println!(
         "Every call but open begins with the check of its desk: the store is read as a case and its lattice's tables are worked out anew, then \
-         the standing and both tables are looked at. show does this and nothing else, so its time is taken for the check's, and the rest of \
-         a step is the row.\n"
+         the standing and both tables are looked at. show does this and nothing else (the second one's show also copies the table), so its time is taken for the check's, and \
+         the rest of a step is the row.\n"
     );
     println!("| Lattice, elements | States | Check, proved, µs | Step, proved, µs | Check's share of a step, proved | The same, second |");
     println!("|---|---|---|---|---|---|");
@@ -143,19 +143,23 @@ fn print_checks(checks: &[Check]) {
 
 // ---- the growth of a step
 
-/// N1, N2 and n of each row: one of them grows and the others stay.
-const GROWTH: [(u8, u8, u8); 13] = [
+/// N1, N2 and n of each row: N1 grows and the others stay, then N2, then n, then N1 and N2.
+const GROWTH: [(u8, u8, u8); 17] = [
     (8, 16, 16),
     (16, 16, 16),
     (32, 16, 16),
     (64, 16, 16),
     (16, 8, 16),
+    (16, 16, 16),
     (16, 32, 16),
     (16, 64, 16),
     (16, 16, 4),
     (16, 16, 8),
+    (16, 16, 16),
     (16, 16, 32),
     (16, 16, 64),
+    (8, 8, 16),
+    (16, 16, 16),
     (32, 32, 16),
     (64, 64, 16),
 ];
@@ -167,7 +171,8 @@ fn print_growth(options: &Options) {
         return;
     }
     println!(
-        "How a step grows, on chains of n elements. The row is what the step takes beyond the check, the difference of the two medians.\n"
+        "How a step grows, on chains of n elements: first with N1 alone, then with N2, then with n, the others being 16, then with both \
+         models. The row is what the step takes beyond the check, the difference of the two medians.\n"
     );
     println!("| N1 | N2 | n | Step, proved, µs | Step, second, µs | Second / proved | Check, proved, µs | Row, proved, µs |");
     println!("|---|---|---|---|---|---|---|---|");
@@ -208,15 +213,25 @@ fn columns(times: &Times) -> String {
     )
 }
 
-/// Nanoseconds as microseconds, with three figures or all before the point.
+/// Nanoseconds as microseconds, with three figures or all before the point, these in groups of three.
 fn micros(nanos: f64) -> String {
     let micros = nanos / 1000.0;
-    let decimals = match micros.abs() {
-        size if size < 10.0 => 2,
-        size if size < 100.0 => 1,
-        _ => 0,
-    };
-    format!("{micros:.decimals$}")
+    match micros.abs() {
+        size if size < 10.0 => format!("{micros:.2}"),
+        size if size < 100.0 => format!("{micros:.1}"),
+        _ => grouped(&format!("{micros:.0}")),
+    }
+}
+
+fn grouped(digits: &str) -> String {
+    let mut text = String::new();
+    for (place, digit) in digits.chars().enumerate() {
+        if place > 0 && (digits.len() - place).is_multiple_of(3) {
+            text.push(',');
+        }
+        text.push(digit);
+    }
+    text
 }
 
 fn per_cent(part: f64, whole: f64) -> String {
@@ -231,7 +246,9 @@ mod tests {
     fn figures() {
         assert_eq!(micros(1_234.0), "1.23");
         assert_eq!(micros(12_340.0), "12.3");
-        assert_eq!(micros(1_234_000.0), "1234");
+        assert_eq!(micros(123_400.0), "123");
+        assert_eq!(micros(1_234_000.0), "1,234");
+        assert_eq!(micros(1_234_567_890.0), "1,234,568");
         assert_eq!(per_cent(1.0, 3.0), "33 %");
     }
 }
