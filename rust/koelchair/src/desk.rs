@@ -1,0 +1,143 @@
+//! A desk that owns its standing, its store and both tables.
+
+use crate::{Element, Refusal, Standing, State, StepAnswer, STORE_LENGTH, TABLE_LENGTH};
+use std::fmt;
+
+/// A desk with an accepted case. It owns its standing, store and tables, which only its calls alter, so that by demand 3 none
+/// of its calls is refused with 11 or 12.
+#[derive(Clone)]
+pub struct Desk {
+    standing: Standing,
+    store: Box<[u8]>,
+    first: Box<[u8]>,
+    second: Box<[u8]>,
+}
+
+/// Why a call of a desk is never refused: what only open made and these calls moved on keeps the rules.
+const KEPT: &str = "a desk that only its calls moved on keeps the rules of 11 and 12";
+
+impl Desk {
+    /// Takes a case and makes a desk of it: unsettled, at round 0 and next row 0, its table all top.
+    ///
+    /// Refused with 1 to 10.
+    pub fn open(case: &[u8]) -> Result<Desk, Refusal> {
+        let mut desk = Desk {
+            standing: Standing::default(),
+            store: vec![0; STORE_LENGTH].into_boxed_slice(),
+            first: vec![0; TABLE_LENGTH].into_boxed_slice(),
+            second: vec![0; TABLE_LENGTH].into_boxed_slice(),
+        };
+        desk.replace(case)?;
+        Ok(desk)
+    }
+
+    /// Takes another case, which replaces the former one.
+    ///
+    /// Refused with 1 to 10; then the desk stays as it was.
+    pub fn replace(&mut self, case: &[u8]) -> Result<(), Refusal> {
+        crate::open(
+            &mut self.standing,
+            case,
+            &mut self.store,
+            &mut self.first,
+            &mut self.second,
+        )
+    }
+
+    /// Works the next row of the next round in the table that is not shown; after the last row the new table is the shown one.
+    /// A settled desk answers [`StepAnswer::Settled`] again and is left unchanged.
+    pub fn step(&mut self) -> StepAnswer {
+        crate::step(
+            &mut self.standing,
+            &self.store,
+            &mut self.first,
+            &mut self.second,
+        )
+        .expect(KEPT)
+    }
+
+    /// Steps until the desk is settled, and gives T, the least t above 0 for which round t equals round t − 1.
+    pub fn settle(&mut self) -> u32 {
+        loop {
+            if let StepAnswer::Settled(rounds) = self.step() {
+                return rounds;
+            }
+        }
+    }
+
+    /// The shown table, of N1·N2 bytes; entry (q1, q2) is byte q1·N2 + q2. Its round is that of the standing.
+    pub fn show(&self) -> &[u8] {
+        crate::show(&self.standing, &self.store, &self.first, &self.second)
+    }
+
+    /// A formula's element at a state of model 1 or 2. Formulas are numbered from 0.
+    ///
+    /// Refused with 13 where the formula, the model or the state is not in the case.
+    pub fn value(&self, formula: u8, model: u8, state: State) -> Result<Element, Refusal> {
+        let Desk {
+            standing,
+            store,
+            first,
+            second,
+        } = self;
+        crate::value(standing, store, first, second, formula, model, state)
+    }
+
+    /// A formula's element on the whole of model 1 or 2.
+    ///
+    /// Refused with 13 where the formula or the model is not in the case.
+    pub fn whole(&self, formula: u8, model: u8) -> Result<Element, Refusal> {
+        let Desk {
+            standing,
+            store,
+            first,
+            second,
+        } = self;
+        crate::whole(standing, store, first, second, formula, model)
+    }
+
+    /// The score of the shown table.
+    pub fn score(&self) -> Element {
+        crate::score(&self.standing, &self.store, &self.first, &self.second).expect(KEPT)
+    }
+
+    /// The per cent of shown entries at or above an element, rounded to whole per cent, halves up.
+    ///
+    /// Refused with 13 where the element is not of the lattice.
+    pub fn share(&self, element: Element) -> Result<u8, Refusal> {
+        let Desk {
+            standing,
+            store,
+            first,
+            second,
+        } = self;
+        crate::share(standing, store, first, second, element)
+    }
+
+    /// Whether a table of N1·N2 elements is a simulation.
+    ///
+    /// Refused with 13 where the table has another length or a byte that is no element.
+    pub fn judge(&self, table: &[u8]) -> Result<bool, Refusal> {
+        let Desk {
+            standing,
+            store,
+            first,
+            second,
+        } = self;
+        crate::judge(standing, store, first, second, table)
+    }
+
+    /// Where the desk stands.
+    pub fn standing(&self) -> Standing {
+        self.standing
+    }
+}
+
+impl fmt::Debug for Desk {
+    fn fmt(&self, f: &mut fmt::Formatter) -> fmt::Result {
+        f.debug_struct("Desk")
+            .field("standing", &self.standing)
+            .field("shown", &self.show())
+            .finish_non_exhaustive()
+    }
+}

@@ -1,0 +1,147 @@
+//! Worked examples 1, 2, 4 and 6 of document 01 and its listing, by the desk and by the functions.
+
+use crate::cases::{self, Lent};
+use koelchair::{Desk, Element, State, StepAnswer};
+
+/// The answers of all steps up to the settling one, each with the table shown after it. The desk and the functions, over longer
+/// buffers with other content, must give the same.
+fn steps(case: &[u8]) -> Vec<(StepAnswer, Vec<u8>)> {
+    let mut desk = Desk::open(case).expect("an accepted case");
+    let mut lent = Lent::of(0xA5, 3);
+    assert_eq!(lent.open(case), Ok(()));
+    let mut seen = Vec::new();
+    loop {
+        assert_eq!(desk.standing(), lent.standing);
+        assert_eq!(desk.show(), lent.show());
+        let answer = desk.step();
+        assert_eq!(lent.step(), Ok(answer));
+        seen.push((answer, desk.show().to_vec()));
+        if let StepAnswer::Settled(_) = answer {
+            break;
+        }
+    }
+    assert_kept_beyond(&lent);
+    let standing = desk.standing();
+    assert_eq!(desk.step(), seen[seen.len() - 1].0);
+    assert_eq!(desk.standing(), standing);
+    seen
+}
+
+/// Bytes past N1·N2 of a table and past 24,576 of the store are as they were.
+fn assert_kept_beyond(lent: &Lent) {
+    let count = lent.show().len();
+    assert!(lent.first[count..].iter().all(|&byte| byte == 0xA5));
+    assert!(lent.second[count..].iter().all(|&byte| byte == 0xA5));
+    let beyond = &lent.store[koelchair::STORE_LENGTH..];
+    assert!(beyond.iter().all(|&byte| byte == 0xA5));
+}
+
+#[test]
+fn example_1() {
+    let case = cases::example_1();
+    let seen = steps(&case);
+    assert_eq!(
+        seen,
+        [
+            (StepAnswer::Round(1), vec![1]),
+            (StepAnswer::Settled(2), vec![1])
+        ]
+    );
+    let mut desk = Desk::open(&case).unwrap();
+    assert_eq!(desk.show(), [2]);
+    assert_eq!(desk.settle(), 2);
+    assert_eq!(desk.score(), Element(1));
+    assert_eq!(desk.value(0, 1, State(0)), Ok(Element(1)));
+    assert_eq!(desk.whole(0, 2), Ok(Element(1)));
+    assert_eq!(desk.share(Element(1)), Ok(100));
+    assert_eq!(desk.share(Element(2)), Ok(0));
+    assert_eq!(desk.judge(&[1]), Ok(true));
+    assert_eq!(desk.judge(&[2]), Ok(false));
+}
+
+#[test]
+fn example_2() {
+    assert_eq!(
+        steps(&cases::example_2()),
+        [
+            (StepAnswer::Round(1), vec![0]),
+            (StepAnswer::Settled(2), vec![0])
+        ]
+    );
+    assert_eq!(
+        steps(&cases::example_2_exchanged()),
+        [(StepAnswer::Settled(1), vec![1])]
+    );
+}
+
+#[test]
+fn example_4() {
+    let case = cases::example_4();
+    let (round_0, round_1, round_2) = (vec![1; 4], vec![1, 0, 0, 0], vec![0; 4]);
+    assert_eq!(
+        steps(&case),
+        [
+            (StepAnswer::Row, round_0),
+            (StepAnswer::Round(1), round_1.clone()),
+            (StepAnswer::Row, round_1),
+            (StepAnswer::Round(2), round_2.clone()),
+            (StepAnswer::Row, round_2.clone()),
+            (StepAnswer::Settled(3), round_2),
+        ]
+    );
+    let desk = Desk::open(&case).unwrap();
+    assert_eq!(desk.value(0, 2, State(0)), Ok(Element(1)));
+    assert_eq!(desk.value(0, 1, State(0)), Ok(Element(0)));
+}
+
+#[test]
+fn example_4_by_the_functions() {
+    let lent = Lent::opened(&cases::example_4());
+    let (standing, store, first, second) = (&lent.standing, &lent.store, &lent.first, &lent.second);
+    let value = |model| koelchair::value(standing, store, first, second, 0, model, State(0));
+    assert_eq!(value(2), Ok(Element(1)));
+    assert_eq!(value(1), Ok(Element(0)));
+    let whole = |model| koelchair::whole(standing, store, first, second, 0, model);
+    assert_eq!(whole(2), Ok(Element(1)));
+    assert_eq!(whole(1), Ok(Element(0)));
+    assert_eq!(
+        koelchair::score(standing, store, first, second),
+        Ok(Element(1))
+    );
+    let judge = |table: &[u8]| koelchair::judge(standing, store, first, second, table);
+    assert_eq!(judge(&[0; 4]), Ok(true));
+    assert_eq!(judge(&[1, 0, 0, 0]), Ok(false));
+}
+
+#[test]
+fn example_6() {
+    let one = cases::case(&[&cases::L1, &[1, 0, 0, 0], &[1, 0, 0, 0]]);
+    assert_eq!(steps(&one), [(StepAnswer::Settled(1), vec![0])]);
+    for (ones, per_cent) in [(0, 0), (1, 13), (3, 38), (4, 50), (8, 100)] {
+        let mut desk = Desk::open(&cases::eighths(ones)).unwrap();
+        desk.settle();
+        assert_eq!(desk.share(Element(1)), Ok(per_cent), "{ones} in 8");
+        let mut lent = Lent::opened(&cases::eighths(ones));
+        while !lent.standing.settled {
+            lent.step().unwrap();
+        }
+        let (store, first, second) = (&lent.store, &lent.first, &lent.second);
+        let share = koelchair::share(&lent.standing, store, first, second, Element(1));
+        assert_eq!(share, Ok(per_cent), "{ones} in 8");
+    }
+}
+
+#[test]
+fn the_listing() {
+    let case = cases::example_1();
+    let lines = "rounds 2\nrow 0: 1\nscore 1\nformula 0: 1 1\n";
+    assert_eq!(koelchair::listing(&case), lines);
+    assert_eq!(koelchair::listing(&[]), "refused 1 255\n");
+}
+
+#[test]
+fn a_desk_goes_to_another_thread() {
+    let mut desk = Desk::open(&cases::example_4()).unwrap();
+    let settled = std::thread::spawn(move || desk.settle());
+    assert_eq!(settled.join().unwrap(), 3);
+}
