@@ -14,7 +14,8 @@
    Every length and every content of bytes is an input that gets an answer, and so is every standing.
 
    Nothing is kept between calls, so calls on different desks may run in different threads at the same time, and so may calls on one
-   desk that write nothing. */
+   desk that write nothing. No call takes memory from a heap. The stack that each takes is measured by examples/c/stack.c: see
+   docs/PERFORMANCE.md. */
 #ifndef KOELCHAIR_H
 #define KOELCHAIR_H
 

@@ -13,11 +13,11 @@ use Rattle.calls.specs.Answer.{Does}
 use Rattle.desk.specs.Desk.{Desk, Call, Question, Reply, wholeTable}
 use Rattle.desk.specs.Case.{tableSize}
 use Rattle.desk.specs.Refused.{examined, accepted}
-use Rattle.desk.specs.Perform.{After, perform, answer, moved}
-use Rattle.desk.specs.RefusedLaws.{Long, long-enough, Unspoiled, perform-refused, perform-accepted, other-accepted, accepted-content, refused-refusal}
+use Rattle.desk.specs.Perform.{After, answer, moved}
+use Rattle.desk.specs.RefusedLaws.{long-enough, Unspoiled, perform-refused, perform-accepted, other-accepted, accepted-content, refused-refusal}
 use Rattle.exports.specs.declared.Answer.{Answer}
 use Rattle.exports.specs.declared.Shown.{Shown}
-use Rattle.exports.specs.Numbers.{numbers, Tells, named, namedBytes, Names}
+use Rattle.exports.specs.Numbers.{numbers, Tells, named, Names}
 
 -- ---- the numbers lose nothing of a reply
 

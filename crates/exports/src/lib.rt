@@ -15,7 +15,7 @@ ghost use Rattle.calls.specs.Read.{deskOf};
 ghost use Rattle.calls.specs.Answer.{stepReply, openReply, elementReply, shareReply, judgeReply};
 ghost use Rattle.exports.specs.Numbers.{given, numbers, Tells, Names};
 
-// What every call but show answers. Kinds: 0 refused, 1 opened, 2 row, 3 round, 4 settled, 5 element, 6 per cent, 7 says.
+// What every call but show answers; specs/Numbers.antt has the kinds.
 #[repr(C)]
 pub struct Answer {
     pub kind: u8,
