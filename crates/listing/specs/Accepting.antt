@@ -1,0 +1,107 @@
+-- What the code of the listing knows of an accepted case: its formulas' values on the models. Rests on Text, Writing and casefile's Caller.
+use Prim.Native.Nat.{ℕ, _+_, _≤_, _<_}
+use mathlib.Core.Path.{_≡_, refl, sym, ap, ap₂, _∙_}
+use mathlib.Core.Bool.{Bool, true, false, _||_}
+use mathlib.Core.List.{List}
+use native.Mathlib.Omega.{arith}
+use borrow.Author.Tests.{eqb-true}
+use lib.Dec.{eqb}
+use lib.ListN.{length, getD}
+use Rattle.theory.specs.Lattice.{Ops, Laws}
+use Rattle.theory.specs.Model.{Model}
+use Rattle.theory.specs.Part.{modelOf, ModelShape}
+use Rattle.theory.specs.Value.{wholeValue}
+use Rattle.theory.specs.Simulation.{round, FirstUnchanged, SameTable}
+use Rattle.operations.specs.declared.Lattice.{Lattice}
+use Rattle.operations.specs.Table.{opsIn}
+use Rattle.formula.specs.Bytes.{read, formulaReading}
+use Rattle.casefile.specs.declared.Sizes.{Sizes}
+use Rattle.casefile.specs.Directory.{partCount, partAt}
+use Rattle.casefile.specs.Conditions.{Placed}
+use Rattle.casefile.specs.Reading.{Content, content, caseReading}
+use Rattle.casefile.specs.Caller.{AcceptedCase}
+use Rattle.valuer.specs.Values.{Reads, WholeValue}
+use Rattle.rounds.specs.Table.{tableOf, Shaped}
+use Rattle.desk.specs.Case.{ops, modelIn, formulaIn}
+use Rattle.listing.specs.Text.{formulaLine, formulasText, tableText, listingText}
+
+-- a case is read as one content
+pub same-content : (b : List ℕ) (c d : Content) → caseReading b ≡ content c → caseReading b ≡ content d → c ≡ d
+same-content b c d p q = cc
+
+-- ---- a formula's value on model 1 or 2
+
+-- formula f and model m of the case b, with its sizes z and the tables t
+pub record InCase (b : List ℕ) (z : Sizes) (t : List ℕ) (f m : ℕ) : Type 0 where
+  pub case : AcceptedCase b z t
+  pub formula : f < z .formulas
+  pub model : (eqb m 1 || eqb m 2) ≡ true
+
+-- model m is that part of the case
+record ModelHeld (b : List ℕ) (c : Content) (m : ℕ) : Type 0 where
+  shape : ModelShape (partAt b m)
+  is : modelOf (partAt b m) ≡ modelIn c m
+  propositions : getD (partAt b m) 1 0 ≡ getD (c .model1Bytes) 1 0
+  low : m < 3
+
+-- what valuing asks: the parts stand in the case, and read as a model and a formula
+pub record Valuable (b : List ℕ) (f m : ℕ) : Type 0 where
+  pub placed : Placed b
+  pub model-in : m < partCount b
+  pub formula-in : 3 + f < partCount b
+  pub few : partCount b ≤ 11
+  pub shape : ModelShape (partAt b m)
+  pub reads : Reads (partAt b m) (partAt b (3 + f))
+
+module _ {b : List ℕ} {z : Sizes} {t : List ℕ} {f m : ℕ} (h : InCase b z t f m) where
+  abbrev held : Content
+  held = h .case .holds
+
+  model-held : ModelHeld b held m
+  model-held = go (eqb m 1) refl (h .model)
+    where
+      go : (x : Bool) → eqb m 1 ≡ x → (x || eqb m 2) ≡ true → ModelHeld b held m
+      go true e r = let q : m ≡ 1 = eqb-true m 1 e in rw q (record { shape = rw (h .case .parts .model1) (h .case .sound .shape1); is = ap modelOf (h .case .parts .model1); propositions = rw (h .case .parts .model1); low = omega arith })
+      go false e r = let q : m ≡ 2 = eqb-true m 2 r in rw q (record { shape = rw (h .case .parts .model2) (h .case .sound .shape2); is = ap modelOf (h .case .parts .model2); propositions = rw (h .case .parts .model2) (sym (h .case .sound .same-propositions)); low = omega arith })
+
+  formula-below : f < length (held .formulas)
+  formula-below = rw (h .case .sizes) at (h .formula)
+
+  reads-formula : formulaReading (getD (partAt b m) 1 0) (partAt b (3 + f)) ≡ read (formulaIn held f)
+  reads-formula = rw (model-held .propositions, h .case .parts .formula f formula-below) (h .case .sound .formulas .each f formula-below)
+
+  pub valuable : Valuable b f m
+  valuable =
+      record {
+        placed = h .case .placed;
+        model-in = omega (arith, model-held .low, h .case .parts .least);
+        formula-in = omega (arith, formula-below, h .case .parts .count);
+        few = h .case .placed .directory .count-most;
+        shape = model-held .shape;
+        reads = (formulaIn held f, reads-formula);
+      }
+
+  pub whole-is : (x : ℕ) → WholeValue t (z .lattice) (partAt b m) (partAt b (3 + f)) x → (c : Content) → caseReading b ≡ content c → x ≡ wholeValue (ops c) (modelIn c m) (formulaIn c f)
+  whole-is x v c e = rw (← same-content b held c (h .case .reads) e) (rw (model-held .is, h .case .tables) at (v .is (formulaIn held f) reads-formula))
+
+-- ---- the formulas' lines
+
+-- there is room for the line of formula f, and for those of all formulas
+pub record FormulaFits (b : List ℕ) (z : Sizes) (t : List ℕ) (f : ℕ) (text : List ℕ) (at : ℕ) : Type 0 where
+  pub case : AcceptedCase b z t
+  pub formula : f < z .formulas
+  pub room : at + length (formulaLine (case .holds) f) ≤ length text
+
+pub record FormulasFit (b : List ℕ) (z : Sizes) (t text : List ℕ) (at : ℕ) : Type 0 where
+  pub case : AcceptedCase b z t
+  pub room : at + length (formulasText (case .holds)) ≤ length text
+
+-- ---- the settled table
+
+-- two model parts with a lattice, and room for the text of their settled table
+pub record Settleable (t : List ℕ) (l : Lattice) (m₁ m₂ text : List ℕ) : Type 0 where
+  pub first : ModelShape m₁
+  pub second : ModelShape m₂
+  pub same-propositions : getD m₁ 1 0 ≡ getD m₂ 1 0
+  pub laws : Laws (opsIn t l)
+  pub room : (T : ℕ) → FirstUnchanged (opsIn t l) (modelOf m₁) (modelOf m₂) T → 0 + length (tableText (opsIn t l) (modelOf m₁) (modelOf m₂) T (round (opsIn t l) (modelOf m₁) (modelOf m₂) T)) ≤ length text

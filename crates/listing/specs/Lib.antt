@@ -1,0 +1,7 @@
+-- The text of a case's listing: its definition, then what the code rests on.
+-- ---- what a reader must believe
+pub mod Text
+-- ---- for the code
+pub mod Writing
+pub mod Settling
+pub mod Accepting
