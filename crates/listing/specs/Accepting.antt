@@ -23,7 +23,7 @@ use Rattle.casefile.specs.Caller.{AcceptedCase}
 use Rattle.valuer.specs.Values.{Reads, WholeValue}
 use Rattle.rounds.specs.Table.{tableOf, Shaped}
 use Rattle.desk.specs.Case.{ops, modelIn, formulaIn}
-use Rattle.listing.specs.Text.{formulaLine, formulasText, tableText, listingText}
+use Rattle.listing.specs.Text.{each, formulaLine, formulasText, tableText, listingText}
 
 -- a case is read as one content
 pub same-content : (b : List ℕ) (c d : Content) → caseReading b ≡ content c → caseReading b ≡ content d → c ≡ d
@@ -53,16 +53,19 @@ pub record Valuable (b : List ℕ) (f m : ℕ) : Type 0 where
   pub shape : ModelShape (partAt b m)
   pub reads : Reads (partAt b m) (partAt b (3 + f))
 
+model-in-case : {b : List ℕ} {z : Sizes} {t : List ℕ} (a : AcceptedCase b z t) (m : ℕ) → (eqb m 1 || eqb m 2) ≡ true → ModelHeld b (a .holds) m
+model-in-case {b} a m r = go (eqb m 1) refl r
+  where
+    go : (x : Bool) → eqb m 1 ≡ x → (x || eqb m 2) ≡ true → ModelHeld b (a .holds) m
+    go true e r = let q : m ≡ 1 = eqb-true m 1 e in rw q (record { shape = rw (a .parts .model1) (a .sound .shape1); is = ap modelOf (a .parts .model1); propositions = rw (a .parts .model1); low = omega arith })
+    go false e r = let q : m ≡ 2 = eqb-true m 2 r in rw q (record { shape = rw (a .parts .model2) (a .sound .shape2); is = ap modelOf (a .parts .model2); propositions = rw (a .parts .model2) (sym (a .sound .same-propositions)); low = omega arith })
+
 module _ {b : List ℕ} {z : Sizes} {t : List ℕ} {f m : ℕ} (h : InCase b z t f m) where
   abbrev held : Content
   held = h .case .holds
 
   model-held : ModelHeld b held m
-  model-held = go (eqb m 1) refl (h .model)
-    where
-      go : (x : Bool) → eqb m 1 ≡ x → (x || eqb m 2) ≡ true → ModelHeld b held m
-      go true e r = let q : m ≡ 1 = eqb-true m 1 e in rw q (record { shape = rw (h .case .parts .model1) (h .case .sound .shape1); is = ap modelOf (h .case .parts .model1); propositions = rw (h .case .parts .model1); low = omega arith })
-      go false e r = let q : m ≡ 2 = eqb-true m 2 r in rw q (record { shape = rw (h .case .parts .model2) (h .case .sound .shape2); is = ap modelOf (h .case .parts .model2); propositions = rw (h .case .parts .model2) (sym (h .case .sound .same-propositions)); low = omega arith })
+  model-held = model-in-case (h .case) m (h .model)
 
   formula-below : f < length (held .formulas)
   formula-below = rw (h .case .sizes) at (h .formula)
@@ -95,6 +98,14 @@ pub record FormulaFits (b : List ℕ) (z : Sizes) (t : List ℕ) (f : ℕ) (text
 pub record FormulasFit (b : List ℕ) (z : Sizes) (t text : List ℕ) (at : ℕ) : Type 0 where
   pub case : AcceptedCase b z t
   pub room : at + length (formulasText (case .holds)) ≤ length text
+
+module _ {b : List ℕ} {z : Sizes} {t : List ℕ} (a : AcceptedCase b z t) (c : Content) (e : caseReading b ≡ content c) where
+  pub formulas-are : each (z .formulas) (formulaLine c) ≡ formulasText c
+  unfolding formulasText
+  formulas-are = let q : a .holds ≡ c = same-content b (a .holds) c (a .reads) e in ap (λ (n : ℕ). each n (formulaLine c)) (ap (λ (x : Sizes). x .formulas) (a .sizes) ∙ ap (λ (x : Content). length (x .formulas)) q)
+
+pub formulas-room : {b : List ℕ} {z : Sizes} {t text : List ℕ} {at : ℕ} → FormulasFit b z t text at → (c : Content) → caseReading b ≡ content c → at + length (each (z .formulas) (formulaLine c)) ≤ length text
+formulas-room {b} h c e = rw (formulas-are (h .case) c e, ← same-content b (h .case .holds) c (h .case .reads) e) (h .room)
 
 -- ---- the settled table
 

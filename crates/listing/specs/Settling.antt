@@ -1,20 +1,20 @@
 -- Rounds that are worked until one equals the one before: what a table holds on the way and at the end.
 -- Rests on theory's Simulation, Rounds and Sharp, and rounds' Round.
 use Prim.Native.Nat.{ℕ, suc, _+_, _*_, _-_, _≤_, _<_}
-use mathlib.Core.Path.{_≡_, sym, subst, _∙_}
+use mathlib.Core.Path.{_≡_, sym, subst, ap, ap₂, _∙_}
 use mathlib.Core.Bool.{Bool, true, false}
-use mathlib.Core.List.{List}
+use mathlib.Core.List.{List, _++_}
 use mathlib.Core.Logic.{⊎-elim}
 use native.Mathlib.Nat.{eq-or-lt-of-le}
 use native.Mathlib.Numerals.{add-one}
 use native.Mathlib.Omega.{arith}
-use lib.ListN.{length, getD, replicate, getD-replicate}
+use lib.ListN.{length, getD, replicate, length-replicate, getD-replicate}
 use Rattle.theory.specs.Lattice.{Ops, Laws}
 use Rattle.theory.specs.Model.{Model}
-use Rattle.theory.specs.Part.{modelOf}
+use Rattle.theory.specs.Part.{modelOf, ModelShape}
 use Rattle.theory.specs.Simulation.{F, round, SameTable, FirstUnchanged}
 use Rattle.theory.specs.Fixpoint.{chain-size}
-use Rattle.theory.specs.Rounds.{F-mono, F-element, exists-T}
+use Rattle.theory.specs.Rounds.{F-mono, F-element, exists-T, T-unique, score-cong}
 use Rattle.theory.specs.Sharp.{T-sharp}
 use Rattle.theory.specs.TestLaws.{false-true}
 use Rattle.operations.specs.declared.Lattice.{Lattice}
@@ -22,6 +22,8 @@ use Rattle.operations.specs.Table.{opsIn}
 use Rattle.model.specs.Places.{prod-le}
 use Rattle.rounds.specs.Table.{tableOf, Shaped}
 use Rattle.rounds.specs.Round.{F-reads, top-round, RoundSoFar, RoundDone, round-done}
+use Rattle.listing.specs.Text.{blank, lineEnd, rowWord, roundsWord, scoreWord, item, lastItem, heading, rowText, tableText}
+use Rattle.listing.specs.Writing.{each-cong}
 
 -- two model parts with a lattice, a table s for their states that holds round 0, and room in another
 pub record Startable (t : List ℕ) (l : Lattice) (m₁ m₂ s other : List ℕ) : Type 0 where
@@ -93,3 +95,25 @@ module _ {O : Ops ℕ} {M₁ M₂ : Model ℕ} {s : List ℕ} {r : ℕ} where
 
     pub settled-read : changed ≡ false → SettledAt O M₁ M₂ s (r + 1)
     settled-read e = rw add-one (record { isT = first-unchanged e; holds = λ q₁ l q₂ m. h .holds q₁ l q₂ m ∙ sym (done .unchanged .0 e q₁ l q₂ m) })
+
+-- two tables of 4,096 bytes, all top
+pub tops-start : (t : List ℕ) (l : Lattice) (m₁ m₂ : List ℕ) → ModelShape m₁ → ModelShape m₂ → getD m₁ 1 0 ≡ getD m₂ 1 0 → Laws (opsIn t l) → Startable t l m₁ m₂ (replicate 4096 (l .top .0)) (replicate 4096 (l .top .0))
+tops-start t l m₁ m₂ a b k L =
+    let n = prod-le _ _ 64 64 (a .states-most) (b .states-most) in
+    let f : getD m₁ 0 0 * getD m₂ 0 0 ≤ length (replicate 4096 (l .top .0)) = rw length-replicate n in
+    record {
+      shaped = record { first = a; second = b; same-propositions = k; held = f };
+      room = f;
+      laws = L;
+      start = top-start (opsIn t l) (modelOf m₁) (modelOf m₂) 4096 n;
+    }
+
+-- the text of a settled table is that of round T
+pub settled-text : {O : Ops ℕ} {M₁ M₂ : Model ℕ} {s : List ℕ} {r : ℕ} → SettledAt O M₁ M₂ s r → (T : ℕ) → FirstUnchanged O M₁ M₂ T → tableText O M₁ M₂ r (tableOf s (M₂ .states)) ≡ tableText O M₁ M₂ T (round O M₁ M₂ T)
+unfolding tableText rowText
+settled-text {O} {M₁} {M₂} {s} {r} h T f =
+    let e : T ≡ r = T-unique O M₁ M₂ (F O M₁ M₂) T r f (h .isT) in
+    rw e
+    (ap₂ (λ (x : List ℕ) (y : ℕ). lastItem roundsWord r ++ x ++ lastItem scoreWord y)
+    (each-cong (M₁ .states) _ _ (λ q₁ l. ap (λ (x : List ℕ). heading rowWord q₁ ++ x ++ lineEnd) (each-cong (M₂ .states) _ _ (λ q₂ m. ap (item blank) (h .holds q₁ l q₂ m)))))
+    (score-cong O M₁ M₂ (h .holds)))
