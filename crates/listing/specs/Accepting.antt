@@ -3,6 +3,7 @@ use Prim.Native.Nat.{ℕ, _+_, _≤_, _<_}
 use mathlib.Core.Path.{_≡_, refl, sym, ap, ap₂, _∙_}
 use mathlib.Core.Bool.{Bool, true, false, _||_}
 use mathlib.Core.List.{List}
+use native.Mathlib.Nat.{zero-add}
 use native.Mathlib.Omega.{arith}
 use borrow.Author.Tests.{eqb-true}
 use lib.Dec.{eqb}
@@ -12,18 +13,23 @@ use Rattle.theory.specs.Model.{Model}
 use Rattle.theory.specs.Part.{modelOf, ModelShape}
 use Rattle.theory.specs.Value.{wholeValue}
 use Rattle.theory.specs.Simulation.{round, FirstUnchanged, SameTable}
+use Rattle.theory.specs.Lists.{written}
 use Rattle.operations.specs.declared.Lattice.{Lattice}
 use Rattle.operations.specs.Table.{opsIn}
 use Rattle.formula.specs.Bytes.{read, formulaReading}
+use Rattle.refusal.specs.declared.Refusal.{Refusal}
 use Rattle.casefile.specs.declared.Sizes.{Sizes}
 use Rattle.casefile.specs.Directory.{partCount, partAt}
 use Rattle.casefile.specs.Conditions.{Placed}
-use Rattle.casefile.specs.Reading.{Content, content, caseReading}
+use Rattle.casefile.specs.Reading.{Content, refused, content, caseReading}
 use Rattle.casefile.specs.Caller.{AcceptedCase}
 use Rattle.valuer.specs.Values.{Reads, WholeValue}
 use Rattle.rounds.specs.Table.{tableOf, Shaped}
-use Rattle.desk.specs.Case.{ops, modelIn, formulaIn}
-use Rattle.listing.specs.Text.{each, formulaLine, formulasText, tableText, listingText}
+use Rattle.desk.specs.Case.{ops, model1, model2, modelIn, formulaIn, roundIn}
+use Rattle.listing.specs.Text.{each, formulaLine, formulasText, tableText, refusedText, settledRound, acceptedText, listingText}
+use Rattle.listing.specs.Writing.{Wrote, wrote-then, fits-then}
+use Rattle.listing.specs.Most.{table-most, text-most}
+use Rattle.listing.specs.Listed.{settled-isT, listing-is}
 
 -- a case is read as one content
 pub same-content : (b : List ℕ) (c d : Content) → caseReading b ≡ content c → caseReading b ≡ content d → c ≡ d
@@ -116,3 +122,42 @@ pub record Settleable (t : List ℕ) (l : Lattice) (m₁ m₂ text : List ℕ) :
   pub same-propositions : getD m₁ 1 0 ≡ getD m₂ 1 0
   pub laws : Laws (opsIn t l)
   pub room : (T : ℕ) → FirstUnchanged (opsIn t l) (modelOf m₁) (modelOf m₂) T → 0 + length (tableText (opsIn t l) (modelOf m₁) (modelOf m₂) T (round (opsIn t l) (modelOf m₁) (modelOf m₂) T)) ≤ length text
+
+module _ {b : List ℕ} {z : Sizes} {t : List ℕ} (a : AcceptedCase b z t) where
+  -- the text of the settled table; the formulas' lines come after it
+  abbrev settledPart : List ℕ
+  settledPart = let c = a .holds in tableText (ops c) (model1 c) (model2 c) (settledRound c) (roundIn c (settledRound c))
+
+  pub settleable : (text m₁ m₂ : List ℕ) → 12957 ≤ length text → m₁ ≡ partAt b 1 → m₂ ≡ partAt b 2 → Settleable t (z .lattice) m₁ m₂ text
+  settleable text m₁ m₂ l p q =
+      rw (p ∙ a .parts .model1, q ∙ a .parts .model2)
+      (record {
+        first = a .sound .shape1;
+        second = a .sound .shape2;
+        same-propositions = a .sound .same-propositions;
+        laws = a .laws;
+        room = rw (a .tables) (λ T f. omega (arith, table-most b (a .holds) (a .reads) T f));
+      })
+
+  pub settled-part : (d e m₁ m₂ : List ℕ) (n : ℕ) → m₁ ≡ partAt b 1 → m₂ ≡ partAt b 2
+      → ((T : ℕ) → FirstUnchanged (opsIn t (z .lattice)) (modelOf m₁) (modelOf m₂) T → Wrote d 0 (tableText (opsIn t (z .lattice)) (modelOf m₁) (modelOf m₂) T (round (opsIn t (z .lattice)) (modelOf m₁) (modelOf m₂) T)) e n)
+      → Wrote d 0 settledPart e n
+  settled-part d e m₁ m₂ n p q h = (rw (p ∙ a .parts .model1, q ∙ a .parts .model2, a .tables) at h) (settledRound (a .holds)) (settled-isT (a .holds) (a .sound))
+
+  abbrev wholeText : List ℕ
+  wholeText = acceptedText (a .holds) (settledRound (a .holds))
+
+  fits : (d : List ℕ) → 12957 ≤ length d → 0 + length wholeText ≤ length d
+  fits d l = omega (arith, text-most b (a .holds) (a .reads) (settledRound (a .holds)) (settled-isT (a .holds) (a .sound)))
+
+  pub formulas-fit : (d e : List ℕ) (n : ℕ) → 12957 ≤ length d → Wrote d 0 settledPart e n → FormulasFit b z t e n
+  unfolding acceptedText
+  formulas-fit d e n l w = record { case = a; room = fits-then (formulasText (a .holds)) (fits d l) w }
+
+  pub all-written : (d e f : List ℕ) (n m : ℕ) → Wrote d 0 settledPart e n → Wrote e n (formulasText (a .holds)) f m → Wrote d 0 (listingText b) f m
+  unfolding acceptedText
+  all-written d e f n m w v = rw (listing-is b (a .holds) (a .reads) (settledRound (a .holds)) (settled-isT (a .holds) (a .sound))) (wrote-then (formulasText (a .holds)) (omega arith) w v)
+
+-- the text of a refused case
+pub refused-written : (b : List ℕ) (f : Refusal) (d e : List ℕ) (n : ℕ) → caseReading b ≡ refused f → Wrote d 0 (refusedText f) e n → (n ≡ length (listingText b)) × (e ≡ written 0 (listingText b) d)
+refused-written b f d e n r w = rw r (w .next-is ∙ zero-add _, w .out-is)

@@ -63,7 +63,7 @@ module _ (b : List ℕ) (c : Content) (e : caseReading b ≡ content c) where
   whole-few f m = element-few _ (ltb-true _ _ (bigMeet-element (sound .laws) (modelIn c m .states) _))
 
   -- the settled table's lines
-  table-most : (T : ℕ) → IsT c T → length (tableText (ops c) (model1 c) (model2 c) T (roundIn c T)) ≤ 12821
+  pub table-most : (T : ℕ) → IsT c T → length (tableText (ops c) (model1 c) (model2 c) T (roundIn c T)) ≤ 12821
   unfolding tableText
   table-most T t =
       let S = roundIn c T in

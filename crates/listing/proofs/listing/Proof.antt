@@ -1,3 +1,7 @@
+-- `listing::listing` meets its contract: the text of a refusal, or that of an accepted case.
+use native.Mathlib.Omega.{arith}
+use Rattle.casefile.specs.Caller.{when-accepted, when-refused}
+use Rattle.listing.specs.Accepting.{refused-written}
 use borrow.Author.Needs.{needs}
 use Rattle.listing.proofs.listing.Statement.{statement}
 use Rattle.listing.proofs.listing.Tie as tie
@@ -25,11 +29,11 @@ enum-known-z c = search needs
 
 -- src/lib.rt:304:35
 put-accepted-requires : tie.Need-put-accepted-requires
-put-accepted-requires c κs = ?
+put-accepted-requires c κs = (when-accepted _ _ _ _ (c .before .before .before .before .before .check .ensures) (c .before .before .before .z .given .1), search needs)
 
 -- src/lib.rt:298:1
 returns : tie.Need-returns
-returns c = ?
+returns c = refused-written _ _ _ _ _ (when-refused _ _ _ _ (c .before .before .before .before .before .check .ensures) (c .before .before .before .f .given .1)) (c .put-refused .ensures)
 
 -- src/lib.rt:298:1
 returns-2 : tie.Need-returns-2
