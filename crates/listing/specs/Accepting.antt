@@ -29,7 +29,7 @@ use Rattle.desk.specs.Case.{ops, model1, model2, modelIn, formulaIn, roundIn}
 use Rattle.listing.specs.Text.{each, formulaLine, formulasText, tableText, refusedText, settledRound, acceptedText, listingText}
 use Rattle.listing.specs.Writing.{Wrote, wrote-then, fits-then}
 use Rattle.listing.specs.Most.{table-most, text-most}
-use Rattle.listing.specs.Listed.{settled-isT, listing-is}
+use Rattle.listing.specs.Settled.{settled-isT, listing-is}
 
 -- a case is read as one content
 pub same-content : (b : List ℕ) (c d : Content) → caseReading b ≡ content c → caseReading b ≡ content d → c ≡ d
