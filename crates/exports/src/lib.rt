@@ -1,4 +1,4 @@
-// The eight calls for C and Rust: exported functions over the calls by value, with their answers as numbers in structs of C's layout.
+// The eight calls and the listing for C and Rust: exported functions over the calls by value, with their answers as numbers in structs of C's layout.
 use calls::ElementAnswer;
 use calls::JudgeAnswer;
 use calls::OpenAnswer;
@@ -9,10 +9,13 @@ use model::State;
 use operations::Element;
 use refusal::Refusal;
 ghost use mathlib.Core.Path.{_≡_};
+ghost use lib.ListN.{length};
+ghost use Rattle.theory.specs.Lists.{written};
 ghost use Rattle.desk.specs.Desk.{Call, Question};
 ghost use Rattle.desk.specs.Refused.{numberReply};
 ghost use Rattle.calls.specs.Read.{deskOf};
 ghost use Rattle.calls.specs.Answer.{stepReply, openReply, elementReply, shareReply, judgeReply};
+ghost use Rattle.listing.specs.Text.{listingText};
 ghost use Rattle.exports.specs.Numbers.{given, numbers, Tells, Names};
 
 // What every call but show answers; specs/Numbers.antt has the kinds.
@@ -265,4 +268,14 @@ pub extern "C" fn koelchair_judge(
     ensures { λ r. ⌜ Tells (Call.Ask (Question.Judge (now (table .entry)))) (deskOf s (now (store .entry)) (now (first .entry)) (now (second .entry))) r (deskOf s (now (store .entry)) (now (first .entry)) (now (second .entry))) ⌝ }
 {
     judged(calls::judge(s, store, first, second, table))
+}
+
+// ---- the listing
+
+// Writes what the program `report` prints for a case at the start of the text, and says how many bytes it has. The bytes after it are kept.
+#[no_mangle]
+pub extern "C" fn koelchair_listing(case: &[u8], text: &mut [u8; 16384]) -> usize
+    ensures { λ r. ⌜ (r ≡ length (listingText (now (case .entry)))) × (now (text .exit) ≡ written 0 (listingText (now (case .entry))) (now (text .entry))) ⌝ }
+{
+    listing::listing(case, text)
 }
