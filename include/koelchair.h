@@ -159,6 +159,13 @@ koelchair_answer koelchair_judge(koelchair_standing standing,
                                  const uint8_t *second, size_t second_length,
                                  const uint8_t *table, size_t table_length);
 
+/* ---- the listing */
+
+/* Writes what the program `report` prints for a case at the start of the text: the rounds, the table at which they settle, the score and
+   each formula's whole values, or a line with the refusal. Reads the case; writes only these bytes, and returns how many they are. The
+   text has KOELCHAIR_LISTING_LENGTH bytes. It needs no desk. */
+size_t koelchair_listing(const uint8_t *case_bytes, size_t case_length, uint8_t *text);
+
 #ifdef __cplusplus
 }
 #endif

@@ -1,5 +1,5 @@
-/* Reads a case from standard input, works its rounds to the end, and prints every answer: the table at each round, the score, the share,
-   and the formulas' values. A refusal is said in words, with its number and part.
+/* Reads a case from standard input, prints its listing, works its rounds to the end, and prints every answer: the table at each round,
+   the score, the share, and the formulas' values. A refusal is said in words, with its number and part.
 
    From the repository's root, after `rt staticlib exports`:
 
@@ -121,6 +121,13 @@ static bool print_formula(const struct desk *d, uint8_t formula, uint8_t model)
     return true;
 }
 
+static void print_listing(const uint8_t *case_bytes, size_t case_length)
+{
+    static uint8_t text[KOELCHAIR_LISTING_LENGTH];
+    size_t length = koelchair_listing(case_bytes, case_length, text);
+    printf("listing:\n%.*s", (int)length, (const char *)text);
+}
+
 int main(void)
 {
     /* A byte more than a case may have, so that a longer input is refused. */
@@ -131,6 +138,7 @@ int main(void)
         fprintf(stderr, "standard input could not be read\n");
         return 2;
     }
+    print_listing(input, length);
     koelchair_moved opened = koelchair_open(d.standing, input, length, d.store, sizeof d.store, d.first, sizeof d.first, d.second, sizeof d.second);
     unless_refused("open", opened.answer);
     d.standing = opened.standing;

@@ -1,4 +1,4 @@
-/* Measures the stack that each call takes, at the greatest sizes: 64 elements, 64 states, 16 propositions and eight formulas of 255 bytes.
+/* Measures the stack that each call and the listing take, at the greatest sizes: 64 elements, 64 states, 16 propositions and eight formulas of 255 bytes.
    A call runs on a stack of its own whose bytes were all set to one value; those that have another value after it were written. What
    running nothing takes there is subtracted. Each call is measured with two values, and the greater figure is printed. Bytes that a call
    sets aside and never writes are not seen, unless it writes below them.
@@ -20,6 +20,7 @@ enum { ELEMENTS = 64, STATES = 64, PROPOSITIONS = 16, FORMULAS = 8, FORMULA_LENG
 static uint8_t case_bytes[KOELCHAIR_CASE_MOST];
 static size_t case_length;
 static uint8_t store[KOELCHAIR_STORE_LENGTH], first[KOELCHAIR_TABLE_LENGTH], second[KOELCHAIR_TABLE_LENGTH], table[KOELCHAIR_TABLE_LENGTH];
+static uint8_t text[KOELCHAIR_LISTING_LENGTH];
 static koelchair_standing standing;
 static uint8_t formula;
 static koelchair_answer answer;
@@ -121,6 +122,12 @@ static void score(void) { answer = koelchair_score(LENT); }
 static void share(void) { answer = koelchair_share(LENT, 5); }
 static void judge(void) { answer = koelchair_judge(LENT, table, sizeof table); }
 
+static void listing(void)
+{
+    size_t length = koelchair_listing(case_bytes, case_length, text);
+    answer.kind = length == 0 || text[1] != 'o' ? KOELCHAIR_REFUSED : KOELCHAIR_OPENED;
+}
+
 /* ---- the measure */
 
 enum { STACK = 1 << 20 };
@@ -165,5 +172,6 @@ int main(void)
     printf("score %zu\n", taken(score));
     printf("share %zu\n", taken(share));
     printf("judge %zu\n", taken(judge));
+    printf("listing %zu\n", taken(listing));
     return EXIT_SUCCESS;
 }
