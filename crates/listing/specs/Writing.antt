@@ -43,6 +43,10 @@ module _ {d e : List ℕ} {at next : ℕ} {s : List ℕ} where
   pub fits-then : (u : List ℕ) → at + length (s ++ u) ≤ length d → Wrote d at s e next → next + length u ≤ length e
   fits-then u l w = omega (arith, length-append s u, w .next-is, wrote-length w (omega (arith, length-append s u)))
 
+-- what stands at the start of a buffer is no longer than the buffer
+pub wrote-within : {d e s : List ℕ} {n : ℕ} → Wrote d 0 s e n → n ≤ length e
+wrote-within {d} {e} {s} {n} w = omega (arith, w .next-is, ap length (w .out-is), length-append (take 0 d ++ s) (drop (0 + length s) d), length-append (take 0 d) s)
+
 pub fits-first : (d : List ℕ) (at : ℕ) (s u : List ℕ) → at + length (s ++ u) ≤ length d → at + length s ≤ length d
 fits-first d at s u l = omega (arith, length-append s u)
 

@@ -9,59 +9,42 @@ use Rattle.listing.specs.Writing.{wrote-then, fits-then, fits-first, ref
 use borrow.Author.Needs.{needs}
 use Rattle.listing.proofs.put_refused.Statement.{statement}
 use Rattle.listing.proofs.put_refused.Tie as tie
-use Rattle.listing.proofs.put_refused.Reads as reads
-use Rattle.listing.proofs.put_refused.Lts as lts
-use Rattle.listing.proofs.put_item.Reads as put-item-reads
-use Rattle.listing.proofs.put_last.Reads as put-last-reads
-use Rattle.operations.proofs.index.Reads as index-reads
-use Rattle.refusal.proofs.number.Reads as number-reads
-use Rattle.refusal.proofs.part.Reads as part-reads
 
 -- both fit, as they stand where the two numbers are known
 room : (c : tie.After-index2) → 0 + length (item refusedWord (c .before .before .index .result) ++ lastItem blank (c .index2 .result)) ≤ length (c .before .before .before .before .before .args .text .now)
 room c = refused-room (c .before .before .before .before .before .args .text .now) (c .before .before .index .result) (c .index2 .result) (omega arith) (omega arith) (omega arith)
 
--- src/lib.rt:86:31
 number-requires : tie.Need-number-requires
 number-requires c κs = search needs
 
--- src/lib.rt:86:9
 index-requires : tie.Need-index-requires
 index-requires c κs = search needs
 
--- src/lib.rt:87:31
 part-requires : tie.Need-part-requires
 part-requires c κs = search needs
 
--- src/lib.rt:87:9
 index-requires-2 : tie.Need-index-requires-2
 index-requires-2 c κs = search needs
 
--- src/lib.rt:88:23
 slice-aggregate-put-item : tie.Need-slice-aggregate-put-item
 slice-aggregate-put-item c = search needs
 
--- src/lib.rt:88:9
 put-item-requires : tie.Need-put-item-requires
 put-item-requires c κs =
     let i = c .before .before in
     fits-first (i .before .before .before .before .before .args .text .now) 0 (item refusedWord (i .before .before .index .result)) (lastItem blank (i .index2 .result)) (room i)
 
--- src/lib.rt:89:14
 slice-aggregate-put-last : tie.Need-slice-aggregate-put-last
 slice-aggregate-put-last c = search needs
 
--- src/lib.rt:89:5
 put-last-requires : tie.Need-put-last-requires
 put-last-requires c κs =
     let i = c .before .before .before .before .before .before .before in
     fits-then (lastItem blank (i .index2 .result)) (room i) (c .before .before .before .before .put-item .ensures)
 
--- src/lib.rt:82:1
 same-length : tie.Need-same-length
 same-length c = search needs
 
--- src/lib.rt:82:1
 returns : tie.Need-returns
 unfolding refusedText
 returns c =
