@@ -12,7 +12,7 @@ use lib.ListN.{length, take, drop, set, length-append}
 use lib.Seq.{length-take-le, take-at, drop-append-add, drop-drop, paste, take-length}
 use Rattle.theory.specs.Lists.{written}
 use Rattle.theory.specs.Written.{written-none, written-byte, written-length}
-use Rattle.listing.specs.Text.{decimalWithin, decimal, refusedWord, blank, lineEnd, item, lastItem, each}
+use Rattle.listing.specs.Text.{decimalWithin, decimal, each}
 
 -- the bytes s are written at the place `at` of d, which became e; the place after them is next
 pub record Wrote (d : List ℕ) (at : ℕ) (s e : List ℕ) (next : ℕ) : Type 0 where
@@ -182,8 +182,3 @@ module _ (d : List ℕ) (at n : ℕ) (fits : at + length (decimal n) ≤ length 
 
   pub more-written : (e : List ℕ) (next v : ℕ) → 10 ≤ n → Wrote d at (decimal (n / 10)) e next → v ≡ 48 + n % 10 → Wrote d at (decimal n) (set e next v) (next + 1)
   more-written e next v l w q = rw (decimal-more n l, ← q) (wrote-byte v (omega (arith, more-room l, w .next-is)) w)
-
--- there is room for the line of a refusal
-pub refused-room : (d : List ℕ) (n p : ℕ) → 16 ≤ length d → n < 256 → p < 256 → 0 + length (item refusedWord n ++ lastItem blank p) ≤ length d
-refused-room d n p l a b =
-    omega (arith, length-append (item refusedWord n) (lastItem blank p), length-append (item blank p) lineEnd, decimal-three n (omega arith), decimal-three p (omega arith))
