@@ -4,6 +4,7 @@ pub mod Text
 pub mod Listed
 pub mod Answered
 -- ---- theorems
+pub mod Decimal
 pub mod Settled
 pub mod Most
 pub mod Examples

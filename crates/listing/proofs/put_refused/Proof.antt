@@ -3,7 +3,8 @@ use Prim.Native.Nat.{_≤_}
 use native.Mathlib.Omega.{arith}
 use lib.ListN.{length, length-append}
 use Rattle.listing.specs.Text.{decimal, lineEnd, refusedText}
-use Rattle.listing.specs.Writing.{wrote-then, wrote-length, decimal-three}
+use Rattle.listing.specs.Decimal.{decimal-three}
+use Rattle.listing.specs.Writing.{wrote-then, wrote-length}
 use borrow.Author.Needs.{needs}
 use Rattle.listing.proofs.put_refused.Statement.{statement}
 use Rattle.listing.proofs.put_refused.Tie as tie
