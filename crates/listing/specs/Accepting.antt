@@ -1,6 +1,6 @@
 -- What the code of the listing knows of an accepted case: its formulas' values on the models. Rests on Text, Writing and casefile's Caller.
 use Prim.Native.Nat.{ℕ, _+_, _≤_, _<_}
-use mathlib.Core.Path.{_≡_, refl, sym, ap, ap₂, _∙_}
+use mathlib.Core.Path.{_≡_, refl, sym, ap, _∙_}
 use mathlib.Core.Bool.{Bool, true, false, _||_}
 use mathlib.Core.List.{List}
 use native.Mathlib.Nat.{zero-add}
@@ -9,11 +9,10 @@ use borrow.Author.Tests.{eqb-true}
 use lib.Dec.{eqb}
 use lib.ListN.{length, getD}
 use lib.Seq.{length-take-le}
-use Rattle.theory.specs.Lattice.{Ops, Laws}
-use Rattle.theory.specs.Model.{Model}
+use Rattle.theory.specs.Lattice.{Laws}
 use Rattle.theory.specs.Part.{modelOf, ModelShape}
 use Rattle.theory.specs.Value.{wholeValue}
-use Rattle.theory.specs.Simulation.{round, FirstUnchanged, SameTable}
+use Rattle.theory.specs.Simulation.{round, FirstUnchanged}
 use Rattle.operations.specs.declared.Lattice.{Lattice}
 use Rattle.operations.specs.Table.{opsIn}
 use Rattle.formula.specs.Bytes.{read, formulaReading}
@@ -24,7 +23,6 @@ use Rattle.casefile.specs.Conditions.{Placed}
 use Rattle.casefile.specs.Reading.{Content, refused, content, caseReading}
 use Rattle.casefile.specs.Caller.{AcceptedCase}
 use Rattle.valuer.specs.Values.{Reads, WholeValue}
-use Rattle.rounds.specs.Table.{tableOf, Shaped}
 use Rattle.desk.specs.Case.{ops, model1, model2, modelIn, formulaIn, roundIn}
 use Rattle.listing.specs.Text.{each, formulaLine, formulasText, tableText, refusedText, settledRound, acceptedText, listingText, Lists}
 use Rattle.listing.specs.Writing.{Wrote, wrote-then, wrote-within, fits-then}

@@ -1,8 +1,8 @@
 -- The listing of a case is what a desk answers that was last opened with it and is settled. Rests on Text, and for the proof on Settled,
--- Listed and desk's Demand3.
-use Prim.Native.Nat.{ℕ, _+_, _*_, _/_, _%_, _<_}
-use mathlib.Core.Path.{_≡_, refl, sym, ap, ap₂, _∙_}
-use mathlib.Core.Bool.{true, _&&_}
+-- Entries and desk's Demand3.
+use Prim.Native.Nat.{ℕ, _+_, _*_, _<_}
+use mathlib.Core.Path.{_≡_, sym, ap, ap₂, _∙_}
+use mathlib.Core.Bool.{true}
 use mathlib.Core.List.{List, _++_}
 use native.Mathlib.Nat.{mul-add-div-right, mul-add-mod-self-right, div-eq-of-lt, mod-eq-of-lt, add-zero}
 use native.Mathlib.Omega.{arith}
@@ -23,8 +23,8 @@ use Rattle.desk.specs.Listed.{opening-T}
 use Rattle.desk.specs.Demand3.{Claim, listed}
 use Rattle.listing.specs.Text.{roundsWord, scoreWord, lastItem, each, rowsText, tableText, formulaText, formulaLine, formulasText, acceptedText, listingText}
 use Rattle.listing.specs.Writing.{each-cong}
+use Rattle.listing.specs.Entries.{rows-same}
 use Rattle.listing.specs.Settled.{listing-is}
-use Rattle.listing.specs.Listed.{rows-text-cong}
 
 -- the answers of a desk that is settled: its round, the table that it shows, its score, and the formulas' values on models 1 and 2
 pub record Answers (c : Content) (d : Desk) (T : ℕ) (table : List ℕ) (e : ℕ) (v₁ v₂ : ℕ → ℕ) : Type 0 where
@@ -80,7 +80,7 @@ module _ (c : Content) (T : ℕ) (answers : List Reply) (d : Desk) (w : Claim c 
       let pt : tableBytes c S ≡ table = same-shown _ _ _ show-T (a .show) in
       let pe : score (ops c) (model1 c) (model2 c) S ≡ e = same-element _ _ _ score-T (a .score) in
       ap₂ _++_
-      (ap₂ (λ (x : List ℕ) (y : List ℕ). x ++ y) (ap₂ (λ (x : ℕ) (y : List ℕ). lastItem roundsWord x ++ y) pr (rows-text-cong c S (tableOf table (N2 c)) (λ q₁ l q₂ m. sym (bytes-table c S q₁ l q₂ m) ∙ ap (λ (x : List ℕ). tableOf x (N2 c) q₁ q₂) pt))) (ap (lastItem scoreWord) pe))
+      (ap₂ (λ (x : List ℕ) (y : List ℕ). x ++ y) (ap₂ (λ (x : ℕ) (y : List ℕ). lastItem roundsWord x ++ y) pr (rows-same (ops c) (model1 c) (model2 c) S (tableOf table (N2 c)) (λ q₁ l q₂ m. sym (bytes-table c S q₁ l q₂ m) ∙ ap (λ (x : List ℕ). tableOf x (N2 c) q₁ q₂) pt))) (ap (lastItem scoreWord) pe))
       (each-cong (length (c .formulas)) _ _ (λ f l. ap₂ (formulaText f) (same-element _ _ _ (whole-1 f l) (a .whole1 f l)) (same-element _ _ _ (whole-2 f l) (a .whole2 f l))))
 
 -- for every list of calls from any desk with an accepted opening in it, after which the desk is settled

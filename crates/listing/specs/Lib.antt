@@ -5,6 +5,7 @@ pub mod Listed
 pub mod Answered
 -- ---- theorems
 pub mod Decimal
+pub mod Entries
 pub mod Settled
 pub mod Most
 pub mod Examples

@@ -1,5 +1,5 @@
 -- The greatest length of a text. Rests on Text, Decimal, Writing, casefile's Content and Placed, theory's Rounds and Sharp.
-use Prim.Native.Nat.{ℕ, _+_, _*_, _≤_, _<_}
+use Prim.Native.Nat.{ℕ, _+_, _≤_, _<_}
 use mathlib.Core.Path.{_≡_}
 use mathlib.Core.List.{List, _++_}
 use native.Mathlib.Omega.{arith}
@@ -11,10 +11,10 @@ use Rattle.theory.specs.Folds.{bigMeet-element}
 use Rattle.theory.specs.Rounds.{round-element}
 use Rattle.theory.specs.Sharp.{T-sharp}
 use Rattle.casefile.specs.Reading.{Content, content, caseReading}
-use Rattle.casefile.specs.Content.{ContentSound, content-sound, PartsAre, parts-are}
+use Rattle.casefile.specs.Content.{ContentSound, content-sound, parts-are}
 use Rattle.casefile.specs.Placed.{accepted-placed}
 use Rattle.desk.specs.Case.{ops, model1, model2, modelIn, formulaIn, N1, N2, roundIn, IsT}
-use Rattle.listing.specs.Text.{decimal, blank, colon, lineEnd, rowWord, roundsWord, scoreWord, formulaWord, item, lastItem, heading, entriesText, rowText, rowsText, tableText, formulaText, formulaLine, formulasText, acceptedText}
+use Rattle.listing.specs.Text.{blank, colon, lineEnd, rowWord, roundsWord, scoreWord, formulaWord, item, lastItem, heading, entriesText, rowText, rowsText, tableText, formulaText, formulaLine, formulasText, acceptedText}
 use Rattle.listing.specs.Decimal.{decimal-one, decimal-two, decimal-four}
 use Rattle.listing.specs.Writing.{each-length}
 

@@ -1,8 +1,6 @@
 -- `listing::put_number` meets its contract: one digit, or those of the tenth and then the last. The measure is the number.
 use Prim.Native.Nat.{ℕ, _<_}
-use mathlib.Core.Path.{_∙_}
 use native.Mathlib.Omega.{arith}
-use lib.ListN.{length-set}
 use borrow.Author.Needs.{needs}
 use Rattle.listing.specs.Writing.{few-room, few-written, more-room, more-written, wrote-length}
 use borrow.Fn.Kinds.{In}

@@ -1,5 +1,4 @@
 -- `listing::listing` meets its contract: the text of a refusal, or that of an accepted case.
-use native.Mathlib.Omega.{arith}
 use Rattle.casefile.specs.Caller.{when-accepted, when-refused}
 use Rattle.listing.specs.Accepting.{lists, lists-refused}
 use borrow.Author.Needs.{needs}

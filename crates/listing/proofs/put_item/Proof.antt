@@ -1,6 +1,5 @@
 -- `listing::put_item` meets its contract: the word, then the number.
 use native.Mathlib.Omega.{arith}
-use Rattle.theory.specs.Lists.{written}
 use Rattle.listing.specs.Text.{decimal}
 use Rattle.listing.specs.Writing.{wrote-then, fits-then, fits-first}
 use borrow.Author.Needs.{needs}

@@ -1,5 +1,5 @@
 -- `listing::put_rows` meets its contract: the rows passed so far are written.
-use Prim.Native.Nat.{ℕ, _+_, _-_, _≤_}
+use Prim.Native.Nat.{ℕ, _-_, _≤_}
 use mathlib.Core.List.{List}
 use native.Mathlib.Omega.{arith}
 use Rattle.model.specs.Places.{row-le}

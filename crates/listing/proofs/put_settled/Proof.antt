@@ -1,5 +1,4 @@
 -- `listing::put_settled` meets its contract: both tables start at top, and the first comes to hold round T.
-use Prim.Native.Nat.{_*_}
 use native.Mathlib.Omega.{arith}
 use Rattle.model.specs.Places.{prod-le}
 use Rattle.listing.specs.Settling.{tops-start, settled-text}

@@ -1,6 +1,6 @@
 -- `listing::settle` meets its contract: the first table holds round r, and every round up to r differs from the one before.
 use Prim.Native.Nat.{_-_, _≤_}
-use Prim.Native.Nat.{ℕ, _+_}
+use Prim.Native.Nat.{_+_}
 use mathlib.Core.Path.{_≡_, refl, _∙_}
 use borrow.Author.Tests.{not-true, not-false}
 use Rattle.model.specs.Places.{prod-le}
@@ -8,7 +8,7 @@ use native.Mathlib.Omega.{arith}
 use lib.ListN.{length}
 use Rattle.theory.specs.Part.{modelOf}
 use Rattle.operations.specs.Table.{opsIn}
-use Rattle.listing.specs.Settling.{Startable, AtRound, at-start, rounds-few, next-round, settled-out, settled-read}
+use Rattle.listing.specs.Settling.{AtRound, at-start, rounds-few, next-round, settled-out, settled-read}
 use Rattle.listing.proofs.settle.Statement.{statement}
 use Rattle.listing.proofs.settle.Tie as tie
 
