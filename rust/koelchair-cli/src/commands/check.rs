@@ -1,0 +1,52 @@
+//! `check`: is the case accepted, and what does it hold.
+
+use super::{open, read_text, Arguments, Opened, Outcome};
+use crate::formula::Formula;
+use crate::formula_text;
+use std::fmt::Write;
+use std::io::Read;
+
+/// Runs `check`.
+pub fn check(arguments: &[String], input: &mut dyn Read) -> Outcome {
+    let arguments = Arguments::read(arguments, &["--bytes"], &[])?;
+    let [file] = arguments.exactly(["FILE"])?;
+    let opened = open(read_text(file, &arguments, input)?)?;
+    Ok(contents(&opened).into_bytes())
+}
+
+fn contents(opened: &Opened) -> String {
+    let case = &opened.case;
+    let mut text = format!("accepted, {} bytes\n", opened.text.bytes.len());
+    let _ = writeln!(text, "lattice: {} elements", case.lattice.size());
+    let _ = writeln!(text, "propositions: {}", case.propositions.join(" "));
+    for (i, model) in case.models.iter().enumerate() {
+        let title = model
+            .title
+            .as_ref()
+            .map_or(String::new(), |t| format!(" ({t})"));
+        let _ = writeln!(text, "model {}{title}: {} states", i + 1, model.size());
+    }
+    for named in &case.formulas {
+        let formula = formula_text::print(&named.formula, &case.propositions);
+        let _ = writeln!(
+            text,
+            "formula {}: {formula}\n  {}",
+            named.name,
+            bounded(&named.formula)
+        );
+    }
+    text.truncate(text.trim_end().len());
+    text.push('\n');
+    text
+}
+
+/// When the entry of a pair bounds the formula: its value in model 2 gives its value in model 1.
+fn bounded(formula: &Formula) -> String {
+    if !formula.universal() {
+        return "not bounded by entries, since it has EX".to_string();
+    }
+    match (formula.nested_binders(), formula.nested_ax()) {
+        (0, nested) => format!("bounded by entries from round {} on", nested + 1),
+        _ => "bounded by entries once settled".to_string(),
+    }
+}

@@ -1,0 +1,173 @@
+//! `explain`: what held the entry of a pair down, round by round. The entries are the library's; the parts of each entry are
+//! worked out by this tool (`tables`) and compared with it.
+
+use super::{open, read_text, Arguments, Failure, Opened, Outcome};
+use crate::case::Case;
+use crate::errors::nearest;
+use crate::tables::{parts, Answer, Operations, Part};
+use koelchair::StepAnswer;
+use std::fmt::Write;
+use std::io::Read;
+
+/// Runs `explain`.
+pub fn explain(arguments: &[String], input: &mut dyn Read) -> Outcome {
+    let arguments = Arguments::read(arguments, &["--all", "--bytes"], &[])?;
+    let [file, state1, state2] = arguments.exactly(["FILE", "STATE1", "STATE2"])?;
+    let mut opened = open(read_text(file, &arguments, input)?)?;
+    let pair = (
+        state(&opened.case, 0, state1)?,
+        state(&opened.case, 1, state2)?,
+    );
+    let no_lattice = || {
+        Failure::Other(
+            "the library accepts this lattice, and this tool finds no meets in it".to_string(),
+        )
+    };
+    let operations = Operations::of(&opened.case.lattice).ok_or_else(no_lattice)?;
+    let explanation = Explanation {
+        operations,
+        pair,
+        all: arguments.has("--all"),
+    };
+    Ok(explanation.rounds(&mut opened).into_bytes())
+}
+
+/// The number of a state of a model.
+fn state(case: &Case, model: usize, name: &str) -> Result<usize, Failure> {
+    let states = &case.models[model].states;
+    states.iter().position(|s| s == name).ok_or_else(|| {
+        let near = nearest(name, states.iter().map(String::as_str));
+        let help = near.map_or(String::new(), |n| format!("; a similar name is `{n}`"));
+        Failure::Usage(format!("`{name}` is no state of model {}{help}", model + 1))
+    })
+}
+
+/// What is explained, and how.
+struct Explanation {
+    operations: Operations,
+    pair: (usize, usize),
+    all: bool,
+}
+
+impl Explanation {
+    fn rounds(&self, opened: &mut Opened) -> String {
+        let (q1, q2) = self.pair;
+        let place = q1 * opened.case.models[1].size() + q2;
+        let case = &opened.case;
+        let mut text = format!(
+            "{} of {} against {} of {}\n",
+            case.models[0].states[q1],
+            case.model_name(0),
+            case.models[1].states[q2],
+            case.model_name(1)
+        );
+        let _ = writeln!(
+            text,
+            "round 0: {} (every entry begins at top)",
+            case.element(opened.desk.show()[place])
+        );
+        let mut before = opened.desk.show().to_vec();
+        loop {
+            let answer = opened.desk.step();
+            let (StepAnswer::Round(round) | StepAnswer::Settled(round)) = answer else {
+                continue;
+            };
+            let entry = opened.desk.show()[place];
+            let settled = matches!(answer, StepAnswer::Settled(_));
+            let last = if settled { " (settled)" } else { "" };
+            let _ = writeln!(text, "round {round}{last}: {}", opened.case.element(entry));
+            text.push_str(&self.entry(&opened.case, &before, entry));
+            if settled {
+                return text;
+            }
+            before = opened.desk.show().to_vec();
+        }
+    }
+
+    /// The parts of an entry of the round after `table`, and whether they meet to the library's entry.
+    fn entry(&self, case: &Case, table: &[u8], entry: u8) -> String {
+        let parts = parts(case, &self.operations, table, self.pair.0, self.pair.1);
+        let mut text = String::new();
+        for part in parts
+            .iter()
+            .filter(|p| self.all || p.gives() != self.operations.top)
+        {
+            let _ = writeln!(text, "  {}", self.part(case, part));
+        }
+        if text.is_empty() {
+            text.push_str("  nothing holds it down\n");
+        }
+        let meet = parts.iter().fold(self.operations.top, |m, p| {
+            self.operations.meet(m, p.gives())
+        });
+        if meet == entry {
+            text.push_str("  these parts meet to the library's entry\n");
+        } else {
+            let _ = writeln!(
+                text,
+                "  ERROR: these parts meet to {}, which is not the library's entry",
+                case.element(meet)
+            );
+        }
+        text
+    }
+
+    fn part(&self, case: &Case, part: &Part) -> String {
+        let name = |e: u8| case.element(e);
+        match part {
+            Part::Proposition {
+                proposition,
+                values,
+                gives,
+            } => format!(
+                "{}: proposition {} is {} in model 1 and {} in model 2",
+                name(*gives),
+                case.propositions[*proposition],
+                name(values[0]),
+                name(values[1])
+            ),
+            Part::Transition {
+                to,
+                value,
+                best,
+                join,
+                gives,
+            } => {
+                let (from, target) = (
+                    &case.models[0].states[self.pair.0],
+                    &case.models[0].states[*to],
+                );
+                format!(
+                    "{}: transition {from} -> {target}: {} of model 1; {}",
+                    name(*gives),
+                    name(*value),
+                    self.answers(case, target, best, *join)
+                )
+            }
+        }
+    }
+
+    fn answers(&self, case: &Case, target: &str, best: &[Answer], join: u8) -> String {
+        let from = &case.models[1].states[self.pair.1];
+        let said = |a: &Answer| {
+            let to = &case.models[1].states[a.to];
+            let (value, entry) = (case.element(a.value), case.element(a.entry));
+            format!(
+                "{from} -> {to}: {value} met with entry ({target}, {to}) {entry} gives {}",
+                case.element(a.gives)
+            )
+        };
+        match best {
+            [] => "model 2 has no answer above bottom".to_string(),
+            [one] => format!("best answer {}", said(one)),
+            several => {
+                let list: Vec<String> = several.iter().map(said).collect();
+                format!(
+                    "best answers {}, together {}",
+                    list.join("; "),
+                    case.element(join)
+                )
+            }
+        }
+    }
+}
