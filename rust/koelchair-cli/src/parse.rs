@@ -21,8 +21,10 @@ pub struct Text {
     pub case: Option<Case>,
     /// The bytes of the case.
     pub bytes: Vec<u8>,
-    /// Where each part stands in the text.
+    /// Where each part stands in a text with names.
     pub places: Vec<Span>,
+    /// Where each byte stands in a text of `bytes`; none in a text with names.
+    pub byte_places: Vec<Span>,
 }
 
 /// Reads a text.
@@ -204,6 +206,7 @@ fn case_text(source: Source, lexed: Lexed) -> Result<Text, Vec<TextError>> {
         case: Some(case),
         bytes,
         places,
+        byte_places: Vec::new(),
     })
 }
 
@@ -336,12 +339,12 @@ fn bytes_text(source: Source, lexed: &Lexed) -> Result<Text, Vec<TextError>> {
     if let Some(case) = &mut case {
         case.head = lexed.head.clone();
     }
-    let places = byte_places(&bytes, &spans);
     Ok(Text {
         source,
         case,
         bytes,
-        places,
+        places: Vec::new(),
+        byte_places: spans,
     })
 }
 
@@ -350,13 +353,33 @@ fn no_byte(token: &Token) -> TextError {
     TextError::new(token.span, message, "expected a number from 0 to 255")
 }
 
-/// Where the first byte of each part stands; for a part that has none, its pair in the directory.
-fn byte_places(bytes: &[u8], spans: &[Span]) -> Vec<Span> {
-    let count = bytes.first().map_or(0, |c| usize::from(*c));
-    let place = |part: usize| {
-        let pair = bytes.get(1 + 4 * part..3 + 4 * part)?;
-        let start = usize::from(u16::from_le_bytes([pair[0], pair[1]]));
-        spans.get(start).or(spans.get(1 + 4 * part)).copied()
-    };
-    (0..count).map_while(place).collect()
+impl Text {
+    /// Where in the text stands what a refusal with this number and part speaks of.
+    pub fn place(&self, number: u8, part: u8) -> Option<Span> {
+        let part = usize::from(part);
+        if self.byte_places.is_empty() {
+            return match number {
+                2 => self.places.get(11).copied(),
+                _ => self.places.get(part).copied(),
+            };
+        }
+        let pair = 1 + 4 * part;
+        let byte = match number {
+            1 | 2 => 0,
+            3 => pair,
+            _ => {
+                let offset = self.bytes.get(pair..pair + 2)?;
+                usize::from(u16::from_le_bytes([offset[0], offset[1]]))
+            }
+        };
+        let first = self.byte_places.get(byte).copied()?;
+        match number {
+            3 => Some(
+                self.byte_places
+                    .get(pair + 3)
+                    .map_or(first, |last| first.to(*last)),
+            ),
+            _ => Some(first),
+        }
+    }
 }

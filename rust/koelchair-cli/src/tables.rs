@@ -184,18 +184,19 @@ fn answers(
     (0..course.size()).map(answer).collect()
 }
 
+/// The best answers among the transitions of model 2 that are not bottom: one that gives the join alone, if there is one.
 fn best(operations: &Operations, answers: &[Answer], join: u8) -> Vec<Answer> {
-    if join == operations.bottom {
-        return Vec::new();
-    }
+    let mut answers = answers
+        .iter()
+        .filter(|a| a.value != operations.bottom)
+        .copied()
+        .collect::<Vec<_>>();
     if let Some(alone) = answers.iter().find(|a| a.gives == join) {
         return vec![*alone];
     }
+    let all = answers.clone();
     let above = |a: &Answer, b: &Answer| a.gives != b.gives && operations.at_most(b.gives, a.gives);
-    let first = |b: &Answer| answers.iter().find(|a| a.gives == b.gives) == Some(b);
+    let first = |b: &Answer| all.iter().find(|a| a.gives == b.gives) == Some(b);
+    answers.retain(|b| first(b) && !all.iter().any(|a| above(a, b)));
     answers
-        .iter()
-        .filter(|b| first(b) && !answers.iter().any(|a| above(a, b)))
-        .copied()
-        .collect()
 }

@@ -152,13 +152,11 @@ impl Explanation {
         let said = |a: &Answer| {
             let to = &case.models[1].states[a.to];
             let (value, entry) = (case.element(a.value), case.element(a.entry));
-            format!(
-                "{from} -> {to}: {value} met with entry ({target}, {to}) {entry} gives {}",
-                case.element(a.gives)
-            )
+            let gives = case.element(a.gives);
+            format!("{from} -> {to}: {value} met with entry ({target}, {to}) {entry} gives {gives}")
         };
         match best {
-            [] => "model 2 has no answer above bottom".to_string(),
+            [] => format!("model 2 has no transition from {from}"),
             [one] => format!("best answer {}", said(one)),
             several => {
                 let list: Vec<String> = several.iter().map(said).collect();

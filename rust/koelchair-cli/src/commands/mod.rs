@@ -181,16 +181,14 @@ fn usage_text(arguments: &[String], message: &str) -> String {
 pub fn refusal_text(text: &Text, refusal: Refusal) -> String {
     let (number, part) = (refusal.number(), refusal.part());
     let mut said = format!("refused {number} {part}: {refusal}\n");
-    let place = match number {
-        2 => text.places.get(11),
-        _ => text.places.get(usize::from(part)),
-    };
-    if let Some(span) = place {
+    if let Some(span) = text.place(number, part) {
         let note = match number {
+            1 | 2 if !text.byte_places.is_empty() => "the bytes begin here".to_string(),
             2 => "a ninth formula; a case has at most 8".to_string(),
+            3 => format!("the offset and length of part {part}, {}", part_name(part)),
             _ => format!("part {part}, {}, stands here", part_name(part)),
         };
-        said.push_str(&marked_line(&text.source, *span, &note));
+        said.push_str(&marked_line(&text.source, span, &note));
     }
     if let Some(why) = text
         .case
@@ -236,6 +234,7 @@ pub fn read_text(file: &str, arguments: &Arguments, input: &mut dyn Read) -> Res
             case,
             bytes,
             places: Vec::new(),
+            byte_places: Vec::new(),
         });
     }
     let text = String::from_utf8(bytes).map_err(|_| {

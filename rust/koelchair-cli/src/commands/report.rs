@@ -62,6 +62,9 @@ fn named_listing(opened: &Opened, rounds: u32) -> String {
 fn values(opened: &Opened) -> String {
     let (case, desk) = (&opened.case, &opened.desk);
     let mut text = String::new();
+    if case.formulas.is_empty() {
+        return text;
+    }
     for (m, model) in case.models.iter().enumerate() {
         let _ = writeln!(text, "values in model {}", m + 1);
         let mut rows = vec![std::iter::once(String::new())
