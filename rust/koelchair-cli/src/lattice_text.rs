@@ -4,6 +4,7 @@ use crate::errors::{Span, TextError};
 use crate::lattice::{Lattice, OrderTable, PANEL_LETTERS};
 use crate::lexer::{Cursor, Statement};
 use crate::names::{self, declare, lookup, Name, MOST_NAMES};
+use crate::parse::no_part;
 
 const FORMS: &str = "`chain`, `power`, `product`, `panel`, `order` or `order exactly`";
 
@@ -22,9 +23,7 @@ pub fn parse(statements: &[Statement]) -> Result<Lattice, Vec<TextError>> {
     cursor.expect_end("the end of the line").map_err(one)?;
     match statements.get(1) {
         None => Ok(lattice),
-        Some(next) => Err(one(
-            Cursor::new(next).unexpected("`propositions`, `model` or `formula`")
-        )),
+        Some(next) => Err(one(no_part(next))),
     }
 }
 

@@ -1,6 +1,6 @@
 //! Lists of names: written one after another, `q0..q63` standing for `q0`, `q1` and so on up to `q63`.
 
-use crate::errors::{listed, nearest, Span, TextError};
+use crate::errors::{expected_one_of, with_nearest, Span, TextError};
 use crate::lexer::{Cursor, Kind, Token};
 
 /// Words that begin a statement, and so name neither an element, a state nor a proposition.
@@ -139,15 +139,13 @@ pub fn lookup(word: &str, span: Span, all: &[String], sort: &str) -> Result<u8, 
 
 /// The error that a word names nothing of some sort.
 pub fn unknown(word: &str, span: Span, all: &[String], sort: &str) -> TextError {
-    let expected = match all.is_empty() {
-        true => format!("no {sort} is named in this text"),
-        false => format!("expected one of {}", listed(all.iter().map(String::as_str))),
-    };
-    let error = TextError::new(span, format!("`{word}` is no {sort}"), expected);
-    match nearest(word, all.iter().map(String::as_str)) {
-        Some(near) => error.with_help(format!("a similar name is `{near}`")),
-        None => error,
-    }
+    let all = || all.iter().map(String::as_str);
+    let error = TextError::new(
+        span,
+        format!("`{word}` is no {sort}"),
+        expected_one_of(all()),
+    );
+    with_nearest(error, word, all())
 }
 
 /// The numbers of one or more names of some sort, with their places.

@@ -169,3 +169,33 @@ impl Explanation {
         }
     }
 }
+
+#[cfg(test)]
+mod tests {
+    use super::Explanation;
+    use crate::errors::Source;
+    use crate::parse::parse;
+    use crate::tables::Operations;
+
+    const TEXT: &str =
+        "lattice chain no yes\npropositions p\nmodel 1\n  states a\n  a: p\nmodel 2\n  states b\n";
+
+    #[test]
+    fn an_entry_that_the_parts_do_not_meet_to_is_said() {
+        let case = parse(Source::new("text", TEXT))
+            .expect("the text can be read")
+            .case
+            .expect("it has names");
+        let operations = Operations::of(&case.lattice).expect("a lattice");
+        let explanation = Explanation {
+            operations,
+            pair: (0, 0),
+            all: false,
+        };
+        assert!(explanation
+            .entry(&case, &[1], 0)
+            .ends_with("these parts meet to the library's entry\n"));
+        let wrong = "ERROR: these parts meet to no, which is not the library's entry\n";
+        assert!(explanation.entry(&case, &[1], 1).ends_with(wrong));
+    }
+}

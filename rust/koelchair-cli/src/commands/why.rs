@@ -19,9 +19,9 @@ pub fn why(case: &Case, bytes: &[u8], refusal: Refusal) -> Option<String> {
         Refusal::Complement => complement(lattice),
         Refusal::Model(part @ (1 | 2)) => {
             let states = case.models[usize::from(part) - 1].size();
+            let k = case.propositions.len();
             Some(format!(
-                "it has {states} states (1 to 64) and {} propositions (0 to 16)",
-                case.propositions.len()
+                "states: {states} (1 to 64); propositions: {k} (0 to 16)"
             ))
         }
         Refusal::Formula(part) => formula(case, usize::from(part)),
@@ -34,9 +34,9 @@ fn formula(case: &Case, part: usize) -> Option<String> {
     let mut bytes = Vec::new();
     formula.write(&mut bytes);
     let binders = formula.nested_binders();
+    let length = bytes.len();
     Some(format!(
-        "it has {} bytes (1 to 255) and {binders} nested binders (at most 3)",
-        bytes.len()
+        "bytes: {length} (1 to 255); nested binders: {binders} (at most 3)"
     ))
 }
 
