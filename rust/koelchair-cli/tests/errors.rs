@@ -2,7 +2,7 @@
 
 mod common;
 
-use common::{examples, files, folder, run, text};
+use common::{examples, files, folder, run, text, Random};
 
 #[test]
 fn every_wrong_text_gives_its_message() {
@@ -134,4 +134,44 @@ fn help_and_version_are_given() {
             "{command}"
         );
     }
+}
+
+/// Texts with a few characters taken out, put in or replaced: each is accepted, refused or wrong, and says so.
+#[test]
+fn damaged_texts_are_said_to_be_wrong() {
+    let mut random = Random(0xbad);
+    let texts: Vec<String> = examples()
+        .iter()
+        .map(|f| text(f))
+        .filter(|t| t.len() < 4000)
+        .collect();
+    let mut seen = [0; 3];
+    for _ in 0..4000 {
+        let mut damaged: Vec<char> = random.one_of(&texts).chars().collect();
+        for _ in 0..1 + random.below(3) {
+            let at = random.below(damaged.len());
+            let character = random.one_of(&[
+                '(', ')', '{', '}', ':', '-', '>', '.', '"', '#', '\n', ' ', '0', 'q', '\u{fc}',
+                '=',
+            ]);
+            match random.below(3) {
+                0 => drop(damaged.remove(at)),
+                1 => damaged.insert(at, character),
+                _ => damaged[at] = character,
+            }
+        }
+        let damaged: String = damaged.into_iter().collect();
+        let ran = run(&["check", "-"], damaged.as_bytes());
+        seen[usize::from(ran.status)] += 1;
+        assert_eq!(ran.err.is_empty(), ran.status == 0, "{damaged}");
+        assert_eq!(
+            ran.err.contains("--> <stdin>:"),
+            ran.status == 2 || ran.err.contains(" | "),
+            "{damaged}"
+        );
+    }
+    assert!(
+        seen.iter().all(|count| *count > 50),
+        "each status occurs: {seen:?}"
+    );
 }

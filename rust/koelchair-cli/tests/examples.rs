@@ -42,6 +42,19 @@ fn every_example_gets_its_listing_from_the_calls() {
 }
 
 #[test]
+fn every_example_gets_its_listing_from_the_second_implementation() {
+    for file in examples() {
+        let expected = text(&file.with_extension("listing"));
+        assert_eq!(
+            second::report(&bytes(&file)),
+            expected,
+            "{}",
+            file.display()
+        );
+    }
+}
+
+#[test]
 fn every_example_gets_its_listing_from_report() {
     for file in examples() {
         let expected = text(&file.with_extension("listing"));

@@ -143,6 +143,17 @@ fn spoiled_bytes_come_back() {
 }
 
 #[test]
+fn any_bytes_come_back() {
+    let mut random = Random(0x0dd);
+    for _ in 0..2000 {
+        let bytes: Vec<u8> = (0..random.below(40))
+            .map(|_| random.below(256) as u8)
+            .collect();
+        assert_eq!(read(&print_bytes(&bytes)).bytes, bytes);
+    }
+}
+
+#[test]
 fn the_tool_encodes_and_decodes() {
     for file in examples() {
         let file = file.display().to_string();
