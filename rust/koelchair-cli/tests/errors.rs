@@ -175,3 +175,18 @@ fn damaged_texts_are_said_to_be_wrong() {
         "each status occurs: {seen:?}"
     );
 }
+
+/// A formula may be longer in a text than the desk takes it, up to a limit.
+#[test]
+fn long_formulas_go_to_the_desk_up_to_a_limit() {
+    let with = |count: usize| {
+        let formula = vec!["p"; count].join(" & ");
+        let text = format!("lattice panel\npropositions p\nmodel 1\nstates a\nmodel 2\nstates a\nformula f: {formula}\n");
+        run(&["check", "-"], text.as_bytes())
+    };
+    assert_eq!(with(85).status, 0);
+    assert!(with(2000).err.starts_with("refused 10 3: "));
+    assert!(with(2001)
+        .err
+        .starts_with("error: the formula is too long\n"));
+}

@@ -70,7 +70,7 @@ fn every_example_gets_its_listing_from_report() {
 }
 
 /// Other commands whose output stands beside an example.
-const OTHERS: [(&str, &[&str], &[&str]); 12] = [
+const OTHERS: [(&str, &[&str], &[&str]); 15] = [
     (
         "label-one-field-after-the-other.names",
         &["report", "--names", "--values"],
@@ -92,6 +92,13 @@ const OTHERS: [(&str, &[&str], &[&str]); 12] = [
         &["explain", "--all"],
         &["old", "old"],
     ),
+    (
+        "form-product.names",
+        &["report", "--names", "--values"],
+        &[],
+    ),
+    ("form-order.explain", &["explain"], &["old", "old"]),
+    ("error-half-worked-table.check", &["check"], &[]),
     ("error-half-worked-table.step", &["step"], &[]),
     ("example-4-round-1.step", &["step"], &[]),
     ("example-4-round-1.stopped", &["step", "--rounds", "1"], &[]),
