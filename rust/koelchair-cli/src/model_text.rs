@@ -5,7 +5,7 @@ use crate::lattice::Lattice;
 use crate::lattice_text::element;
 use crate::lexer::{Cursor, Kind, Statement, Token};
 use crate::model::Model;
-use crate::names::{self, declare, numbers};
+use crate::names::{self, numbers};
 
 /// What the models of a case share.
 #[derive(Clone, Copy)]
@@ -22,10 +22,7 @@ pub fn parse(statements: &[Statement], shared: Shared) -> Result<Model, Vec<Text
     let (declarations, rest): (Vec<_>, Vec<_>) = statements[1..]
         .iter()
         .partition(|s| names::is_word(&s[0], "states"));
-    let mut declared = Vec::new();
-    for statement in declarations {
-        states(statement, &mut declared).map_err(|e| vec![e])?;
-    }
+    let declared = names::declared(declarations, "state").map_err(|e| vec![e])?;
     if declared.is_empty() {
         let expected = "expected a line `states` with the names of its states after it";
         return Err(vec![TextError::new(
@@ -56,14 +53,6 @@ fn title(statement: &Statement) -> Result<Option<String>, TextError> {
     };
     cursor.expect_end("a title in double quotes or the end of the line")?;
     Ok(title)
-}
-
-fn states(statement: &Statement, declared: &mut Vec<names::Name>) -> Result<(), TextError> {
-    let mut cursor = Cursor::new(statement);
-    cursor.take();
-    let list = names::names(&mut cursor, "the names of the states")?;
-    cursor.expect_end("a name")?;
-    declare(list, declared, "state")
 }
 
 /// A value with the line that gave it.

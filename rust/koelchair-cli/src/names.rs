@@ -1,7 +1,7 @@
 //! Lists of names: written one after another, `q0..q63` standing for `q0`, `q1` and so on up to `q63`.
 
 use crate::errors::{expected_one_of, with_nearest, Span, TextError};
-use crate::lexer::{Cursor, Kind, Token};
+use crate::lexer::{Cursor, Kind, Statement, Token};
 
 /// Words that begin a statement, and so name neither an element, a state nor a proposition.
 const RESERVED: [&str; 11] = [
@@ -122,6 +122,22 @@ pub fn declare(list: Vec<Name>, declared: &mut Vec<Name>, sort: &str) -> Result<
         declared.push(name);
     }
     Ok(())
+}
+
+/// The names of some sort that statements list behind their first word.
+pub fn declared<'a>(
+    statements: impl IntoIterator<Item = &'a Statement>,
+    sort: &str,
+) -> Result<Vec<Name>, TextError> {
+    let mut all = Vec::new();
+    for statement in statements {
+        let mut cursor = Cursor::new(statement);
+        cursor.take();
+        let list = names(&mut cursor, &format!("the names of the {sort}s"))?;
+        cursor.expect_end("a name")?;
+        declare(list, &mut all, sort)?;
+    }
+    Ok(all)
 }
 
 /// The texts of names.

@@ -10,7 +10,7 @@ use crate::lattice_text;
 use crate::lexer::{lex, Cursor, Kind, Lexed, Statement, Token};
 use crate::model::Model;
 use crate::model_text::{self, Shared};
-use crate::names::{self, declare, Name};
+use crate::names;
 
 /// A text that could be read.
 #[derive(Clone, Debug)]
@@ -171,20 +171,15 @@ fn title(statement: &Statement) -> Result<String, TextError> {
 
 /// The names of the propositions.
 fn propositions(statements: &[Statement]) -> Result<Vec<String>, TextError> {
-    let mut declared: Vec<Name> = Vec::new();
-    for statement in statements {
-        let mut cursor = Cursor::new(statement);
-        cursor.take();
-        let list = names::names(&mut cursor, "the names of the propositions")?;
-        cursor.expect_end("a name")?;
-        if let Some(name) = list.iter().find(|n| !name_allowed(&n.text)) {
+    let declared = names::declared(statements, "proposition")?;
+    match declared.iter().find(|n| !name_allowed(&n.text)) {
+        None => Ok(names::texts(declared)),
+        Some(name) => {
             let message = format!("`{}` cannot name a proposition", name.text);
             let expected = "expected a name that begins with a letter and is no word of formulas";
-            return Err(TextError::new(name.span, message, expected));
+            Err(TextError::new(name.span, message, expected))
         }
-        declare(list, &mut declared, "proposition")?;
     }
-    Ok(names::texts(declared))
 }
 
 /// A text with a lattice, two models and formulas.

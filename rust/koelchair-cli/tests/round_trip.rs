@@ -143,6 +143,34 @@ fn spoiled_bytes_come_back() {
 }
 
 #[test]
+fn parts_may_stand_in_any_order() {
+    let parts = [
+        "lattice chain no yes\n",
+        "model 1\n states a b\n a -> b\n",
+        "model 2\n states c\n c: p\n",
+        "formula f: AX p\n",
+        "propositions p\n",
+    ];
+    let bytes = read(&parts.concat()).bytes;
+    for first in 0..parts.len() {
+        let turned = [&parts[first..], &parts[..first]].concat().concat();
+        assert_eq!(read(&turned).bytes, bytes, "{turned}");
+    }
+}
+
+/// What a line leaves out is top, what no line gives is bottom, and lists and ranges of names stand for each of them.
+#[test]
+fn short_and_long_lines_say_the_same() {
+    let short = "lattice chain no unsure yes\npropositions p0..p2\nmodel 1\n states a0..a2\n initial a0, a1 a2: unsure\n \
+                 a0..a1: p0, p1 p2 = unsure\n a0..a2 -> a0\nmodel 2\n states b\n b: p1 = top, p2 = bottom\n";
+    let long = "lattice chain no unsure yes\npropositions p0 p1 p2\nmodel 1\n states a0 a1 a2\n initial a0: yes\n \
+                initial a1: unsure\n initial a2: unsure\n a0: p0 = yes, p1 = unsure, p2 = unsure\n \
+                a1: p0 = yes, p1 = unsure, p2 = unsure\n a0 -> a0: yes\n a1 -> a0: yes\n a2 -> a0: yes\n\
+                model 2\n states b\n b: p1 = yes\n b -> b: no\n";
+    assert_eq!(read(short).case, read(long).case);
+}
+
+#[test]
 fn any_bytes_come_back() {
     let mut random = Random(0x0dd);
     for _ in 0..2000 {
