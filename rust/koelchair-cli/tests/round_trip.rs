@@ -177,7 +177,9 @@ fn any_bytes_come_back() {
         let bytes: Vec<u8> = (0..random.below(40))
             .map(|_| random.below(256) as u8)
             .collect();
-        assert_eq!(read(&print_bytes(&bytes)).bytes, bytes);
+        let printed = print_bytes(&bytes);
+        assert!(printed.starts_with("# These bytes have not the form of a case.\nbytes ("));
+        assert_eq!(read(&printed).bytes, bytes);
     }
 }
 
