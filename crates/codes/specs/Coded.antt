@@ -1,6 +1,6 @@
 -- Codes: words for the elements of a lattice on which meet is & and join is |. Rests on theory's Test, operations' Table.
 use Prim.Native.Nat.{ℕ, _<_, _≤_}
-use mathlib.Core.Path.{_≡_, refl, sym, _∙_}
+use mathlib.Core.Path.{_≡_, refl, sym, ap, _∙_}
 use mathlib.Core.List.{List}
 use native.Mathlib.Omega.{arith}
 use borrow.Author.Tests.{eq-eqb, eqb-true}
@@ -20,6 +20,19 @@ pub record PairCoded (t : List ℕ) (n : ℕ) (codes : List ℕ) (a b : ℕ) : T
   pub meet : getD codes (meetIn t a b) 0 ≡ bitAnd (getD codes a 0) (getD codes b 0)
   pub join : getD codes (joinIn t a b) 0 ≡ bitOr (getD codes a 0) (getD codes b 0)
   pub distinct : getD codes a 0 ≡ getD codes b 0 → a ≡ b
+
+-- m and j being what the lookups gave
+pub pair-in : {t codes : List ℕ} {n a b m j : ℕ} → m ≡ meetIn t a b → j ≡ joinIn t a b → m < n → j < n
+    → getD codes m 0 ≡ bitAnd (getD codes a 0) (getD codes b 0) → getD codes j 0 ≡ bitOr (getD codes a 0) (getD codes b 0)
+    → (getD codes a 0 ≡ getD codes b 0 → a ≡ b) → PairCoded t n codes a b
+pair-in {codes = codes} p q l k h g d =
+    record {
+      meet-lt = rw p at l;
+      join-lt = rw q at k;
+      meet = ap (λ (i : ℕ). getD codes i 0) (sym p) ∙ h;
+      join = ap (λ (i : ℕ). getD codes i 0) (sym q) ∙ g;
+      distinct = d;
+    }
 
 pub record RowCoded (t : List ℕ) (n : ℕ) (codes : List ℕ) (a : ℕ) : Type 0 where
   pub at : (b : ℕ) → b < n → PairCoded t n codes a b
