@@ -31,11 +31,6 @@ pub record DistributiveIn (P : LatticePart) (t : List ℕ) : Type 0 where
   pub distributes : distributive (P .size) (meetOf P) (joinOf P) ≡ true
   pub filled : Filled (tableEntry (opsOf P)) 12288 t
 
--- the order is in the tables, and where r is true the part is such a lattice
-pub record DistributiveIf (r : Bool) (P : LatticePart) (t : List ℕ) : Type 0 where
-  pub order : Filled (tableEntry (opsOf P)) 4096 t
-  pub lattice : r ≡ true → DistributiveIn P t
-
 -- a guess keeps the order
 pub kept-filled : {f : ℕ → ℕ} {t u : List ℕ} → Filled f 4096 t → OrderKept t u → Filled f 4096 u
 kept-filled h k = record { at = λ i l. k .at i l ∙ h .at i l }

@@ -19,7 +19,7 @@ ghost use Rattle.lattice.specs.Scan.{orderFor, joinOrMeet, lower, better
 ghost use Rattle.lattice.specs.Distributive.{distributesAt, distributes, distributePair};
 ghost use Rattle.lattice.specs.Tables.{tableEntry, tableOps, boundAt, BoundsFilled};
 ghost use Rattle.lattice.specs.Pairs.{stepsTo, above, orderPair, metPair, complementPair, pairTest, rowTest, allPairs};
-ghost use Rattle.lattice.specs.ByCodes.{DistributiveIn, DistributiveIf, RowRepeats, Repeats};
+ghost use Rattle.lattice.specs.ByCodes.{DistributiveIn, RowRepeats, Repeats};
 
 // What a lattice part gets: a refusal, or its size and bounds.
 pub enum LatticeCheck {
@@ -495,7 +495,7 @@ fn repeats(t: &[u8; 12352], n: u8) -> bool
 // Fills the meets and the joins with guesses, and says whether they pass: then they are those of a distributive lattice.
 fn by_codes(part: &[u8], t: &mut [u8; 12352]) -> bool
     requires { ⌜ (latticeForm (now part) ≡ true) × Filled (tableEntry (opsOf (latticeOf (now part)))) 4096 (now t) ⌝ }
-    ensures { λ r. ⌜ DistributiveIf r (latticeOf (now (part .entry))) (now (t .exit)) ⌝ }
+    ensures { λ r. ⌜ (r ≡ true → DistributiveIn (latticeOf (now (part .entry))) (now (t .exit))) ⌝ }
 {
     let n = size(part);
     codes::guess_bounds(t, operations::index(n));
@@ -535,11 +535,15 @@ fn check_complements(part: &[u8], t: &mut [u8; 12352]) -> LatticeCheck
     })
 }
 
-// Refusals 5 to 8 in turn, with meets and joins found by search and distributivity tested for every three elements.
-fn check_by_search(part: &[u8], t: &mut [u8; 12352]) -> LatticeCheck
-    requires { ⌜ (latticeForm (now part) ≡ true) × Filled (tableEntry (opsOf (latticeOf (now part)))) 4096 (now t) ⌝ }
-    ensures { λ r. ⌜ Answered (partReading (latticeOf (now (part .entry)))) r (now (t .exit)) ⌝ }
+// The refusal that the part gets, or n, top and bottom: each test in turn, with meets and joins found by search and distributivity tested for
+// every three elements.
+pub fn check_by_search(part: &[u8], t: &mut [u8; 12352]) -> LatticeCheck
+    ensures { λ r. ⌜ Answered (latticeReading (now (part .entry))) r (now (t .exit)) ⌝ }
 {
+    if !has_form(part) {
+        return LatticeCheck::Refused(Refusal::LatticeForm);
+    }
+    fill_order(part, t);
     let n = size(part);
     if !passes(t, n, Rule::Order) {
         return LatticeCheck::Refused(Refusal::NoPartialOrder);
@@ -553,7 +557,7 @@ fn check_by_search(part: &[u8], t: &mut [u8; 12352]) -> LatticeCheck
     check_complements(part, t)
 }
 
-// The refusal that the part gets, or n, top and bottom. An accepted part's operations are left in the tables; after a refusal the
+// The same, by codes where the part passes their tests. An accepted part's operations are left in the tables; after a refusal the
 // tables hold anything. An empty part is the caller's to refuse, and is refused here for its form.
 pub fn check(part: &[u8], t: &mut [u8; 12352]) -> LatticeCheck
     ensures { λ r. ⌜ Answered (latticeReading (now (part .entry))) r (now (t .exit)) ⌝ }

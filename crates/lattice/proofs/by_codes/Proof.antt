@@ -23,13 +23,13 @@ find-requires : tie.Need-find-requires
 find-requires c κs = search needs
 
 returns : tie.Need-returns
-returns c = record { order = kept-filled (c .before .before .before .before .before .before .before .before .before .pre .1) (c .before .before .before .before .guess-bounds .ensures); lattice = λ e. absurd (false-true refl e) }
+returns c = λ e. absurd (false-true refl e)
 
 passes-requires : tie.Need-passes-requires
 passes-requires c κs = search needs
 
 returns-2 : tie.Need-returns-2
-returns-2 c = record { order = kept-filled (c .before .before .before .before .before .before .before .before .before .before .before .before .pre .1) (c .before .before .before .before .before .before .before .guess-bounds .ensures); lattice = λ e. absurd (false-true refl e) }
+returns-2 c = λ e. absurd (false-true refl e)
 
 repeats-requires : tie.Need-repeats-requires
 repeats-requires c κs =
@@ -41,14 +41,11 @@ returns-3 c =
     let s = c .before .before .before .before .before .before .before .before .before .before .before .before .before .before in
     let e = c .before .before .before .before .before .before .before .before .before .before .before .before .size .ensures in
     let k = kept-filled (s .pre .1) (c .before .before .before .before .before .before .before .before .before .guess-bounds .ensures) in
-    record {
-      order = k;
-      lattice = λ r. tested (latticeOf (s .args .part .now)) (formed (s .args .part .now) (s .pre .0)) k (record {
-        coded = rw e at (c .before .before .before .before .before .before .find .ensures (not-false _ (c .before .before .before .before .before .if1 .left)));
-        met = rw e at (sym (c .before .before .before .passes .ensures) ∙ not-false _ (c .before .before .if2 .left));
-        repeats = rw e at (c .repeats .ensures r);
-      });
-    }
+    λ r. tested (latticeOf (s .args .part .now)) (formed (s .args .part .now) (s .pre .0)) k (record {
+      coded = rw e at (c .before .before .before .before .before .before .find .ensures (not-false _ (c .before .before .before .before .before .if1 .left)));
+      met = rw e at (sym (c .before .before .before .passes .ensures) ∙ not-false _ (c .before .before .if2 .left));
+      repeats = rw e at (c .repeats .ensures r);
+    })
 
 pub by-codes-spec : {M : Type 1} → statement M
 by-codes-spec =

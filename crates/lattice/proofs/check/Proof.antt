@@ -21,18 +21,17 @@ by-codes-requires : tie.Need-by-codes-requires
 by-codes-requires c κs = (sym (c .before .before .before .before .has-form .ensures) ∙ not-false _ (c .before .before .before .if1 .left), c .before .fill-order .ensures)
 
 check-complements-requires : tie.Need-check-complements-requires
-check-complements-requires c κs = (sym (c .before .before .before .before .before .before .before .has-form .ensures) ∙ not-false _ (c .before .before .before .before .before .before .if1 .left), c .before .before .by-codes .ensures .lattice (c .before .if2 .taken))
+check-complements-requires c κs = (sym (c .before .before .before .before .before .before .before .has-form .ensures) ∙ not-false _ (c .before .before .before .before .before .before .if1 .left), c .before .before .by-codes .ensures (c .before .if2 .taken))
 
 returns-2 : tie.Need-returns-2
 unfolding latticeReading
 returns-2 c = answered-next _ _ _ _ _ (sym (c .before .before .before .before .before .before .before .before .has-form .ensures) ∙ not-false _ (c .before .before .before .before .before .before .before .if1 .left)) (c .check-complements .ensures)
 
 check-by-search-requires : tie.Need-check-by-search-requires
-check-by-search-requires c κs = (sym (c .before .before .before .before .before .before .before .has-form .ensures) ∙ not-false _ (c .before .before .before .before .before .before .if1 .left), c .before .before .by-codes .ensures .order)
+check-by-search-requires c κs = search needs
 
 returns-3 : tie.Need-returns-3
-unfolding latticeReading
-returns-3 c = answered-next _ _ _ _ _ (sym (c .before .before .before .before .before .before .before .before .has-form .ensures) ∙ not-false _ (c .before .before .before .before .before .before .before .if1 .left)) (c .check-by-search .ensures)
+returns-3 c = search needs
 
 pub check-spec : {M : Type 1} → statement M
 check-spec =

@@ -2,78 +2,97 @@
 use mathlib.Core.Path.{sym, _∙_}
 use native.Mathlib.Nat.{le-refl}
 use borrow.Author.Tests.{not-true, not-false}
-use Rattle.lattice.specs.Reading.{latticeOf, partReading}
+use borrow.Author.Needs.{needs}
+use Rattle.lattice.specs.Reading.{latticeReading, partReading}
 use Rattle.lattice.specs.Accepted.{ordered-out, bounded-out}
 use Rattle.lattice.specs.Check.{tables-hold, order-same, distributive-same, answered-here, answered-next}
-use borrow.Author.Needs.{needs}
 use Rattle.lattice.proofs.check_by_search.Statement.{statement}
 use Rattle.lattice.proofs.check_by_search.Tie as tie
 
+has-form-requires : tie.Need-has-form-requires
+has-form-requires c κs = search needs
+
+returns : tie.Need-returns
+unfolding latticeReading
+returns c = answered-here _ _ _ _ (sym (c .before .has-form .ensures) ∙ not-true _ (c .if1 .taken))
+
+fill-order-requires : tie.Need-fill-order-requires
+fill-order-requires c κs = sym (c .before .before .has-form .ensures) ∙ not-false _ (c .before .if1 .left)
+
 size-requires : tie.Need-size-requires
-size-requires c κs = search needs
+size-requires c κs = sym (c .before .before .before .has-form .ensures) ∙ not-false _ (c .before .before .if1 .left)
 
 passes-requires : tie.Need-passes-requires
 passes-requires c κs = search needs
 
-returns : tie.Need-returns
-unfolding partReading
-returns c =
-    let s = c .before .before .before .before .before in
-    let h = tables-hold (s .args .part .now) (s .pre .0) (c .before .before .before .size .ensures) (s .pre .1) in
-    answered-here _ _ _ _ (sym (order-same h (le-refl _)) ∙ sym (c .before .passes .ensures) ∙ not-true _ (c .if1 .taken))
+returns-2 : tie.Need-returns-2
+unfolding latticeReading partReading
+returns-2 c =
+    let p = c .before .before .before .before .before .before .before .before .before .args .part .now in
+    let f = sym (c .before .before .before .before .before .before .before .has-form .ensures) ∙ not-false _ (c .before .before .before .before .before .before .if1 .left) in
+    let h = tables-hold p f (c .before .before .before .size .ensures) (c .before .before .before .before .fill-order .ensures) in
+    answered-next _ _ _ _ _ f (answered-here _ _ _ _ (sym (order-same h (le-refl _)) ∙ sym (c .before .passes .ensures) ∙ not-true _ (c .if2 .taken)))
 
 fill-bounds-requires : tie.Need-fill-bounds-requires
 fill-bounds-requires c κs =
-    let s = c .before .before .before .before .before .before in
-    let h = tables-hold (s .args .part .now) (s .pre .0) (c .before .before .before .before .size .ensures) (s .pre .1) in
-    (s .pre .0, sym (order-same h (le-refl _)) ∙ sym (c .before .before .passes .ensures) ∙ not-false _ (c .before .if1 .left), s .pre .1)
+    let p = c .before .before .before .before .before .before .before .before .before .before .args .part .now in
+    let f = sym (c .before .before .before .before .before .before .before .before .has-form .ensures) ∙ not-false _ (c .before .before .before .before .before .before .before .if1 .left) in
+    let h = tables-hold p f (c .before .before .before .before .size .ensures) (c .before .before .before .before .before .fill-order .ensures) in
+    (f, sym (order-same h (le-refl _)) ∙ sym (c .before .before .passes .ensures) ∙ not-false _ (c .before .if2 .left), h .filled)
 
-returns-2 : tie.Need-returns-2
-unfolding partReading
-returns-2 c =
-    let s = c .before .before .before .before .before .before .before .before in
-    let h = tables-hold (s .args .part .now) (s .pre .0) (c .before .before .before .before .before .before .size .ensures) (s .pre .1) in
-    answered-next _ _ _ _ _ (sym (order-same h (le-refl _)) ∙ sym (c .before .before .before .before .passes .ensures) ∙ not-false _ (c .before .before .before .if1 .left)) (answered-here _ _ _ _ (sym (c .before .fill-bounds .ensures .says) ∙ not-true _ (c .if2 .taken)))
+returns-3 : tie.Need-returns-3
+unfolding latticeReading partReading
+returns-3 c =
+    let p = c .before .before .before .before .before .before .before .before .before .before .before .before .args .part .now in
+    let f = sym (c .before .before .before .before .before .before .before .before .before .before .has-form .ensures) ∙ not-false _ (c .before .before .before .before .before .before .before .before .before .if1 .left) in
+    let h = tables-hold p f (c .before .before .before .before .before .before .size .ensures) (c .before .before .before .before .before .before .before .fill-order .ensures) in
+    answered-next _ _ _ _ _ f (answered-next _ _ _ _ _ (sym (order-same h (le-refl _)) ∙ sym (c .before .before .before .before .passes .ensures) ∙ not-false _ (c .before .before .before .if2 .left)) (answered-here _ _ _ _ (sym (c .before .fill-bounds .ensures .says) ∙ not-true _ (c .if3 .taken))))
 
 passes-requires-2 : tie.Need-passes-requires-2
 passes-requires-2 c κs = search needs
 
-returns-3 : tie.Need-returns-3
-unfolding partReading
-returns-3 c =
-    let s = c .before .before .before .before .before .before .before .before .before .before .before in
-    let h = tables-hold (s .args .part .now) (s .pre .0) (c .before .before .before .before .before .before .before .before .before .size .ensures) (s .pre .1) in
-    let o = sym (order-same h (le-refl _)) ∙ sym (c .before .before .before .before .before .before .before .passes .ensures) ∙ not-false _ (c .before .before .before .before .before .before .if1 .left) in
-    let y = not-false _ (c .before .before .before .if2 .left) in
+returns-4 : tie.Need-returns-4
+unfolding latticeReading partReading
+returns-4 c =
+    let p = c .before .before .before .before .before .before .before .before .before .before .before .before .before .before .before .args .part .now in
+    let f = sym (c .before .before .before .before .before .before .before .before .before .before .before .before .before .has-form .ensures) ∙ not-false _ (c .before .before .before .before .before .before .before .before .before .before .before .before .if1 .left) in
+    let h = tables-hold p f (c .before .before .before .before .before .before .before .before .before .size .ensures) (c .before .before .before .before .before .before .before .before .before .before .fill-order .ensures) in
+    let o = sym (order-same h (le-refl _)) ∙ sym (c .before .before .before .before .before .before .before .passes .ensures) ∙ not-false _ (c .before .before .before .before .before .before .if2 .left) in
+    let y = not-false _ (c .before .before .before .if3 .left) in
     let b = sym (c .before .before .before .before .fill-bounds .ensures .says) ∙ y in
-    let k = tables-hold (s .args .part .now) (s .pre .0) (c .before .before .before .before .before .before .before .before .before .size .ensures) (c .before .before .before .before .fill-bounds .ensures .filled y) in
+    let k = tables-hold p f (c .before .before .before .before .before .before .before .before .before .size .ensures) (c .before .before .before .before .fill-bounds .ensures .filled y) in
     let d = distributive-same k (le-refl _) (bounded-out _ b) (ordered-out _ o) in
-    answered-next _ _ _ _ _ o (answered-next _ _ _ _ _ b (answered-here _ _ _ _ (sym d ∙ sym (c .before .passes2 .ensures) ∙ not-true _ (c .if3 .taken))))
+    answered-next _ _ _ _ _ f (answered-next _ _ _ _ _ o (answered-next _ _ _ _ _ b (answered-here _ _ _ _ (sym d ∙ sym (c .before .passes2 .ensures) ∙ not-true _ (c .if4 .taken)))))
 
 check-complements-requires : tie.Need-check-complements-requires
 check-complements-requires c κs =
-    let s = c .before .before .before .before .before .before .before .before .before .before .before .before in
-    let h = tables-hold (s .args .part .now) (s .pre .0) (c .before .before .before .before .before .before .before .before .before .before .size .ensures) (s .pre .1) in
-    let o = sym (order-same h (le-refl _)) ∙ sym (c .before .before .before .before .before .before .before .before .passes .ensures) ∙ not-false _ (c .before .before .before .before .before .before .before .if1 .left) in
-    let y = not-false _ (c .before .before .before .before .if2 .left) in
+    let p = c .before .before .before .before .before .before .before .before .before .before .before .before .before .before .before .before .args .part .now in
+    let f = sym (c .before .before .before .before .before .before .before .before .before .before .before .before .before .before .has-form .ensures) ∙ not-false _ (c .before .before .before .before .before .before .before .before .before .before .before .before .before .if1 .left) in
+    let h = tables-hold p f (c .before .before .before .before .before .before .before .before .before .before .size .ensures) (c .before .before .before .before .before .before .before .before .before .before .before .fill-order .ensures) in
+    let o = sym (order-same h (le-refl _)) ∙ sym (c .before .before .before .before .before .before .before .before .passes .ensures) ∙ not-false _ (c .before .before .before .before .before .before .before .if2 .left) in
+    let y = not-false _ (c .before .before .before .before .if3 .left) in
     let b = sym (c .before .before .before .before .before .fill-bounds .ensures .says) ∙ y in
-    let k = tables-hold (s .args .part .now) (s .pre .0) (c .before .before .before .before .before .before .before .before .before .before .size .ensures) (c .before .before .before .before .before .fill-bounds .ensures .filled y) in
+    let k = tables-hold p f (c .before .before .before .before .before .before .before .before .before .before .size .ensures) (c .before .before .before .before .before .fill-bounds .ensures .filled y) in
     let d = distributive-same k (le-refl _) (bounded-out _ b) (ordered-out _ o) in
-    (s .pre .0, record { ordered = ordered-out _ o; bounds = bounded-out _ b; distributes = sym d ∙ sym (c .before .before .passes2 .ensures) ∙ not-false _ (c .before .if3 .left); filled = k .filled })
+    (f, record { ordered = ordered-out _ o; bounds = bounded-out _ b; distributes = sym d ∙ sym (c .before .before .passes2 .ensures) ∙ not-false _ (c .before .if4 .left); filled = k .filled })
 
-returns-4 : tie.Need-returns-4
-returns-4 c = search needs
+returns-5 : tie.Need-returns-5
+unfolding latticeReading
+returns-5 c = answered-next _ _ _ _ _ (sym (c .before .before .before .before .before .before .before .before .before .before .before .before .before .before .before .has-form .ensures) ∙ not-false _ (c .before .before .before .before .before .before .before .before .before .before .before .before .before .before .if1 .left)) (c .check-complements .ensures)
 
 pub check-by-search-spec : {M : Type 1} → statement M
 check-by-search-spec =
     tie.close
     (tie.spec
+    has-form-requires
+    returns
+    fill-order-requires
     size-requires
     passes-requires
-    returns
-    fill-bounds-requires
     returns-2
-    passes-requires-2
+    fill-bounds-requires
     returns-3
+    passes-requires-2
+    returns-4
     check-complements-requires
-    returns-4)
+    returns-5)
