@@ -1,5 +1,5 @@
 // Codes of a lattice's elements: words of 64 bits on which meet is & and join is |. Codes, and meets and joins, are guessed from the order in
-// the tables, in n·n steps; nothing is claimed of a guess. The codes are then tested for every two elements.
+// the tables, in a few times 64·64 steps; nothing is claimed of a guess. The codes are then tested for every two elements.
 use operations::Element;
 use operations::Lattice;
 ghost use mathlib.Core.Path.{_≡_};
@@ -123,7 +123,7 @@ pub fn guess_bounds(t: &mut [u8; 12352], n: usize)
 
 // ---- the guess of codes
 
-// a is not the join of others: those below it are all that are at or below one of them.
+// a is no join of others: the elements below it are all those at or below one of them.
 fn is_irreducible(down: &[u64; 64], n: usize, a: usize) -> bool
     requires { ⌜ (n ≤ 64) × (a < 64) ⌝ }
 {
@@ -136,7 +136,7 @@ fn is_irreducible(down: &[u64; 64], n: usize, a: usize) -> bool
     false
 }
 
-// The bits of all those elements.
+// The bits of all such elements.
 fn irreducibles(down: &[u64; 64], n: usize) -> u64
     requires { ⌜ n ≤ 64 ⌝ }
 {
@@ -149,7 +149,7 @@ fn irreducibles(down: &[u64; 64], n: usize) -> u64
     x
 }
 
-// An element's code has the bits of those at or below it.
+// An element's code has the bits of those at or below it that are no joins of others.
 fn guess_codes(t: &[u8; 12352], n: usize, codes: &mut [u64; 64])
     requires { ⌜ n ≤ 64 ⌝ }
 {

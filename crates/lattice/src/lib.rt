@@ -459,7 +459,7 @@ fn passes(t: &[u8; 12352], n: u8, rule: Rule) -> bool
 
 // ---- meets and joins by codes: guessed, and taken only where they pass tests of every two elements
 
-// The places of a row of the meets and joins hold what those of their elements hold. The columns of elements need no look where the row is one's.
+// Each place of a row of the meets and joins holds what the place of its elements holds. Where row and column are elements it does so at once.
 fn row_repeats(t: &[u8; 12352], n: u8, row: usize) -> bool
     requires { ⌜ (0 < n) × (n ≤ 64) × (64 ≤ row) × (row < 192) ⌝ }
     ensures { λ r. ⌜ (r ≡ true → RowRepeats n row (now (t .entry))) ⌝ }
@@ -480,6 +480,7 @@ fn row_repeats(t: &[u8; 12352], n: u8, row: usize) -> bool
     true
 }
 
+// The same of every row.
 fn repeats(t: &[u8; 12352], n: u8) -> bool
     requires { ⌜ (0 < n) × (n ≤ 64) ⌝ }
     ensures { λ r. ⌜ (r ≡ true → Repeats n (now (t .entry))) ⌝ }
