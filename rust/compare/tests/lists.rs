@@ -1,0 +1,73 @@
+//! Lists of calls with fixed seeds. The seed of a list is its number.
+
+use compare::counts::Counts;
+use compare::lists;
+use std::panic::{catch_unwind, AssertUnwindSafe};
+use std::thread;
+
+const LISTS: u64 = 30_000;
+const SHOWN_DIFFERENCES: usize = 5;
+
+fn number(name: &str) -> Option<u64> {
+    let text = std::env::var(name).ok()?;
+    Some(
+        text.parse()
+            .unwrap_or_else(|_| panic!("{name} is no number: {text}")),
+    )
+}
+
+/// Makes a list; a panic counts as a difference.
+fn run(seed: u64, counts: &mut Counts, print: bool) -> Result<(), String> {
+    catch_unwind(AssertUnwindSafe(|| lists::run(seed, counts, print)))
+        .unwrap_or_else(|_| Err(format!("list {seed}: a call panicked")))
+}
+
+/// Makes every list of a share of the seeds: first, first + step, and so on.
+fn run_share(first: u64, step: u64, lists: u64) -> (Counts, Vec<String>) {
+    let mut counts = Counts::default();
+    let seeds = (first..lists).step_by(step as usize);
+    let differences = seeds
+        .filter_map(|seed| run(seed, &mut counts, false).err())
+        .collect();
+    (counts, differences)
+}
+
+fn run_all(lists: u64) -> (Counts, Vec<String>) {
+    let threads = thread::available_parallelism().map_or(1, |n| n.get() as u64);
+    let mut counts = Counts::default();
+    let mut differences = Vec::new();
+    thread::scope(|scope| {
+        let shares: Vec<_> = (0..threads)
+            .map(|first| scope.spawn(move || run_share(first, threads, lists)))
+            .collect();
+        for share in shares {
+            let (met, found) = share.join().expect("a share of the lists");
+            counts.merge(&met);
+            differences.extend(found);
+        }
+    });
+    (counts, differences)
+}
+
+#[test]
+fn lists_agree() {
+    if let Some(seed) = number("KOELCHAIR_SEED") {
+        run(seed, &mut Counts::default(), true).unwrap_or_else(|difference| panic!("{difference}"));
+        return;
+    }
+    let lists = number("KOELCHAIR_LISTS").unwrap_or(LISTS);
+    let (counts, differences) = run_all(lists);
+    println!("lists: {lists}\n{}", counts.lines());
+    let shown = &differences[..differences.len().min(SHOWN_DIFFERENCES)];
+    assert!(
+        differences.is_empty(),
+        "{} of {lists} lists differ:\n{}",
+        differences.len(),
+        shown.join("\n")
+    );
+    assert!(
+        counts.missing().is_empty(),
+        "never met: {:?}",
+        counts.missing()
+    );
+}
