@@ -4,7 +4,7 @@
 use crate::formulas;
 use crate::generator::Random;
 use crate::lattices::{self, Lattice};
-use crate::models;
+use crate::models::{self, Model};
 
 pub const CASE_MOST: usize = 32_768;
 
@@ -59,34 +59,28 @@ pub struct Scale {
     pub longest_formula: usize,
 }
 
-pub const SMALL: Scale = Scale {
-    elements: 6,
-    states: 4,
-    propositions: 2,
-    formulas: 2,
-    longest_formula: 24,
-};
-pub const MIDDLE: Scale = Scale {
-    elements: 12,
-    states: 6,
-    propositions: 4,
-    formulas: 4,
-    longest_formula: 60,
-};
-pub const WIDE: Scale = Scale {
-    elements: 27,
-    states: 8,
-    propositions: 16,
-    formulas: 8,
-    longest_formula: 255,
-};
-pub const LARGE: Scale = Scale {
-    elements: 64,
-    states: 64,
-    propositions: 16,
-    formulas: 8,
-    longest_formula: 100,
-};
+const fn scale_of(
+    elements: usize,
+    states: usize,
+    propositions: usize,
+    formulas: usize,
+    longest_formula: usize,
+) -> Scale {
+    Scale {
+        elements,
+        states,
+        propositions,
+        formulas,
+        longest_formula,
+    }
+}
+
+pub const SMALL: Scale = scale_of(6, 4, 2, 2, 24);
+pub const MIDDLE: Scale = scale_of(12, 6, 4, 4, 60);
+pub const WIDE: Scale = scale_of(27, 8, 16, 8, 255);
+/// Many states and few elements, for many rounds.
+pub const LONG: Scale = scale_of(3, 12, 1, 1, 24);
+pub const LARGE: Scale = scale_of(64, 64, 16, 8, 100);
 
 /// Mostly small, now and then wider.
 pub fn scale(random: &mut Random) -> Scale {
@@ -121,22 +115,40 @@ pub fn draft_of_states(random: &mut Random, scale: Scale, states: [usize; 2]) ->
     } else {
         models::random(random, &lattice, states[1], k)
     };
-    let formulas = random.between(0, scale.formulas);
-    let mut parts = vec![part, first.part(), second.part()];
-    parts.extend((0..formulas).map(|_| formulas::random(random, k, scale.longest_formula)));
-    let (top, bottom) = (lattice.top(), lattice.bottom());
+    let least = if random.one_in(6) { 0 } else { 1 };
+    let count = random.between(least, scale.formulas);
+    let formulas = (0..count).map(|_| formulas::random(random, k, scale.longest_formula));
+    let formulas = formulas.collect();
+    assembled(lattice, part, [first, second], formulas)
+}
+
+/// A draft of the greatest sizes: 64 elements, 64 states, 16 propositions, eight formulas of 255 bytes.
+pub fn greatest_draft(random: &mut Random) -> Draft {
+    let lattice = lattices::of_64(random);
+    let part = lattice.part();
+    let models = [64, 64].map(|states| models::random(random, &lattice, states, 16));
+    let formulas = (0..8).map(|_| formulas::exact(random, 255, 16, 0, 1));
+    let formulas = formulas.collect();
+    assembled(lattice, part, models, formulas)
+}
+
+fn assembled(lattice: Lattice, part: Vec<u8>, models: [Model; 2], formulas: Vec<Vec<u8>>) -> Draft {
     let shape = Shape {
         elements: lattice.size,
-        states,
-        formulas,
-        top,
-        bottom,
+        states: [models[0].states, models[1].states],
+        formulas: formulas.len(),
+        top: lattice.top(),
+        bottom: lattice.bottom(),
     };
+    let propositions = models[0].propositions;
+    let mut parts = vec![part];
+    parts.extend(models.map(|model| model.part()));
+    parts.extend(formulas);
     Draft {
         shape,
         lattice,
         parts,
-        propositions: k,
+        propositions,
     }
 }
 

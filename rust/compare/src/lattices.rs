@@ -208,6 +208,17 @@ pub fn close(below: &mut [usize]) {
     }
 }
 
+/// A lattice of 64 elements.
+pub fn of_64(random: &mut Random) -> Lattice {
+    let lattice = match random.below(4) {
+        0 => chain(64),
+        1 => chain(4).times(&chain(4)).times(&chain(4)),
+        2 => chain(8).times(&chain(8)),
+        _ => power_set(random, 6),
+    };
+    lattice.renumbered(random)
+}
+
 /// A lattice of at most `most` elements (1 to 64).
 pub fn random(random: &mut Random, most: usize) -> Lattice {
     let lattice = match random.weighted(&[2, 4, 3, 4, 1]) {

@@ -2,7 +2,7 @@
 //! compared. A list is fixed by its seed. Rests on all other files.
 
 use crate::calls::{self, Call};
-use crate::cases::{self, Scale, Shape, LARGE, SMALL};
+use crate::cases::{self, Scale, Shape, LARGE, LONG, SMALL};
 use crate::counts::Counts;
 use crate::damage;
 use crate::desks::{self, Desk};
@@ -17,10 +17,10 @@ pub fn run(seed: u64, counts: &mut Counts, print: bool) -> Result<(), Difference
     let mut random = Random::new(seed);
     let kind = random.weighted(&[180, 110, 70, 80, 30, 2]);
     let desk = first_desk(&mut random, kind);
-    let scale = if kind == 5 {
-        LARGE
-    } else {
-        cases::scale(&mut random)
+    let scale = match kind {
+        2 if random.one_in(8) => LONG,
+        5 => LARGE,
+        _ => cases::scale(&mut random),
     };
     let shape = Shape {
         elements: 2,
@@ -83,7 +83,7 @@ impl List<'_> {
         }
         self.open()?;
         for _ in 0..calls {
-            let opens = if self.proved.standing.settled { 20 } else { 2 };
+            let opens = if self.proved.standing.settled { 40 } else { 2 };
             match self.random.weighted(&[60, 30, opens, 4, 2]) {
                 0 => self.step()?,
                 1 => self.question()?,
@@ -95,8 +95,11 @@ impl List<'_> {
         Ok(())
     }
 
-    /// Cases aimed at the refusals 1 to 10, between other calls. The program's text for a case is compared elsewhere.
+    /// Cases aimed at the refusals 1 to 10, between other calls.
     fn refused_cases(&mut self) -> Result<(), Difference> {
+        if self.random.one_in(2) {
+            self.open()?;
+        }
         for _ in 0..self.random.between(4, 10) {
             self.open_damaged()?;
             if self.random.one_in(3) {
@@ -161,9 +164,14 @@ impl List<'_> {
         Ok(())
     }
 
-    /// A case near the greatest sizes, and few calls.
+    /// A case near the greatest sizes or of just these, and few calls.
     fn large_case(&mut self) -> Result<(), Difference> {
-        self.open()?;
+        if self.random.one_in(3) {
+            let case = cases::greatest_draft(&mut self.random).bytes(&mut self.random);
+            self.open_case(case)?;
+        } else {
+            self.open()?;
+        }
         for _ in 0..4 {
             self.step_or_question()?;
         }
