@@ -32,20 +32,16 @@ impl Shape {
     }
 }
 
-/// The shape of the case that has just been opened, read in the store (docs/STORE.md) and in the first table, which is all top.
-pub fn opened_shape(states: [usize; 2], store: &[u8], first: &[u8]) -> Shape {
-    let top = first[0];
-    let at = usize::from(u16::from_le_bytes([store[1], store[2]]));
-    let (elements, bottom) = match store[at] {
-        0 => (27, 0),
-        n => (usize::from(n), store[at + 1 + usize::from(top)]),
-    };
-    Shape {
-        elements,
-        states,
-        formulas: usize::from(store[0]) - 3,
-        top,
-        bottom,
+impl Default for Shape {
+    /// What is taken for the shape before any case is opened.
+    fn default() -> Shape {
+        Shape {
+            elements: 2,
+            states: [1, 1],
+            formulas: 0,
+            top: 1,
+            bottom: 0,
+        }
     }
 }
 

@@ -139,13 +139,34 @@ pub fn lay(random: &mut Random, desk: &mut Desk, draft: &Draft) {
     set_place(random, desk, draft.shape);
 }
 
+/// The shape of the case that a desk has just been opened with, read in the store (docs/STORE.md) and in the first table, which is all top.
+pub fn opened_shape(desk: &Desk) -> Shape {
+    let Desk {
+        standing,
+        store,
+        first,
+        ..
+    } = desk;
+    let top = first[0];
+    let at = usize::from(u16::from_le_bytes([store[1], store[2]]));
+    let (elements, bottom) = match store[at] {
+        0 => (27, 0),
+        n => (usize::from(n), store[at + 1 + usize::from(top)]),
+    };
+    Shape {
+        elements,
+        states: [standing.states1.into(), standing.states2.into()],
+        formulas: usize::from(store[0]) - 3,
+        top,
+        bottom,
+    }
+}
+
 /// Another case with the same states in the store, the standing kept. With another n the tables or the round may break a rule.
-pub fn exchange_store(random: &mut Random, desk: &mut Desk, scale: Scale, shape: Shape) -> Draft {
-    let draft = cases::draft_of_states(random, scale, shape.states);
-    let bytes = draft.bytes(random);
+pub fn exchange_store(random: &mut Random, desk: &mut Desk, scale: Scale, shape: Shape) {
+    let bytes = cases::draft_of_states(random, scale, shape.states).bytes(random);
     let written = bytes.len().min(STORE_LENGTH);
     desk.store[..written].copy_from_slice(&bytes[..written]);
-    draft
 }
 
 /// Alters a desk within the rules.

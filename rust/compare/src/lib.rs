@@ -2,8 +2,10 @@
 //!
 //! KOELCHAIR_LISTS=number makes that many lists; KOELCHAIR_SEED=number makes the one list of that seed and prints every call.
 
+pub mod arguments;
 pub mod calls;
 pub mod cases;
+pub mod comparison;
 pub mod counts;
 pub mod damage;
 pub mod desks;
