@@ -55,28 +55,42 @@ pub struct Scale {
     pub longest_formula: usize,
 }
 
-const fn scale_of(
-    elements: usize,
-    states: usize,
-    propositions: usize,
-    formulas: usize,
-    longest_formula: usize,
-) -> Scale {
-    Scale {
-        elements,
-        states,
-        propositions,
-        formulas,
-        longest_formula,
-    }
-}
-
-pub const SMALL: Scale = scale_of(6, 4, 2, 2, 24);
-pub const MIDDLE: Scale = scale_of(12, 6, 4, 4, 60);
-pub const WIDE: Scale = scale_of(27, 8, 16, 8, 255);
+pub const SMALL: Scale = Scale {
+    elements: 6,
+    states: 4,
+    propositions: 2,
+    formulas: 2,
+    longest_formula: 24,
+};
+pub const MIDDLE: Scale = Scale {
+    elements: 12,
+    states: 6,
+    propositions: 4,
+    formulas: 4,
+    longest_formula: 60,
+};
+pub const WIDE: Scale = Scale {
+    elements: 27,
+    states: 8,
+    propositions: 16,
+    formulas: 8,
+    longest_formula: 255,
+};
 /// Many states and few elements, for many rounds.
-pub const LONG: Scale = scale_of(3, 12, 1, 1, 24);
-pub const LARGE: Scale = scale_of(64, 64, 16, 8, 100);
+pub const LONG: Scale = Scale {
+    elements: 3,
+    states: 12,
+    propositions: 1,
+    formulas: 1,
+    longest_formula: 24,
+};
+pub const LARGE: Scale = Scale {
+    elements: 64,
+    states: 64,
+    propositions: 16,
+    formulas: 8,
+    longest_formula: 100,
+};
 
 /// Mostly small, now and then wider.
 pub fn scale(random: &mut Random) -> Scale {

@@ -2,8 +2,22 @@
 
 use crate::calls::Call;
 use second::Reply;
-use std::collections::BTreeMap;
 
+const REFUSALS: [&str; 13] = [
+    "refusal 1",
+    "refusal 2",
+    "refusal 3",
+    "refusal 4",
+    "refusal 5",
+    "refusal 6",
+    "refusal 7",
+    "refusal 8",
+    "refusal 9",
+    "refusal 10",
+    "refusal 11",
+    "refusal 12",
+    "refusal 13",
+];
 const ANSWERS: [&str; 10] = [
     "Opened",
     "Row",
@@ -20,32 +34,26 @@ const SETTLED_EARLY: &str = "desk settled at round 1 or 2";
 const SETTLED_LATE: &str = "desk settled at a later round";
 const SETTLED_AGAIN: &str = "settled desk stepped again";
 const CALLS: &str = "calls";
+const OTHERS: [&str; 4] = [SETTLED_EARLY, SETTLED_LATE, SETTLED_AGAIN, CALLS];
 
+/// A number for each name, in the order of the lists above.
 #[derive(Clone, Debug)]
 pub struct Counts {
-    met: BTreeMap<String, u64>,
+    met: Vec<(&'static str, u64)>,
 }
 
 impl Default for Counts {
     fn default() -> Counts {
-        let refusals = (1..=13).map(refusal);
-        let others = ANSWERS
-            .iter()
-            .chain([&SETTLED_EARLY, &SETTLED_LATE, &SETTLED_AGAIN, &CALLS])
-            .map(|name| name.to_string());
+        let names = REFUSALS.iter().chain(&ANSWERS).chain(&OTHERS);
         Counts {
-            met: refusals.chain(others).map(|name| (name, 0)).collect(),
+            met: names.map(|&name| (name, 0)).collect(),
         }
     }
 }
 
-fn refusal(number: u8) -> String {
-    format!("refusal {number:2}")
-}
-
-fn name(reply: &Reply) -> String {
-    let name = match reply {
-        Reply::Refused { number, .. } => return refusal(*number),
+fn name(reply: &Reply) -> &'static str {
+    match reply {
+        Reply::Refused { number, .. } => REFUSALS[usize::from(*number) - 1],
         Reply::Opened => "Opened",
         Reply::Row => "Row",
         Reply::Round(_) => "Round",
@@ -56,8 +64,7 @@ fn name(reply: &Reply) -> String {
         Reply::PerCent(_) => "PerCent",
         Reply::Says(true) => "Says yes",
         Reply::Says(false) => "Says no",
-    };
-    name.to_string()
+    }
 }
 
 fn settled(round: u32, before: bool) -> &'static str {
@@ -70,38 +77,37 @@ fn settled(round: u32, before: bool) -> &'static str {
 
 impl Counts {
     fn add(&mut self, name: &str, times: u64) {
-        *self.met.entry(name.to_string()).or_default() += times;
+        let entry = self.met.iter_mut().find(|(other, _)| *other == name);
+        entry.expect("a name of the lists above").1 += times;
     }
 
     /// Counts a call, its answer, and whether it settled a desk or found it settled.
     pub fn call(&mut self, call: &Call, reply: &Reply, settled_before: bool) {
         self.add(CALLS, 1);
-        self.add(&name(reply), 1);
+        self.add(name(reply), 1);
         if let (Call::Step, &Reply::Settled(round)) = (call, reply) {
             self.add(settled(round, settled_before), 1);
         }
     }
 
     pub fn merge(&mut self, other: &Counts) {
-        for (name, &times) in &other.met {
+        for &(name, times) in &other.met {
             self.add(name, times);
         }
     }
 
     /// What was never met.
-    pub fn missing(&self) -> Vec<String> {
-        self.met
-            .iter()
-            .filter(|(_, &times)| times == 0)
-            .map(|(name, _)| name.clone())
-            .collect()
+    pub fn missing(&self) -> Vec<&'static str> {
+        let never = self.met.iter().filter(|(_, times)| *times == 0);
+        never.map(|(name, _)| *name).collect()
     }
 
-    /// A line for each, in the order of the numbers and names.
+    /// A line for each name.
     pub fn lines(&self) -> String {
-        self.met
+        let lines = self
+            .met
             .iter()
-            .map(|(name, times)| format!("{name}: {times}\n"))
-            .collect()
+            .map(|(name, times)| format!("{name}: {times}\n"));
+        lines.collect()
     }
 }

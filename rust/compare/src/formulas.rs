@@ -62,7 +62,7 @@ pub fn random(random: &mut Random, k: usize, longest: usize) -> Vec<u8> {
     exact(random, length, k, 0, more)
 }
 
-/// The same rules but for one, or nearly the same: what it is refused with, if it is, is not assumed.
+/// A formula with a rule broken by little, or just kept: whether it is refused is not assumed.
 pub fn damaged(random: &mut Random, k: usize) -> Vec<u8> {
     match random.below(10) {
         0 => exact(random, 256, k, 0, 1),

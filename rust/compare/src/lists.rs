@@ -1,5 +1,6 @@
 //! The lists of calls. A list is fixed by its seed, which also says of which kind it is. Rests on all other files.
 
+use crate::alterations;
 use crate::arguments;
 use crate::calls::Call;
 use crate::cases::{self, Scale, Shape, LARGE, LONG, SMALL};
@@ -98,7 +99,7 @@ impl List<'_> {
                 1 => self.question()?,
                 2 => self.open()?,
                 3 => self.open_damaged()?,
-                _ => self.alter(desks::alter_within),
+                _ => self.alter(alterations::within),
             }
         }
         Ok(())
@@ -122,7 +123,7 @@ impl List<'_> {
         self.open()?;
         let altered = self.random.one_in(3);
         if altered {
-            self.alter(desks::alter_within);
+            self.alter(alterations::within);
         }
         let most = self.shape.states[0] * (self.shape.round_limit() as usize + 1);
         for _ in 0..most {
@@ -153,10 +154,11 @@ impl List<'_> {
         for _ in 0..self.random.between(3, 10) {
             let before = self.pair.desk().clone();
             match self.random.below(8) {
-                0..=2 => self.alter(desks::alter_within),
-                3..=6 => self.alter(desks::alter_beyond),
-                _ => self
-                    .alter(|random, desk, shape| desks::exchange_store(random, desk, SMALL, shape)),
+                0..=2 => self.alter(alterations::within),
+                3..=6 => self.alter(alterations::beyond),
+                _ => self.alter(|random, desk, shape| {
+                    alterations::exchange_store(random, desk, SMALL, shape)
+                }),
             }
             for _ in 0..self.random.between(1, 3) {
                 self.step_or_question()?;
@@ -255,7 +257,7 @@ impl List<'_> {
     fn lay(&mut self) {
         let draft = cases::draft(&mut self.random, self.scale);
         let mut desk = self.pair.desk().clone();
-        desks::lay(&mut self.random, &mut desk, &draft);
+        alterations::lay(&mut self.random, &mut desk, &draft);
         self.shape = draft.shape;
         self.pair.put(desk);
     }

@@ -3,13 +3,16 @@
 use compare::cases;
 use compare::damage;
 use compare::generator::Random;
+use std::io::Write;
 
-const CASES: u64 = 6_000;
+const CASES: u64 = 5_000;
 
-/// Every third case is damaged, so that most of those are refused.
+/// The first case is of the greatest sizes. Every third is damaged, so that most of those are refused.
 fn case(seed: u64) -> Vec<u8> {
     let mut random = Random::new(seed);
-    if seed % 3 == 0 {
+    if seed == 0 {
+        cases::greatest_draft(&mut random).bytes(&mut random)
+    } else if seed % 3 == 0 {
         let number = random.between(1, 10) as u8;
         damage::damaged(&mut random, number)
     } else {
@@ -24,17 +27,18 @@ fn listings_agree() {
     for seed in 0..CASES {
         let case = case(seed);
         let proved = koelchair::listing(&case);
-        assert_eq!(
-            proved,
-            second::report(&case),
-            "the case of seed {seed}: {case:?}"
-        );
+        let second = second::report(&case);
+        assert_eq!(proved, second, "on the case of seed {seed}: {case:?}");
         if proved.starts_with("refused ") {
             refused += 1;
         } else {
             settled += 1;
         }
     }
-    println!("listings compared: {settled} of settled desks, {refused} of refused cases");
+    let text =
+        format!("\nlistings compared: {settled} of settled desks, {refused} of refused cases\n");
+    std::io::stdout()
+        .write_all(text.as_bytes())
+        .expect("standard output");
     assert!(settled > 0 && refused > 0);
 }

@@ -2,6 +2,7 @@
 
 use compare::counts::Counts;
 use compare::lists;
+use std::io::Write;
 use std::panic::{catch_unwind, AssertUnwindSafe};
 use std::thread;
 
@@ -23,23 +24,22 @@ fn run(seed: u64, counts: &mut Counts, print: bool) -> Result<(), String> {
 }
 
 /// Makes every list of a share of the seeds: first, first + step, and so on.
-fn run_share(first: u64, step: u64, lists: u64) -> (Counts, Vec<String>) {
+fn run_share(first: u64, step: usize, lists: u64) -> (Counts, Vec<String>) {
     let mut counts = Counts::default();
-    let seeds = (first..lists).step_by(step as usize);
-    let differences = seeds
-        .filter_map(|seed| run(seed, &mut counts, false).err())
-        .collect();
+    let seeds = (first..lists).step_by(step);
+    let differences = seeds.filter_map(|seed| run(seed, &mut counts, false).err());
+    let differences = differences.collect();
     (counts, differences)
 }
 
+/// Makes all lists, a share of them in each thread.
 fn run_all(lists: u64) -> (Counts, Vec<String>) {
-    let threads = thread::available_parallelism().map_or(1, |n| n.get() as u64);
+    let threads = thread::available_parallelism().map_or(1, usize::from);
     let mut counts = Counts::default();
     let mut differences = Vec::new();
     thread::scope(|scope| {
-        let shares: Vec<_> = (0..threads)
-            .map(|first| scope.spawn(move || run_share(first, threads, lists)))
-            .collect();
+        let share = |first| scope.spawn(move || run_share(first, threads, lists));
+        let shares: Vec<_> = (0..threads as u64).map(share).collect();
         for share in shares {
             let (met, found) = share.join().expect("a share of the lists");
             counts.merge(&met);
@@ -57,11 +57,12 @@ fn lists_agree() {
     }
     let lists = number("KOELCHAIR_LISTS").unwrap_or(LISTS);
     let (counts, differences) = run_all(lists);
-    println!("lists: {lists}\n{}", counts.lines());
+    // Written past the test's capture, so that the counts are seen when the test passes.
+    write!(std::io::stdout(), "\nlists: {lists}\n{}", counts.lines()).expect("standard output");
     let shown = &differences[..differences.len().min(SHOWN_DIFFERENCES)];
     assert!(
         differences.is_empty(),
-        "{} of {lists} lists differ:\n{}",
+        "{} of {lists} lists differ (KOELCHAIR_SEED=number makes one of them again):\n{}",
         differences.len(),
         shown.join("\n")
     );
