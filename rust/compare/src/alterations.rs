@@ -8,7 +8,7 @@ use koelchair::Standing;
 /// Writes a case into the store, with its gaps, and a standing and tables that keep the rules of 12. A case of more bytes than a store has
 /// is written as far as there is room.
 pub fn lay(random: &mut Random, desk: &mut Desk, draft: &Draft) {
-    let length = random.pick(&[0, 0, STORE_LENGTH - 1, STORE_LENGTH, STORE_LENGTH + 1]);
+    let length = random.pick(&[0, STORE_LENGTH, STORE_LENGTH + 1]);
     let bytes = if random.one_in(2) {
         draft.bytes(random)
     } else {

@@ -53,28 +53,31 @@ fn wrong_size(random: &mut Random, draft: &Draft) -> Vec<u8> {
     }
 }
 
-/// Aimed at 2: a count of parts out of range or at its ends, or a directory that does not fit.
+/// Aimed at 2: a count of parts out of range or at its ends, or a directory that does not fit; now and then with a broken pair too.
 fn wrong_count(random: &mut Random, draft: &Draft) -> Vec<u8> {
-    let mut parts = draft.parts.clone();
+    let mut bytes = draft.bytes(random);
+    let directory_end = 1 + 4 * draft.parts.len();
+    if random.one_in(3) {
+        spoil_pair(random, &mut bytes, 0);
+    }
     match random.below(3) {
-        0 => {
-            let count = random.pick(&[1, 2, 3, 11, 12, 13, 20]);
-            parts.resize(count, vec![1]);
-            let gaps = vec![0; count + 1];
-            cases::laid(random, &parts, &gaps)
-        }
-        1 => {
-            let mut bytes = draft.bytes(random);
-            bytes[0] = random.pick(&[0, 1, 2, 3, 11, 12, 64, 255]);
-            bytes
-        }
+        0 => return with_count_of_parts(random, draft),
+        1 => bytes[0] = random.pick(&[0, 1, 2, 3, 11, 12, 64, 255]),
         _ => {
-            let mut bytes = draft.bytes(random);
-            let end = 1 + 4 * parts.len();
-            bytes.truncate(random.pick(&[1, 2, end - 1, end, end + 1]));
-            bytes
+            let lengths = [1, 2, directory_end - 1, directory_end, directory_end + 1];
+            bytes.truncate(random.pick(&lengths));
         }
     }
+    bytes
+}
+
+/// A case that has as many parts as it says.
+fn with_count_of_parts(random: &mut Random, draft: &Draft) -> Vec<u8> {
+    let mut parts = draft.parts.clone();
+    let count = random.pick(&[1, 2, 3, 11, 12, 13, 20]);
+    parts.resize(count, vec![1]);
+    let gaps = vec![0; count + 1];
+    cases::laid(random, &parts, &gaps)
 }
 
 /// Aimed at 3: one or two pairs of the directory altered by little, or the case cut.

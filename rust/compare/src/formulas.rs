@@ -52,11 +52,43 @@ fn one_operand(
     formula
 }
 
-/// A closed formula of at most `longest` bytes.
+/// A fixpoint whose variables mostly stand below AX or EX, inside `binders` binders.
+fn fixpoint(random: &mut Random, k: usize, binders: usize) -> Vec<u8> {
+    let mut formula = vec![random.between(9, 10) as u8, random.between(5, 6) as u8];
+    let length = random.between(1, 4);
+    formula.extend(exact(random, length, k, binders + 1, 0));
+    formula.extend(goes_on(random, k, binders + 1));
+    formula
+}
+
+/// What stands in such a fixpoint: AX or EX of a variable, two such, or a fixpoint again.
+fn goes_on(random: &mut Random, k: usize, binders: usize) -> Vec<u8> {
+    match random.below(4) {
+        0 if binders < MOST_BINDERS => fixpoint(random, k, binders),
+        1 => {
+            let mut formula = vec![random.between(5, 6) as u8];
+            formula.extend(goes_on(random, k, binders));
+            formula.extend(goes_on(random, k, binders));
+            formula
+        }
+        _ => {
+            let next = random.between(7, 8) as u8;
+            vec![next, VARIABLE, random.below(binders) as u8]
+        }
+    }
+}
+
+/// A closed formula of at most `longest` bytes, 20 or more.
 pub fn random(random: &mut Random, k: usize, longest: usize) -> Vec<u8> {
+    if random.one_in(2) {
+        let formula = fixpoint(random, k, 0);
+        if formula.len() <= longest {
+            return formula;
+        }
+    }
     let length = match random.below(4) {
         0 => random.between(1, longest),
-        _ => random.between(1, longest.min(14)),
+        _ => random.between(1, 14),
     };
     let more = random.between(0, MOST_BINDERS);
     exact(random, length, k, 0, more)

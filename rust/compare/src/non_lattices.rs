@@ -7,20 +7,29 @@ use crate::lattices::{chain, close, random as random_lattice, subsets, Lattice};
 /// Aimed at 5: a pair is dropped from the order of a lattice, or added to it.
 pub fn no_partial_order(random: &mut Random) -> Lattice {
     let mut lattice = random_lattice(random, 12);
-    let n = lattice.size;
     for _ in 0..random.between(1, 2) {
-        let (i, j) = (random.below(n), random.below(n));
+        let (i, j) = ordered_pair(random, &lattice);
         match random.below(4) {
             0 => lattice.set(i, i, false),
-            1 => {
-                lattice.set(i, j, true);
-                lattice.set(j, i, true);
-            }
+            1 => lattice.set(j, i, true),
             2 => lattice.set(i, j, false),
-            _ => lattice.set(i, j, true),
+            _ => lattice.set(random.below(lattice.size), j, true),
         }
     }
     lattice
+}
+
+/// Two elements, the first below the second where such a pair is soon found.
+fn ordered_pair(random: &mut Random, lattice: &Lattice) -> (usize, usize) {
+    let n = lattice.size;
+    let mut pair = (random.below(n), random.below(n));
+    for _ in 0..20 {
+        if pair.0 != pair.1 && lattice.at_most(pair.0, pair.1) {
+            break;
+        }
+        pair = (random.below(n), random.below(n));
+    }
+    pair
 }
 
 /// Aimed at 5 and what follows it: any relation at all.
@@ -71,7 +80,7 @@ fn random_poset(random: &mut Random) -> Lattice {
     Lattice::new(n, |i, j| i == j || below[j] >> i & 1 == 1, |i| n - 1 - i)
 }
 
-/// Aimed at 7: a lattice that is not distributive, whose complement keeps the rules.
+/// Aimed at 7: a lattice that is not distributive. Its complement mostly keeps the rules.
 pub fn not_distributive(random: &mut Random) -> Lattice {
     let mut lattice = if random.one_in(2) {
         unordered_between(random)
@@ -83,6 +92,9 @@ pub fn not_distributive(random: &mut Random) -> Lattice {
     }
     if random.one_in(4) {
         lattice = lattice.bounded();
+    }
+    if random.one_in(4) {
+        lattice.complement = random.permutation(lattice.size);
     }
     lattice.renumbered(random)
 }

@@ -6,7 +6,7 @@ use std::io::Write;
 use std::panic::{catch_unwind, AssertUnwindSafe};
 use std::thread;
 
-const LISTS: u64 = 30_000;
+const LISTS: u64 = 40_000;
 const SHOWN_DIFFERENCES: usize = 5;
 
 fn number(name: &str) -> Option<u64> {
