@@ -106,7 +106,7 @@ fn unordered_between(random: &mut Random) -> Lattice {
     Lattice::new(between, |i, j| i == j, |i| to[i]).bounded()
 }
 
-/// 0 below 1 below 2 on one side, 3 on the other, with a least and a greatest element.
+/// 0 below 1 on one side, 2 on the other, with a least and a greatest element.
 fn pentagon() -> Lattice {
     Lattice::new(3, |i, j| i == j || (i == 0 && j == 1), |i| [1, 0, 2][i]).bounded()
 }

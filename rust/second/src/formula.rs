@@ -49,45 +49,55 @@ fn node(bytes: &[u8], k: u8, binders: usize) -> Option<(Formula, &[u8])> {
     match code {
         0 => Some((Formula::Bottom, rest)),
         1 => Some((Formula::Top, rest)),
-        2 | 3 => {
-            let (&number, rest) = rest.split_first()?;
-            let p = Proposition::below(k, number)?;
-            let make = if code == 2 {
-                Formula::Holds
-            } else {
-                Formula::Fails
-            };
-            Some((make(p), rest))
-        }
-        4 => {
-            let (&count, rest) = rest.split_first()?;
-            let count = usize::from(count);
-            // "Every variable is bound."
-            (count < binders).then_some((Formula::Variable(count), rest))
-        }
-        5 | 6 => {
-            let (left, rest) = node(rest, k, binders)?;
-            let (right, rest) = node(rest, k, binders)?;
-            let make = if code == 5 { Formula::Or } else { Formula::And };
-            Some((make(Box::new(left), Box::new(right)), rest))
-        }
-        7 | 8 => {
-            let (body, rest) = node(rest, k, binders)?;
-            let make = if code == 7 { Formula::Ax } else { Formula::Ex };
-            Some((make(Box::new(body)), rest))
-        }
-        9 | 10 if binders < NESTED_MOST => {
-            let (body, rest) = node(rest, k, binders + 1)?;
-            let make = if code == 9 {
-                Formula::Least
-            } else {
-                Formula::Greatest
-            };
-            Some((make(Box::new(body)), rest))
-        }
-        9 | 10 => None,
+        2 => proposition(Formula::Holds, rest, k),
+        3 => proposition(Formula::Fails, rest, k),
+        4 => variable(rest, binders),
+        5 => sides(Formula::Or, rest, k, binders),
+        6 => sides(Formula::And, rest, k, binders),
+        7 => body(Formula::Ax, rest, k, binders),
+        8 => body(Formula::Ex, rest, k, binders),
+        9 | 10 if binders == NESTED_MOST => None,
+        9 => body(Formula::Least, rest, k, binders + 1),
+        10 => body(Formula::Greatest, rest, k, binders + 1),
         11..=255 => None,
     }
+}
+
+/// A code that is followed by a proposition's "number, below k".
+fn proposition(make: fn(Proposition) -> Formula, rest: &[u8], k: u8) -> Option<(Formula, &[u8])> {
+    let (&number, rest) = rest.split_first()?;
+    let p = Proposition::below(k, number)?;
+    Some((make(p), rest))
+}
+
+/// A variable's count of binders. "Every variable is bound."
+fn variable(rest: &[u8], binders: usize) -> Option<(Formula, &[u8])> {
+    let (&count, rest) = rest.split_first()?;
+    let count = usize::from(count);
+    (count < binders).then_some((Formula::Variable(count), rest))
+}
+
+/// A code that is followed by two formulas.
+fn sides(
+    make: fn(Box<Formula>, Box<Formula>) -> Formula,
+    rest: &[u8],
+    k: u8,
+    binders: usize,
+) -> Option<(Formula, &[u8])> {
+    let (left, rest) = node(rest, k, binders)?;
+    let (right, rest) = node(rest, k, binders)?;
+    Some((make(Box::new(left), Box::new(right)), rest))
+}
+
+/// A code that is followed by one formula.
+fn body(
+    make: fn(Box<Formula>) -> Formula,
+    rest: &[u8],
+    k: u8,
+    binders: usize,
+) -> Option<(Formula, &[u8])> {
+    let (formula, rest) = node(rest, k, binders)?;
+    Some((make(Box::new(formula)), rest))
 }
 
 /// A map from states to elements, in the order of the states.
@@ -207,13 +217,9 @@ mod tests {
     }
 
     /// The least and the greatest of all maps that a body sends to themselves, by trying every map.
-    fn by_trial(valuer: &Valuer, body: &Formula, around: &[Map]) -> (Map, Map) {
+    fn by_trial(valuer: &Valuer, body: &Formula) -> (Map, Map) {
         let mut fixed = maps(valuer.lattice);
-        fixed.retain(|map| {
-            let mut binders = around.to_vec();
-            binders.push(map.clone());
-            valuer.map(body, &mut binders) == *map
-        });
+        fixed.retain(|map| valuer.map(body, &mut vec![map.clone()]) == *map);
         let extreme = |below: &dyn Fn(&Map, &Map) -> bool| {
             let found = fixed
                 .iter()
@@ -225,51 +231,38 @@ mod tests {
         (least, greatest)
     }
 
-    /// Fixpoints found by iteration are the least and greatest of all maps, on every model of a list.
+    /// p or EX x; p and AX x; EX x and AX x; p or (the least y with p negated, or x and EX y).
+    const BODIES: [&[u8]; 4] = [
+        &[5, 2, 0, 8, 4, 0],
+        &[6, 2, 0, 7, 4, 0],
+        &[6, 8, 4, 0, 7, 4, 0],
+        &[5, 2, 0, 9, 5, 3, 0, 6, 4, 1, 8, 4, 0],
+    ];
+
+    /// On every model of two states with one proposition, start values aside.
     #[test]
     fn fixpoints_are_least_and_greatest_among_all_maps() {
         let chain = lattice::read(&[3, 2, 1, 0, 1, 1, 1, 0, 1, 1, 0, 0, 1]);
         let chain = chain.unwrap_or_else(|number| panic!("refused {number}"));
-        // p or EX x; p and AX x; EX x and AX x; p or (the least y with x and EX y, or p negated).
-        let bodies: [&[u8]; 4] = [
-            &[5, 2, 0, 8, 4, 0],
-            &[6, 2, 0, 7, 4, 0],
-            &[6, 8, 4, 0, 7, 4, 0],
-            &[5, 2, 0, 9, 5, 3, 0, 6, 4, 1, 8, 4, 0],
-        ];
         let mut apart = 0;
         for number in 0..729u32 {
             let digit = |place: u32| (number / 3u32.pow(place) % 3) as u8;
-            let part = [
-                2,
-                1,
-                2,
-                2,
-                digit(0),
-                digit(1),
-                digit(2),
-                digit(3),
-                digit(4),
-                digit(5),
-            ];
+            let mut part = vec![2, 1, 2, 2];
+            part.extend((0..6).map(digit));
             let model = model::read(&part, &chain).expect("a model of two states");
             let valuer = Valuer {
                 lattice: &chain,
                 model: &model,
             };
-            for bytes in bodies {
+            for bytes in BODIES {
                 let (body, _) = node(bytes, 1, 1).expect("a body");
-                let (least, greatest) = by_trial(&valuer, &body, &[]);
+                let (least, greatest) = by_trial(&valuer, &body);
                 apart += usize::from(least != greatest);
-                let body = Box::new(body);
-                assert_eq!(
-                    valuer.fixpoint(&body, chain.bottom(), &mut Vec::new()),
-                    least
-                );
-                assert_eq!(
-                    valuer.map(&Formula::Greatest(body), &mut Vec::new()),
-                    greatest
-                );
+                let least_of = Formula::Least(Box::new(body));
+                assert_eq!(valuer.map(&least_of, &mut Vec::new()), least);
+                let (body, _) = node(bytes, 1, 1).expect("a body");
+                let greatest_of = Formula::Greatest(Box::new(body));
+                assert_eq!(valuer.map(&greatest_of, &mut Vec::new()), greatest);
             }
         }
         assert!(apart > 100);

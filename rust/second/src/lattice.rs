@@ -269,6 +269,8 @@ mod tests {
         assert_eq!(chain.implies(Element(2), Element(0)), Element(0));
         assert_eq!(chain.matches(Element(0), Element(0)), Element(2));
         assert_eq!(chain.matches(Element(2), Element(1)), Element(1));
+        assert_eq!(chain.matches(Element(2), Element(0)), Element(0));
+        assert_eq!(chain.matches(Element(0), Element(2)), Element(0));
         assert_eq!(chain.meet_over([].into_iter()), Element(2));
         assert_eq!(chain.join_over([].into_iter()), Element(0));
     }

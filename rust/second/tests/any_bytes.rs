@@ -64,7 +64,7 @@ fn ask(desk: &Desk, numbers: &mut Numbers) {
 fn altered_desks() {
     let mut numbers = Numbers(6_148_914_691_236_517_205);
     let (mut accepted, mut refused) = (0, 0);
-    for _ in 0..3_000 {
+    for _ in 0..1_500 {
         let bytes = small(&mut numbers);
         let mut desk = Desk::any();
         assert_eq!(desk.open(&bytes), Reply::Opened);
@@ -84,14 +84,14 @@ fn altered_desks() {
             accepted += 1;
         }
     }
-    assert!(accepted > 500 && refused > 500);
+    assert!(accepted > 250 && refused > 250);
 }
 
 #[test]
 fn altered_cases() {
     let mut numbers = Numbers(1_311_768_467_463_790_320);
     let mut seen = [0; 11];
-    for _ in 0..10_000 {
+    for _ in 0..8_000 {
         let mut bytes = small(&mut numbers);
         for _ in 0..1 + numbers.below(2) {
             let at = numbers.below(bytes.len() as u64) as usize;

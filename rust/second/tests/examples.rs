@@ -267,3 +267,50 @@ fn score_joins_over_the_starts_of_model_2() {
         Reply::Element(0)
     );
 }
+
+/// Fixpoints with known values: 0 and 1 lead to each other with p at 1; 2 loops; 3 leads to 4, which loops, with p at 4.
+#[test]
+fn fixpoints_of_known_value() {
+    let mut model = vec![5, 1, 1, 1, 1, 1, 1, 0, 1, 0, 0, 1];
+    for (from, to) in [(0, 1), (1, 0), (2, 2), (3, 4), (4, 4)] {
+        model.resize(12 + 5 * from, 0);
+        model.extend((0..5).map(|state| u8::from(state == to)));
+    }
+    let formulas: [(&[u8], [u8; 5]); 8] = [
+        // On some path, p again and again; on some path, p always from some state on.
+        (&[10, 9, 5, 6, 2, 0, 8, 4, 1, 8, 4, 0], [1, 1, 0, 1, 1]),
+        (&[9, 10, 5, 6, 2, 0, 8, 4, 0, 8, 4, 1], [0, 0, 0, 1, 1]),
+        // p on all paths some time; p on all paths always.
+        (&[9, 5, 2, 0, 7, 4, 0], [1, 1, 0, 1, 1]),
+        (&[10, 6, 2, 0, 7, 4, 0], [0, 0, 0, 0, 1]),
+        (&[9, 7, 4, 0], [0; 5]),
+        (&[10, 7, 4, 0], [1; 5]),
+        (&[9, 10, 4, 1], [0; 5]),
+        (&[9, 10, 4, 0], [1; 5]),
+    ];
+    let mut parts = vec![L2, &model, &model];
+    parts.extend(formulas.iter().map(|(formula, _)| *formula));
+    let desk = Desk::opened(&parts);
+    for (number, (_, values)) in (0..).zip(formulas) {
+        for (state, value) in (0..).zip(values) {
+            let answer = desk.value(number, 2, state);
+            assert_eq!(
+                answer,
+                Reply::Element(value),
+                "formula {number}, state {state}"
+            );
+        }
+    }
+}
+
+/// Propositions are compared both ways, and a transition below top counts in AX.
+#[test]
+fn what_students_write_instead() {
+    let without: &[u8] = &[1, 1, 2, 0, 0];
+    let with: &[u8] = &[1, 1, 2, 2, 0];
+    assert_eq!(Desk::settled(&[L3, without, with]).show(), [0]);
+    assert_eq!(Desk::settled(&[L3, with, without]).show(), [0]);
+    let middle: &[u8] = &[1, 1, 2, 0, 1];
+    let desk = Desk::opened(&[L3, middle, middle, &[7, 2, 0]]);
+    assert_eq!(desk.value(0, 1, 0), Reply::Element(1));
+}

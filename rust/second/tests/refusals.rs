@@ -252,7 +252,7 @@ fn number_12_every_rule_of_the_desk() {
     // N1 = 2, N2 = 1, n = 3: unsettled the round is at most 4, settled at most 5.
     let two: &[u8] = &[2, 0, 1, 0, 0, 1, 0, 0];
     let good = Desk::opened(&[L3, two, STILL, &[1]]);
-    let breaks: [fn(&mut Desk); 14] = [
+    let breaks: [fn(&mut Desk); 15] = [
         |desk| desk.standing.states1 = 1,
         |desk| desk.standing.states2 = 2,
         |desk| (desk.standing.states1, desk.standing.states2) = (1, 2),
@@ -273,6 +273,11 @@ fn number_12_every_rule_of_the_desk() {
         |desk| desk.store[0] = 2,
         |desk| desk.store.fill(0),
         |desk| desk.standing.round = u32::MAX,
+        // The formula stands past the store's 24,576 bytes.
+        |desk| {
+            desk.store[13..15].copy_from_slice(&(STORE_LENGTH as u16).to_le_bytes());
+            desk.store[STORE_LENGTH] = 1;
+        },
     ];
     for change in breaks {
         let mut desk = good.clone();
@@ -280,7 +285,7 @@ fn number_12_every_rule_of_the_desk() {
         assert_all_refused(&desk, 12);
         assert_eq!(desk.open(&case(&[L2, LOOP, STILL])), Reply::Opened);
     }
-    let keeps: [fn(&mut Desk); 7] = [
+    let keeps: [fn(&mut Desk); 8] = [
         |desk| (desk.standing.row, desk.standing.changed) = (1, true),
         |desk| desk.standing.round = 4,
         |desk| (desk.standing.settled, desk.standing.round) = (true, 1),
@@ -288,6 +293,7 @@ fn number_12_every_rule_of_the_desk() {
         |desk| desk.standing.second_whole = true,
         |desk| desk.first[2] = 255,
         |desk| desk.store[STORE_LENGTH - 1] = 0,
+        |desk| desk.store.resize(40_000, 7),
     ];
     for change in keeps {
         let mut desk = good.clone();
