@@ -165,32 +165,49 @@ fn unordered(random: &mut Random) -> Vec<u8> {
     }
 }
 
-/// Aimed at 9: the length, a size or a value of a model is wrong, or the two differ in k.
+/// Aimed at 9: a byte or the length of a model is wrong, or its sizes are others.
 fn spoil_model(random: &mut Random, draft: &mut Draft) {
     let which = random.between(1, 2);
+    if random.one_in(3) {
+        exchange_model(random, draft, which);
+    } else if draft.parts[which].len() > 2 {
+        spoil_model_bytes(random, draft, which);
+    }
+}
+
+fn spoil_model_bytes(random: &mut Random, draft: &mut Draft, which: usize) {
     let (k, n) = (draft.propositions, draft.shape.elements);
     let states = draft.shape.states[which - 1];
     let part = &mut draft.parts[which];
-    let length = part.len();
-    if length < 3 {
-        // It was cut already.
-        return;
-    }
-    match random.below(9) {
+    let last = part.len() - 1;
+    match random.below(7) {
         0 => part.push(0),
         1 => drop(part.pop()),
         2 => part.truncate(random.pick(&[1, 2])),
         3 => part[0] = random.pick(&[0, states + 1, 65, 255]) as u8,
         4 => part[1] = random.pick(&[k + 1, 17, 255]) as u8,
-        5 => part[random.between(2, length - 1)] = random.pick(&[n, n + 1, 255]) as u8,
-        6 => part[random.pick(&[2, length - 1])] = n as u8,
-        7 => {
-            let other = random.pick(&[0, 1, 2, 16, 17]);
-            draft.parts[which] = models::random(random, &draft.lattice, states, other).part();
+        5 => part[random.between(2, last)] = random.pick(&[n, n + 1, 255]) as u8,
+        _ => part[random.pick(&[2, last])] = n as u8,
+    }
+}
+
+/// A well-formed model of other sizes, at the end of their range or beyond it; k may be other for one model or for both.
+fn exchange_model(random: &mut Random, draft: &mut Draft, which: usize) {
+    let (states, k) = (draft.shape.states, draft.propositions);
+    let lattice = &draft.lattice;
+    match random.below(3) {
+        0 => {
+            let k = random.pick(&[0, 1, 2, 16, 17]);
+            draft.parts[which] = models::random(random, lattice, states[which - 1], k).part();
+        }
+        1 => {
+            let states = random.pick(&[64, 65]);
+            draft.parts[which] = models::random(random, lattice, states, k).part();
         }
         _ => {
-            let other = random.pick(&[64, 65]);
-            draft.parts[which] = models::random(random, &draft.lattice, other, k).part();
+            let k = random.pick(&[16, 17]);
+            draft.parts[1] = models::random(random, lattice, states[0], k).part();
+            draft.parts[2] = models::random(random, lattice, states[1], k).part();
         }
     }
 }

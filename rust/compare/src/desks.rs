@@ -39,7 +39,7 @@ impl Desk {
 }
 
 fn any_standing(random: &mut Random) -> Standing {
-    let word = random.next() as u32;
+    let word = random.word() as u32;
     Standing {
         states1: random.byte(),
         states2: random.byte(),

@@ -52,30 +52,43 @@ fn one_operand(
     formula
 }
 
-/// A fixpoint whose variables mostly stand below AX or EX, inside `binders` binders.
+/// A fixpoint whose variables mostly stand below AX or EX, inside `binders` binders: a short formula, and what goes on from it.
 fn fixpoint(random: &mut Random, k: usize, binders: usize) -> Vec<u8> {
-    let mut formula = vec![random.between(9, 10) as u8, random.between(5, 6) as u8];
+    let mut formula = vec![random.between(9, 10) as u8];
+    if binders + 1 < MOST_BINDERS && random.one_in(2) {
+        formula.extend(fixpoint(random, k, binders + 1));
+        return formula;
+    }
+    formula.push(random.between(5, 6) as u8);
     let length = random.between(1, 4);
     formula.extend(exact(random, length, k, binders + 1, 0));
     formula.extend(goes_on(random, k, binders + 1));
     formula
 }
 
-/// What stands in such a fixpoint: AX or EX of a variable, two such, or a fixpoint again.
+/// What stands in such a fixpoint: AX or EX of a variable, two such, one with a proposition, or a fixpoint again.
 fn goes_on(random: &mut Random, k: usize, binders: usize) -> Vec<u8> {
-    match random.below(4) {
+    match random.below(6) {
         0 if binders < MOST_BINDERS => fixpoint(random, k, binders),
-        1 => {
+        1..=2 => {
             let mut formula = vec![random.between(5, 6) as u8];
             formula.extend(goes_on(random, k, binders));
             formula.extend(goes_on(random, k, binders));
             formula
         }
-        _ => {
-            let next = random.between(7, 8) as u8;
-            vec![next, VARIABLE, random.below(binders) as u8]
+        3 => {
+            let mut formula = vec![random.between(5, 6) as u8];
+            formula.extend(exact(random, 2, k, binders, 0));
+            formula.extend(next_of_variable(random, binders));
+            formula
         }
+        _ => next_of_variable(random, binders),
     }
+}
+
+fn next_of_variable(random: &mut Random, binders: usize) -> Vec<u8> {
+    let next = random.between(7, 8) as u8;
+    vec![next, VARIABLE, random.below(binders) as u8]
 }
 
 /// A closed formula of at most `longest` bytes, 20 or more.

@@ -74,7 +74,7 @@ fn without_an_end(random: &mut Random) -> Lattice {
 fn random_poset(random: &mut Random) -> Lattice {
     let n = random.between(2, 9);
     let mut below: Vec<usize> = (0..n)
-        .map(|j| random.next() as usize & ((1 << j) - 1))
+        .map(|j| random.word() as usize & ((1 << j) - 1))
         .collect();
     close(&mut below);
     Lattice::new(n, |i, j| i == j || below[j] >> i & 1 == 1, |i| n - 1 - i)

@@ -12,7 +12,7 @@ fn case(seed: u64) -> Vec<u8> {
     let mut random = Random::new(seed);
     if seed == 0 {
         cases::greatest_draft(&mut random).bytes(&mut random)
-    } else if seed % 3 == 0 {
+    } else if seed.is_multiple_of(3) {
         let number = random.between(1, 10) as u8;
         damage::damaged(&mut random, number)
     } else {
