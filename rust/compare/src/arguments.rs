@@ -31,7 +31,7 @@ pub fn question(random: &mut Random, shape: &Shape, desk: &Desk) -> Call {
 fn formula(random: &mut Random, shape: &Shape) -> u8 {
     let formulas = shape.formulas;
     match random.below(10) {
-        0 => random.pick(&[formulas, formulas + 1, 252, 253, 255]) as u8,
+        0 => random.pick(&[formulas, formulas + 1, 8, 248, 253, 255]) as u8,
         _ => random.below(formulas.max(1)) as u8,
     }
 }

@@ -91,8 +91,22 @@ fn next_of_variable(random: &mut Random, binders: usize) -> Vec<u8> {
     vec![next, VARIABLE, random.below(binders) as u8]
 }
 
+/// A least fixpoint in a greatest one or the other way round, which are valued wrongly if the inner one is not begun anew each time.
+fn alternating(random: &mut Random, k: usize) -> Vec<u8> {
+    let (outer, inner) = random.pick(&[(9, 10), (10, 9)]);
+    let (combine, within) = random.pick(&[(5, 6), (6, 5)]);
+    let mut formula = vec![outer, inner, combine, within];
+    formula.extend(exact(random, 2, k, 0, 0));
+    formula.extend([random.between(7, 8) as u8, VARIABLE, 1]);
+    formula.extend([random.between(7, 8) as u8, VARIABLE, 0]);
+    formula
+}
+
 /// A closed formula of at most `longest` bytes, 20 or more.
 pub fn random(random: &mut Random, k: usize, longest: usize) -> Vec<u8> {
+    if random.one_in(8) {
+        return alternating(random, k);
+    }
     if random.one_in(2) {
         let formula = fixpoint(random, k, 0);
         if formula.len() <= longest {

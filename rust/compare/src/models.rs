@@ -61,8 +61,10 @@ fn few_labels(
 ) -> Vec<u8> {
     let mut labels = vec![lattice.top(); states * propositions];
     if !labels.is_empty() {
-        let place = random.below(labels.len());
-        labels[place] = element(random, lattice);
+        for _ in 0..random.between(1, 3) {
+            let place = random.below(labels.len());
+            labels[place] = element(random, lattice);
+        }
     }
     labels
 }
