@@ -127,10 +127,10 @@ impl List<'_> {
         }
         let most = self.shape.states[0] * (self.shape.round_limit() as usize + 1);
         for _ in 0..most {
-            if self.settled() {
+            let reply = self.pair.call(Call::Step)?;
+            if let Reply::Settled(_) | Reply::Refused { .. } = reply {
                 break;
             }
-            self.step()?;
             if self.random.one_in(10) {
                 self.question()?;
             }
