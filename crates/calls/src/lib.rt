@@ -24,7 +24,8 @@ ghost use Rattle.desk.specs.Moved.{stepAnswer};
 ghost use Rattle.calls.specs.Stepped.{rowOut, rowDiffers, Workable, movedBy};
 ghost use Rattle.desk.specs.Refused.{tooShort, rowKept, roundKept, standingKept};
 
-// Where the desk stands.
+// Where the desk stands. Its layout is C's, since the exported calls take and give it by value.
+#[repr(C)]
 pub struct Standing {
     // N1 and N2.
     pub states1: u8,

@@ -1,0 +1,5 @@
+-- What the exports answer, as numbers.
+-- ---- what a reader must believe
+pub mod Numbers
+-- ---- for the code
+pub mod Told

@@ -1,0 +1,103 @@
+-- The listing of a case is what a desk answers that was last opened with it and is settled. Rests on Text, and for the proof on Settled,
+-- Entries and desk's Demand3.
+use Prim.Native.Nat.{ℕ, _+_, _*_, _<_}
+use mathlib.Core.Path.{_≡_, sym, ap, ap₂, _∙_}
+use mathlib.Core.Bool.{true}
+use mathlib.Core.List.{List, _++_}
+use native.Mathlib.Nat.{mul-add-div-right, mul-add-mod-self-right, div-eq-of-lt, mod-eq-of-lt, add-zero}
+use native.Mathlib.Omega.{arith}
+use borrow.Author.Tests.{lt-ltb}
+use lib.ListN.{length}
+use Rattle.theory.specs.Value.{wholeValue}
+use Rattle.theory.specs.Simulation.{SameTable, score}
+use Rattle.theory.specs.Loop.{tab-at}
+use Rattle.casefile.specs.Reading.{Content}
+use Rattle.rounds.specs.Table.{tableOf}
+use Rattle.rounds.specs.Round.{cell-lt}
+use Rattle.desk.specs.Desk.{Desk, Question, Call, Reply}
+use Rattle.desk.specs.Case.{ops, model1, model2, N1, N2, tableSize, modelIn, formulaIn, roundIn, entryAt, tableBytes, IsT}
+use Rattle.desk.specs.Perform.{asked}
+use Rattle.desk.specs.Run.{run, LastOpening, answersSince, roundAfter}
+use Rattle.desk.specs.RefusedLaws.{open-accepted}
+use Rattle.desk.specs.Listed.{opening-T}
+use Rattle.desk.specs.Demand3.{Claim, listed}
+use Rattle.listing.specs.Text.{roundsWord, scoreWord, lastItem, each, rowsText, tableText, formulaText, formulaLine, formulasText, acceptedText, listingText}
+use Rattle.listing.specs.Writing.{each-cong}
+use Rattle.listing.specs.Entries.{rows-same}
+use Rattle.listing.specs.Settled.{listing-is}
+
+-- the answers of a desk that is settled: its round, the table that it shows, its score, and the formulas' values on models 1 and 2
+pub record Answers (c : Content) (d : Desk) (T : ℕ) (table : List ℕ) (e : ℕ) (v₁ v₂ : ℕ → ℕ) : Type 0 where
+  pub round : d .standing .round ≡ T
+  pub show : asked Question.Show d ≡ Reply.Shown table
+  pub score : asked Question.Score d ≡ Reply.Element e
+  pub whole1 : (f : ℕ) → f < length (c .formulas) → asked (Question.Whole f 1) d ≡ Reply.Element (v₁ f)
+  pub whole2 : (f : ℕ) → f < length (c .formulas) → asked (Question.Whole f 2) d ≡ Reply.Element (v₂ f)
+
+-- the text of such answers
+abbrev pub textOfAnswers : Content → ℕ → List ℕ → ℕ → (ℕ → ℕ) → (ℕ → ℕ) → List ℕ
+textOfAnswers c T table e v₁ v₂ =
+    lastItem roundsWord T ++ rowsText (tableOf table (N2 c)) (N1 c) (N2 c) ++ lastItem scoreWord e ++ each (length (c .formulas)) (λ f. formulaText f (v₁ f) (v₂ f))
+
+-- ---- the proof
+
+-- the bytes of a table hold its entries
+bytes-table : (c : Content) (S : ℕ → ℕ → ℕ) → SameTable (ops c) (model1 c) (model2 c) (tableOf (tableBytes c S) (N2 c)) S
+bytes-table c S q₁ l q₂ m =
+    tab-at (entryAt c S) (tableSize c) (q₁ * N2 c + q₂) (cell-lt (N1 c) (N2 c) q₁ q₂ l m)
+    ∙ ap₂ S (mul-add-div-right (omega arith) q₁ q₂ ∙ ap (λ (k : ℕ). q₁ + k) (div-eq-of-lt m) ∙ add-zero q₁) (mul-add-mod-self-right q₁ (N2 c) q₂ ∙ mod-eq-of-lt m)
+
+same-element : (x : Reply) (a b : ℕ) → x ≡ Reply.Element a → x ≡ Reply.Element b → a ≡ b
+same-element x a b p q = cc
+
+same-shown : (x : Reply) (a b : List ℕ) → x ≡ Reply.Shown a → x ≡ Reply.Shown b → a ≡ b
+same-shown x a b p q = cc
+
+module _ (c : Content) (T : ℕ) (answers : List Reply) (d : Desk) (w : Claim c T answers d) (settled : d .standing .settled ≡ true) where
+  at-T : roundAfter c T (length answers) ≡ T
+  at-T = w .settled-is .0 settled
+
+  round-T : d .standing .round ≡ T
+  round-T = w .round-is ∙ at-T
+
+  show-T : asked Question.Show d ≡ Reply.Shown (tableBytes c (roundIn c T))
+  show-T = rw at-T at (w .show-next)
+
+  score-T : asked Question.Score d ≡ Reply.Element (score (ops c) (model1 c) (model2 c) (roundIn c T))
+  score-T = rw at-T at (w .score-next)
+
+  whole-1 : (f : ℕ) → f < length (c .formulas) → asked (Question.Whole f 1) d ≡ Reply.Element (wholeValue (ops c) (modelIn c 1) (formulaIn c f))
+  whole-1 f l = w .whole-next f 1 (w .ranges (Question.Whole f 1) ∙ rw (lt-ltb f (length (c .formulas)) l))
+
+  whole-2 : (f : ℕ) → f < length (c .formulas) → asked (Question.Whole f 2) d ≡ Reply.Element (wholeValue (ops c) (modelIn c 2) (formulaIn c f))
+  whole-2 f l = w .whole-next f 2 (w .ranges (Question.Whole f 2) ∙ rw (lt-ltb f (length (c .formulas)) l))
+
+  answers-T : Answers c d T (tableBytes c (roundIn c T)) (score (ops c) (model1 c) (model2 c) (roundIn c T)) (λ f. wholeValue (ops c) (modelIn c 1) (formulaIn c f)) (λ f. wholeValue (ops c) (modelIn c 2) (formulaIn c f))
+  answers-T = record { round = round-T; show = show-T; score = score-T; whole1 = whole-1; whole2 = whole-2 }
+
+  claimed-text : (U : ℕ) (table : List ℕ) (e : ℕ) (v₁ v₂ : ℕ → ℕ) → Answers c d U table e v₁ v₂ → acceptedText c T ≡ textOfAnswers c U table e v₁ v₂
+  unfolding acceptedText formulasText formulaLine tableText
+  claimed-text U table e v₁ v₂ a =
+      let S = roundIn c T in
+      let pr : T ≡ U = sym round-T ∙ a .round in
+      let pt : tableBytes c S ≡ table = same-shown _ _ _ show-T (a .show) in
+      let pe : score (ops c) (model1 c) (model2 c) S ≡ e = same-element _ _ _ score-T (a .score) in
+      ap₂ _++_
+      (ap₂ (λ (x : List ℕ) (y : List ℕ). x ++ y) (ap₂ (λ (x : ℕ) (y : List ℕ). lastItem roundsWord x ++ y) pr (rows-same (ops c) (model1 c) (model2 c) S (tableOf table (N2 c)) (λ q₁ l q₂ m. sym (bytes-table c S q₁ l q₂ m) ∙ ap (λ (x : List ℕ). tableOf x (N2 c) q₁ q₂) pt))) (ap (lastItem scoreWord) pe))
+      (each-cong (length (c .formulas)) _ _ (λ f l. ap₂ (formulaText f) (same-element _ _ _ (whole-1 f l) (a .whole1 f l)) (same-element _ _ _ (whole-2 f l) (a .whole2 f l))))
+
+-- for every list of calls from any desk with an accepted opening in it, after which the desk is settled: it has such answers, with T the first
+-- round that equals the one before
+pub answers-are : (ks : List Call) (d : Desk) (l : LastOpening ks d) → run ks d .standing .settled ≡ true → (T : ℕ) → IsT (l .holds) T
+    → let c = l .holds in Answers c (run ks d) T (tableBytes c (roundIn c T)) (score (ops c) (model1 c) (model2 c) (roundIn c T)) (λ f. wholeValue (ops c) (modelIn c 1) (formulaIn c f)) (λ f. wholeValue (ops c) (modelIn c 2) (formulaIn c f))
+answers-are ks d l settled T t = answers-T (l .holds) T (answersSince l) (run ks d) (listed ks d l T t) settled
+
+-- and whatever it answers, the listing of the case says it
+pub listing-answered : (ks : List Call) (d : Desk) (l : LastOpening ks d) → run ks d .standing .settled ≡ true
+    → (T : ℕ) (table : List ℕ) (e : ℕ) (v₁ v₂ : ℕ → ℕ) → Answers (l .holds) (run ks d) T table e v₁ v₂
+    → listingText (l .case) ≡ textOfAnswers (l .holds) T table e v₁ v₂
+listing-answered ks d l settled U table e v₁ v₂ a =
+    let c = l .holds in
+    let t = opening-T l in
+    let reads = open-accepted (l .case) (run (l .before) d) c (l .opens) .reads in
+    listing-is (l .case) c reads (t .0) (t .1) ∙ claimed-text c (t .0) (answersSince l) (run ks d) (listed ks d l (t .0) (t .1)) settled U table e v₁ v₂ a

@@ -1,0 +1,154 @@
+/* Reads a case from standard input, prints its listing, works its rounds to the end, and prints every answer: the table at each round,
+   the score, the share, and the formulas' values. A refusal is said in words, with its number and part.
+
+   From the repository's root, after `rt staticlib exports`:
+
+       cc -std=c99 -Wall -Wextra -Werror -Iinclude examples/c/round_by_round.c target/staticlib/libexports.a -o target/round_by_round
+       target/round_by_round < examples/c/example4.case
+
+   Exit status: 0 the case was opened, 1 a call was refused, 2 standard input could not be read. */
+#include <stdio.h>
+#include <stdlib.h>
+
+#include "koelchair.h"
+
+/* A desk: what the caller keeps between calls. */
+struct desk {
+    koelchair_standing standing;
+    uint8_t store[KOELCHAIR_STORE_LENGTH];
+    uint8_t first[KOELCHAIR_TABLE_LENGTH];
+    uint8_t second[KOELCHAIR_TABLE_LENGTH];
+};
+
+/* The standing and the three buffers with their lengths, as every call but open takes them. */
+#define LENT(d) (d)->standing, (d)->store, sizeof (d)->store, (d)->first, sizeof (d)->first, (d)->second, sizeof (d)->second
+
+/* ---- refusals */
+
+static const char *refusal_in_words(uint8_t number)
+{
+    switch (number) {
+    case KOELCHAIR_REFUSED_CASE_SIZE: return "the case is empty or longer than 32,768 bytes";
+    case KOELCHAIR_REFUSED_DIRECTORY: return "the count of parts is not 3 to 11, or the directory does not fit";
+    case KOELCHAIR_REFUSED_PART_PLACE: return "the part is empty, or starts or ends where it must not";
+    case KOELCHAIR_REFUSED_LATTICE_FORM: return "the lattice part has a wrong length or a byte out of range";
+    case KOELCHAIR_REFUSED_NO_PARTIAL_ORDER: return "the order is no partial order";
+    case KOELCHAIR_REFUSED_NO_MEET_OR_JOIN: return "two elements have no meet or no join";
+    case KOELCHAIR_REFUSED_NOT_DISTRIBUTIVE: return "the lattice is not distributive";
+    case KOELCHAIR_REFUSED_COMPLEMENT: return "a complement rule is broken";
+    case KOELCHAIR_REFUSED_MODEL: return "the model's length, a size or a value is wrong, or the models' propositions differ";
+    case KOELCHAIR_REFUSED_FORMULA: return "a formula rule is broken";
+    case KOELCHAIR_REFUSED_SHORT_DESK: return "the store or a table is too short";
+    case KOELCHAIR_REFUSED_SPOILED_DESK: return "the desk breaks one of its rules";
+    case KOELCHAIR_REFUSED_OUT_OF_RANGE: return "an argument is out of range";
+    default: return "a number that the header does not have";
+    }
+}
+
+/* Ends the program where a call was refused. */
+static void unless_refused(const char *call, koelchair_answer answer)
+{
+    if (answer.kind != KOELCHAIR_REFUSED)
+        return;
+    printf("%s: refused %d %d: %s", call, answer.number, answer.part, refusal_in_words(answer.number));
+    if (answer.part != KOELCHAIR_NO_PART)
+        printf(" (part %d of the case)", answer.part);
+    printf("\n");
+    exit(EXIT_FAILURE);
+}
+
+/* ---- rounds */
+
+/* Prints the table that the desk shows, a line for each state of model 1. */
+static void print_table(const struct desk *d)
+{
+    koelchair_shown shown = koelchair_show(LENT(d));
+    const uint8_t *table = shown.table == 2 ? d->second : d->first;
+    size_t columns = d->standing.states2;
+    printf("round %lu is in the %s table:\n", (unsigned long)d->standing.round, shown.table == 2 ? "second" : "first");
+    for (size_t i = 0; i < shown.length; i++)
+        printf("%s%d%s", i % columns == 0 ? "    " : " ", table[i], i % columns == columns - 1 ? "\n" : "");
+}
+
+/* Works one row and prints the answer, and the table after the last row of a round. */
+static void print_step(struct desk *d)
+{
+    koelchair_moved moved = koelchair_step(LENT(d));
+    unless_refused("step", moved.answer);
+    d->standing = moved.standing;
+    if (moved.answer.kind == KOELCHAIR_ROW) {
+        printf("step: row\n");
+        return;
+    }
+    printf("step: %s %lu\n", moved.answer.kind == KOELCHAIR_ROUND ? "round" : "settled", (unsigned long)moved.answer.value);
+    print_table(d);
+}
+
+/* ---- what is asked of the settled desk */
+
+static void print_score(const struct desk *d)
+{
+    koelchair_answer score = koelchair_score(LENT(d));
+    unless_refused("score", score);
+    koelchair_answer share = koelchair_share(LENT(d), (uint8_t)score.value);
+    unless_refused("share", share);
+    printf("score %lu, entries at or above it %lu per cent\n", (unsigned long)score.value, (unsigned long)share.value);
+}
+
+static void print_judged(const struct desk *d)
+{
+    koelchair_shown shown = koelchair_show(LENT(d));
+    koelchair_answer says = koelchair_judge(LENT(d), shown.table == 2 ? d->second : d->first, shown.length);
+    unless_refused("judge", says);
+    printf("the table is a simulation: %s\n", says.value == 1 ? "yes" : "no");
+}
+
+/* Prints a formula's value on a model and at each of its states; false where there is no such formula. */
+static bool print_formula(const struct desk *d, uint8_t formula, uint8_t model)
+{
+    koelchair_answer whole = koelchair_whole(LENT(d), formula, model);
+    if (whole.kind == KOELCHAIR_REFUSED && whole.number == KOELCHAIR_REFUSED_OUT_OF_RANGE)
+        return false;
+    unless_refused("whole", whole);
+    printf("formula %d on model %d: %lu; at its states:", formula, model, (unsigned long)whole.value);
+    uint8_t states = model == 1 ? d->standing.states1 : d->standing.states2;
+    for (uint8_t state = 0; state < states; state++) {
+        koelchair_answer value = koelchair_value(LENT(d), formula, model, state);
+        unless_refused("value", value);
+        printf(" %lu", (unsigned long)value.value);
+    }
+    printf("\n");
+    return true;
+}
+
+static void print_listing(const uint8_t *case_bytes, size_t case_length)
+{
+    static uint8_t text[KOELCHAIR_LISTING_LENGTH];
+    size_t length = koelchair_listing(case_bytes, case_length, text);
+    printf("listing:\n%.*s", (int)length, (const char *)text);
+}
+
+int main(void)
+{
+    /* A byte more than a case may have, so that a longer input is refused. */
+    static uint8_t input[KOELCHAIR_CASE_MOST + 1];
+    static struct desk d;
+    size_t length = fread(input, 1, sizeof input, stdin);
+    if (ferror(stdin)) {
+        fprintf(stderr, "standard input could not be read\n");
+        return 2;
+    }
+    print_listing(input, length);
+    koelchair_moved opened = koelchair_open(d.standing, input, length, d.store, sizeof d.store, d.first, sizeof d.first, d.second, sizeof d.second);
+    unless_refused("open", opened.answer);
+    d.standing = opened.standing;
+    printf("open: opened, a table of %d by %d entries\n", d.standing.states1, d.standing.states2);
+    print_table(&d);
+    while (!d.standing.settled)
+        print_step(&d);
+    print_score(&d);
+    print_judged(&d);
+    for (uint8_t formula = 0; print_formula(&d, formula, 1); formula++)
+        print_formula(&d, formula, 2);
+    return EXIT_SUCCESS;
+}

@@ -1,0 +1,173 @@
+/* Koelchair's eight calls and its listing for C, C99 or later, and for C++. They stand in target/staticlib/libexports.a, which
+   `rt staticlib exports` proves and writes. The contracts are in crates/exports/src/lib.rt.
+
+   A desk is a standing, a store and two tables. The caller keeps all four: the standing as a struct, the others as bytes. A new desk
+   is of any content, for instance zeros, and of KOELCHAIR_STORE_LENGTH and KOELCHAIR_TABLE_LENGTH bytes or more. koelchair_open and
+   koelchair_step give the standing after the call: pass it to the call that comes next, beside the buffers as the call left them.
+   A refused call alters no buffer and gives the standing that it was passed.
+
+   What the caller must see to, since no proof can:
+   - A pointer is not null, also where its length is 0, and is valid for as many bytes as the length beside it says: for reading,
+     and for writing where it is not const.
+   - A buffer that a call writes overlaps no other buffer of the same call.
+   - The three bool fields of a standing hold true or false and no other byte.
+   Every length and every content of bytes is an input that gets an answer, and so is every standing.
+
+   Nothing is kept between calls, so calls on different desks may run in different threads at the same time, and so may calls on one
+   desk that write nothing. No call takes memory from a heap. The stack that each takes is measured by examples/c/stack.c: see
+   docs/PERFORMANCE.md. */
+#ifndef KOELCHAIR_H
+#define KOELCHAIR_H
+
+#include <stdbool.h>
+#include <stddef.h>
+#include <stdint.h>
+
+#ifdef __cplusplus
+extern "C" {
+#endif
+
+/* ---- sizes, in bytes */
+
+#define KOELCHAIR_STORE_LENGTH 24576   /* a store has at least as many */
+#define KOELCHAIR_TABLE_LENGTH 4096    /* a table has at least as many */
+#define KOELCHAIR_CASE_MOST 32768      /* a case has at most as many */
+#define KOELCHAIR_LISTING_LENGTH 16384 /* the text of koelchair_listing has exactly as many */
+
+/* ---- kinds of answers */
+
+#define KOELCHAIR_REFUSED 0  /* number and part say why */
+#define KOELCHAIR_OPENED 1
+#define KOELCHAIR_ROW 2
+#define KOELCHAIR_ROUND 3    /* value is the round */
+#define KOELCHAIR_SETTLED 4  /* value is T, the round at which the table stays */
+#define KOELCHAIR_ELEMENT 5  /* value is the element */
+#define KOELCHAIR_PER_CENT 6 /* value is 0 to 100 */
+#define KOELCHAIR_SAYS 7     /* value is 1 for yes, 0 for no */
+
+/* ---- numbers of refusals; the part is that of the case, or KOELCHAIR_NO_PART */
+
+#define KOELCHAIR_REFUSED_CASE_SIZE 1        /* the case is empty or too long */
+#define KOELCHAIR_REFUSED_DIRECTORY 2        /* the count of parts is not 3 to 11, or the directory does not fit */
+#define KOELCHAIR_REFUSED_PART_PLACE 3       /* a part is empty, or starts or ends where it must not */
+#define KOELCHAIR_REFUSED_LATTICE_FORM 4     /* the lattice part has a wrong length or a byte out of range */
+#define KOELCHAIR_REFUSED_NO_PARTIAL_ORDER 5
+#define KOELCHAIR_REFUSED_NO_MEET_OR_JOIN 6
+#define KOELCHAIR_REFUSED_NOT_DISTRIBUTIVE 7
+#define KOELCHAIR_REFUSED_COMPLEMENT 8       /* a complement rule is broken */
+#define KOELCHAIR_REFUSED_MODEL 9            /* a model part's length, sizes or a value, or the models' propositions differ */
+#define KOELCHAIR_REFUSED_FORMULA 10         /* a formula rule is broken */
+#define KOELCHAIR_REFUSED_SHORT_DESK 11      /* the store or a table is too short */
+#define KOELCHAIR_REFUSED_SPOILED_DESK 12    /* the desk breaks one of its rules, as a desk of zeros does */
+#define KOELCHAIR_REFUSED_OUT_OF_RANGE 13    /* a formula, model, state, element or table of the call is out of range */
+
+#define KOELCHAIR_NO_PART 255
+
+/* ---- what the calls take and give */
+
+/* Where a desk stands. states1 and states2 are the states of the models, N1 and N2; row is the next row; changed says whether this
+   round has changed anything yet; second_whole says that the second table is the whole one, else the first is. */
+typedef struct koelchair_standing {
+    uint8_t states1;
+    uint8_t states2;
+    uint32_t round;
+    uint8_t row;
+    bool changed;
+    bool settled;
+    bool second_whole;
+} koelchair_standing;
+
+/* number and part are those of a refusal, value is as the kind says; where not named they are 0. */
+typedef struct koelchair_answer {
+    uint8_t kind;
+    uint8_t number;
+    uint8_t part;
+    uint32_t value;
+} koelchair_answer;
+
+/* The standing after the call, and its answer. */
+typedef struct koelchair_moved {
+    koelchair_standing standing;
+    koelchair_answer answer;
+} koelchair_moved;
+
+/* table is 1 for the first, 2 for the second and 0 where the desk is refused; length is N1 times N2, or 0 where the desk is refused. */
+typedef struct koelchair_shown {
+    uint8_t table;
+    size_t length;
+} koelchair_shown;
+
+/* ---- the calls that move the desk on */
+
+/* Takes a case and makes the desk anew, whatever the desk was. Reads the case; writes the case's parts at the store's front and the
+   lattice's top into the first N1 times N2 bytes of both tables. Answers KOELCHAIR_OPENED, or KOELCHAIR_REFUSED with 11 or 1 to 10. */
+koelchair_moved koelchair_open(koelchair_standing standing,
+                               const uint8_t *case_bytes, size_t case_length,
+                               uint8_t *store, size_t store_length,
+                               uint8_t *first, size_t first_length,
+                               uint8_t *second, size_t second_length);
+
+/* Works the next row of the next round. Reads the store and the whole table; writes that row of the other table and nothing else.
+   Answers KOELCHAIR_ROW, after the last row KOELCHAIR_ROUND or KOELCHAIR_SETTLED, or KOELCHAIR_REFUSED with 11 or 12. A settled desk
+   answers KOELCHAIR_SETTLED again and is not altered. */
+koelchair_moved koelchair_step(koelchair_standing standing,
+                               const uint8_t *store, size_t store_length,
+                               uint8_t *first, size_t first_length,
+                               uint8_t *second, size_t second_length);
+
+/* ---- the calls that read: they write nothing. Each reads the store and both tables. */
+
+/* Names the whole table, in which byte q1 times N2 + q2 is the entry of states q1 and q2. */
+koelchair_shown koelchair_show(koelchair_standing standing,
+                               const uint8_t *store, size_t store_length,
+                               const uint8_t *first, size_t first_length,
+                               const uint8_t *second, size_t second_length);
+
+/* The value of a formula, numbered from 0, at a state of model 1 or 2: KOELCHAIR_ELEMENT, or KOELCHAIR_REFUSED with 11, 12 or 13. */
+koelchair_answer koelchair_value(koelchair_standing standing,
+                                 const uint8_t *store, size_t store_length,
+                                 const uint8_t *first, size_t first_length,
+                                 const uint8_t *second, size_t second_length,
+                                 uint8_t formula, uint8_t model, uint8_t state);
+
+/* The value of a formula on the whole of model 1 or 2: KOELCHAIR_ELEMENT, or KOELCHAIR_REFUSED with 11, 12 or 13. */
+koelchair_answer koelchair_whole(koelchair_standing standing,
+                                 const uint8_t *store, size_t store_length,
+                                 const uint8_t *first, size_t first_length,
+                                 const uint8_t *second, size_t second_length,
+                                 uint8_t formula, uint8_t model);
+
+/* The score of the table shown: KOELCHAIR_ELEMENT, or KOELCHAIR_REFUSED with 11 or 12. */
+koelchair_answer koelchair_score(koelchair_standing standing,
+                                 const uint8_t *store, size_t store_length,
+                                 const uint8_t *first, size_t first_length,
+                                 const uint8_t *second, size_t second_length);
+
+/* The per cent of the entries shown that are at or above an element, halves rounded up: KOELCHAIR_PER_CENT, or KOELCHAIR_REFUSED with
+   11, 12 or 13. */
+koelchair_answer koelchair_share(koelchair_standing standing,
+                                 const uint8_t *store, size_t store_length,
+                                 const uint8_t *first, size_t first_length,
+                                 const uint8_t *second, size_t second_length,
+                                 uint8_t element);
+
+/* Whether a table of N1 times N2 elements is a simulation; reads that table too. KOELCHAIR_SAYS, or KOELCHAIR_REFUSED with 11, 12 or
+   13. */
+koelchair_answer koelchair_judge(koelchair_standing standing,
+                                 const uint8_t *store, size_t store_length,
+                                 const uint8_t *first, size_t first_length,
+                                 const uint8_t *second, size_t second_length,
+                                 const uint8_t *table, size_t table_length);
+
+/* ---- the listing */
+
+/* Writes what the program `report` prints for a case at the start of the text: the rounds, the table at which they settle, the score and
+   each formula's whole values, or a line with the refusal. Reads the case; writes only these bytes, and returns how many they are. The
+   text has KOELCHAIR_LISTING_LENGTH bytes. It needs no desk. */
+size_t koelchair_listing(const uint8_t *case_bytes, size_t case_length, uint8_t *text);
+
+#ifdef __cplusplus
+}
+#endif
+
+#endif
