@@ -15,7 +15,7 @@ ghost use lib.ListN.{length, getD, replicate};
 ghost use Rattle.theory.specs.Part.{modelOf, ModelShape};
 ghost use Rattle.theory.specs.Test.{allBelow};
 ghost use Rattle.theory.specs.Lists.{Filled};
-ghost use Rattle.operations.specs.Table.{opsIn};
+ghost use Rattle.operations.specs.Table.{meetIn, joinIn, complementIn, opsIn};
 ghost use Rattle.codes.specs.Means.{wordOf};
 ghost use Rattle.valuer.specs.Values.{Reads, fromInitial, Values, ValueAt, WholeValue};
 ghost use Rattle.valuer.specs.Code.{literal, bound, step, nextOf, startOf};
@@ -52,14 +52,28 @@ fn bound(t: &[u8; 12352], up: bool, a: Element, b: Element) -> Element
     operations::meet(t, a, b)
 }
 
-// What a transition of value r to a state with value x gives: r → x to AX, r met with x to EX.
+// What a transition of value r to a state with value x gives to AX: r → x.
+fn all_step(t: &[u8; 12352], r: Element, x: Element) -> Element
+    ensures { λ e. ⌜ e .0 ≡ joinIn (now (t .entry)) (complementIn (now (t .entry)) (r .0)) (x .0) ⌝ }
+{
+    operations::implies(t, r, x)
+}
+
+// What it gives to EX: r met with x.
+fn some_step(t: &[u8; 12352], r: Element, x: Element) -> Element
+    ensures { λ e. ⌜ e .0 ≡ meetIn (now (t .entry)) (r .0) (x .0) ⌝ }
+{
+    operations::meet(t, r, x)
+}
+
+// The one or the other.
 fn step(t: &[u8; 12352], all: bool, r: Element, x: Element) -> Element
     ensures { λ e. ⌜ e .0 ≡ step (now (t .entry)) all (r .0) (x .0) ⌝ }
 {
     if all {
-        return operations::implies(t, r, x);
+        return all_step(t, r, x);
     }
-    operations::meet(t, r, x)
+    some_step(t, r, x)
 }
 
 // Where a least fixpoint or a join starts, bottom, or a greatest one or a meet, top.
@@ -197,6 +211,7 @@ fn next_by_codes(
     m: &[u8],
     codes: &[u64; 64],
     words: &[u64],
+    y: &mut [u64; 64],
     code: u8,
     x: &[u8; 64],
     out: &mut [u8; 64],
@@ -208,11 +223,10 @@ fn next_by_codes(
     let all = code == 7;
     let from = place(all);
     let first = codes[(start_of(l, !all).0 % 64) as usize];
-    let mut y = [0u64; 64];
-    encode(codes, x, 0, n, &mut y, 0);
+    encode(codes, x, 0, n, y, 0);
     *out = [0u8; 64];
     for q in 0..n {
-        let w = gathered_word(all, first, words, from + q * n, &y, n);
+        let w = gathered_word(all, first, words, from + q * n, y, n);
         out[q] = codes::decode(codes, w).0;
     }
 }
@@ -224,6 +238,7 @@ fn next_values(
     m: &[u8],
     codes: &[u64; 64],
     words: &[u64],
+    y: &mut [u64; 64],
     code: u8,
     x: &[u8; 64],
     out: &mut [u8; 64],
@@ -233,7 +248,7 @@ fn next_values(
 {
     if words.len() == 8192 {
         if operations::below(x, 0, model::states(m), l.size) {
-            return next_by_codes(t, l, m, codes, words, code, x, out);
+            return next_by_codes(t, l, m, codes, words, y, code, x, out);
         }
     }
     next_by_tables(t, l, m, code, x, out)
@@ -318,7 +333,8 @@ fn combined(t: &[u8; 12352], n: usize, code: u8, x: &[u8; 64], y: &[u8; 64], out
 }
 
 // The formula at place `at`, where near, mid and far are the maps of the variables, the nearest binder's first, and limit is the most
-// rounds that a fixpoint takes. Its values are written into out; the answer is the place after it.
+// rounds that a fixpoint takes. Its values are written into out; the answer is the place after it. `scratch` is for words, lent since an
+// array here would be one more for each level.
 fn value_node(
     t: &[u8; 12352],
     l: Lattice,
@@ -328,6 +344,7 @@ fn value_node(
     limit: usize,
     codes: &[u64; 64],
     words: &[u64],
+    scratch: &mut [u64; 64],
     near: &[u8; 64],
     mid: &[u8; 64],
     far: &[u8; 64],
@@ -355,6 +372,7 @@ fn value_node(
                 limit,
                 codes,
                 words,
+                scratch,
                 near,
                 mid,
                 far,
@@ -369,6 +387,7 @@ fn value_node(
                 limit,
                 codes,
                 words,
+                scratch,
                 near,
                 mid,
                 far,
@@ -387,12 +406,13 @@ fn value_node(
                 limit,
                 codes,
                 words,
+                scratch,
                 near,
                 mid,
                 far,
                 &mut x,
             );
-            next_values(t, l, m, codes, words, code, &x, out);
+            next_values(t, l, m, codes, words, scratch, code, &x, out);
             next
         }
         9 | 10 => iterate(
@@ -404,6 +424,7 @@ fn value_node(
             limit,
             codes,
             words,
+            scratch,
             near,
             mid,
             start_of(l, code == 9),
@@ -423,6 +444,7 @@ fn iterate(
     limit: usize,
     codes: &[u64; 64],
     words: &[u64],
+    scratch: &mut [u64; 64],
     near: &[u8; 64],
     mid: &[u8; 64],
     start: Element,
@@ -444,6 +466,7 @@ fn iterate(
             limit,
             codes,
             words,
+            scratch,
             &current,
             near,
             mid,
@@ -488,6 +511,7 @@ fn valued(
 {
     let none = [0u8; 64];
     let mut out = [0u8; 64];
+    let mut scratch = [0u64; 64];
     let limit = round_limit(l, m);
     let _ = value_node(
         t,
@@ -498,6 +522,7 @@ fn valued(
         limit,
         codes,
         words,
+        &mut scratch,
         &none,
         &none,
         &none,

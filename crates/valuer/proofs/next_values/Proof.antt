@@ -14,8 +14,8 @@ below-requires c κs = omega (arith, c .before .before .before .before .before .
 
 next-by-codes-requires : tie.Need-next-by-codes-requires
 next-by-codes-requires c κs =
-    let a = c .before .before .before .before .before .before .before .before .args in
-    (c .before .before .before .before .before .before .before .before .pre .0, c .before .before .before .before .before .before .before .before .pre .1 .when (c .before .before .before .before .before .if1 .taken), c .before .before .before .before .before .if1 .taken, record { at = λ s b. below-at (a .x .now) 0 (c .before .before .before .states .result) (a .l .size) (sym (c .before .before .below .ensures) ∙ c .before .if2 .taken) s (omega arith) (omega (arith, c .before .before .before .states .ensures)) })
+    let a = c .before .before .before .before .before .before .before .before .before .args in
+    (c .before .before .before .before .before .before .before .before .before .pre .0, c .before .before .before .before .before .before .before .before .before .pre .1 .when (c .before .before .before .before .before .before .if1 .taken), c .before .before .before .before .before .before .if1 .taken, record { at = λ s b. below-at (a .x .now) 0 (c .before .before .before .before .states .result) (a .l .size) (sym (c .before .before .before .below .ensures) ∙ c .before .before .if2 .taken) s (omega arith) (omega (arith, c .before .before .before .before .states .ensures)) })
 
 returns : tie.Need-returns
 returns c = search needs
