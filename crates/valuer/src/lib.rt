@@ -573,15 +573,19 @@ fn count(f: &[u8], a: u8, b: u8) -> usize
     c
 }
 
-// Whether AX and EX take longer by the tables than to find codes, in n·n steps, and to clear and fill the words. Each byte of a fixpoint is
-// taken for two rounds more.
+// Whether AX and EX take longer by the tables than to find codes, in n·n steps, to fill the words, in N·N, and to clear them first. A
+// fixpoint is taken for two rounds more of all that the formula has.
 fn worth(l: Lattice, m: &[u8], f: &[u8]) -> bool
     requires { ⌜ ModelShape (now m) × Reads (now m) (now f) ⌝ }
 {
-    let n = operations::index(l.size);
     let states = model::states(m);
+    if states < 8 {
+        return false;
+    }
+    let n = operations::index(l.size);
+    let square = states * states;
     let steps = count(f, 7, 8) * (1 + 2 * count(f, 9, 10));
-    n * n + 2000 < states * states * steps
+    n * n + square + 1000 < square * steps
 }
 
 // The values of a formula part at all states.
