@@ -2,3 +2,4 @@
 pub mod Coded
 -- ---- theorems
 pub mod Laws
+pub mod Means
