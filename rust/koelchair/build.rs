@@ -20,8 +20,12 @@ fn main() {
     println!("cargo:rustc-link-lib=static=exports");
 }
 
-/// The folder that the environment names; nothing is made there.
+/// The folder that the environment names; nothing is made there. Its path is whole, as this program runs in another folder than
+/// the linker.
 fn named_folder(folder: PathBuf) -> PathBuf {
+    if !folder.is_absolute() {
+        stop("KOELCHAIR_ARCHIVE has to name a folder by its whole path");
+    }
     if !folder.join(ARCHIVE).is_file() {
         stop(&format!(
             "KOELCHAIR_ARCHIVE names {}, in which there is no {ARCHIVE}",

@@ -88,6 +88,18 @@ impl TextError {
     }
 }
 
+/// An error with the candidate nearest to a word as its further line.
+pub fn with_nearest<'a>(
+    error: TextError,
+    word: &str,
+    candidates: impl IntoIterator<Item = &'a str>,
+) -> TextError {
+    match nearest(word, candidates) {
+        Some(near) => error.with_help(format!("a similar name is `{near}`")),
+        None => error,
+    }
+}
+
 /// The line of a span with carets under it and a note behind them.
 pub fn marked_line(source: &Source, span: Span, note: &str) -> String {
     let line = source.lines.get(span.line).map_or("", String::as_str);
@@ -120,7 +132,11 @@ pub fn marked_line(source: &Source, span: Span, note: &str) -> String {
 
 /// The candidate nearest to a word, if it is near enough to be meant.
 pub fn nearest<'a>(word: &str, candidates: impl IntoIterator<Item = &'a str>) -> Option<&'a str> {
-    let most = if word.chars().count() <= 3 { 1 } else { 2 };
+    let most = match word.chars().count() {
+        0 | 1 => 0,
+        2 | 3 => 1,
+        _ => 2,
+    };
     candidates
         .into_iter()
         .map(|c| (distance(word, c), c))
@@ -145,18 +161,15 @@ fn distance(a: &str, b: &str) -> usize {
     row[b.len()]
 }
 
-/// Words in a list for a message: the first few, and how many more there are.
-pub fn listed<'a>(words: impl IntoIterator<Item = &'a str>) -> String {
+/// What was expected, as a list: the first few words, and how many more there are.
+pub fn expected_one_of<'a>(words: impl IntoIterator<Item = &'a str>) -> String {
     let words: Vec<&str> = words.into_iter().collect();
-    let shown = words
-        .iter()
-        .take(8)
-        .map(|w| format!("`{w}`"))
-        .collect::<Vec<_>>()
-        .join(", ");
+    let shown: Vec<String> = words.iter().take(8).map(|w| format!("`{w}`")).collect();
+    let shown = shown.join(", ");
     match words.len() {
-        0 => "none".to_string(),
-        n if n > 8 => format!("{shown} and {} more", n - 8),
-        _ => shown,
+        0 => "there is none in this text".to_string(),
+        1 => format!("expected {shown}"),
+        n if n > 8 => format!("expected one of {shown} and {} more", n - 8),
+        _ => format!("expected one of {shown}"),
     }
 }

@@ -1,7 +1,7 @@
 //! Formulas as text. From loosest to tightest: `|`, `&`, then `AX`, `EX` and `!`. `|` and `&` group to the left. The body
 //! of `mu z.` and `nu z.` goes as far to the right as it can.
 
-use crate::errors::{listed, nearest, Span, TextError};
+use crate::errors::{expected_one_of, with_nearest, Span, TextError};
 use crate::formula::{Formula, DEEPEST, LONGEST};
 use crate::lexer::{Cursor, Kind, Token};
 
@@ -161,15 +161,8 @@ impl Parser<'_> {
                 .map(String::as_str)
         };
         let message = format!("`{word}` is neither a proposition nor a variable bound here");
-        let error = TextError::new(
-            span,
-            message,
-            format!("expected one of {}", listed(known())),
-        );
-        Err(match nearest(word, known().chain(FORMULA_WORDS)) {
-            Some(near) => error.with_help(format!("a similar name is `{near}`")),
-            None => error,
-        })
+        let error = TextError::new(span, message, expected_one_of(known()));
+        Err(with_nearest(error, word, known().chain(FORMULA_WORDS)))
     }
 }
 

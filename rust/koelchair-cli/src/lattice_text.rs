@@ -4,6 +4,7 @@ use crate::errors::{Span, TextError};
 use crate::lattice::{Lattice, OrderTable, PANEL_LETTERS};
 use crate::lexer::{Cursor, Statement};
 use crate::names::{self, declare, lookup, Name, MOST_NAMES};
+use crate::parse::no_part;
 
 const FORMS: &str = "`chain`, `power`, `product`, `panel`, `order` or `order exactly`";
 
@@ -22,9 +23,7 @@ pub fn parse(statements: &[Statement]) -> Result<Lattice, Vec<TextError>> {
     cursor.expect_end("the end of the line").map_err(one)?;
     match statements.get(1) {
         None => Ok(lattice),
-        Some(next) => Err(one(
-            Cursor::new(next).unexpected("`propositions`, `model` or `formula`")
-        )),
+        Some(next) => Err(one(no_part(next))),
     }
 }
 
@@ -92,17 +91,10 @@ fn order(
     head: Span,
     exactly: bool,
 ) -> Result<OrderTable, Vec<TextError>> {
-    let mut elements = Vec::new();
     let (declarations, rest): (Vec<_>, Vec<_>) = statements
         .iter()
         .partition(|s| names::is_word(&s[0], "elements"));
-    for statement in declarations {
-        let mut cursor = Cursor::new(statement);
-        cursor.take();
-        let list = names::names(&mut cursor, "the names of the elements").map_err(one)?;
-        cursor.expect_end("a name").map_err(one)?;
-        declare(list, &mut elements, "element").map_err(one)?;
-    }
+    let elements = names::declared(declarations, "element").map_err(one)?;
     if elements.is_empty() {
         let expected = "expected a line `elements` with the names of the elements after it";
         return Err(one(TextError::new(
@@ -218,14 +210,17 @@ impl Order {
         let missing = self.complement.iter().position(Option::is_none);
         if let Some(a) = missing {
             let name = &self.names[a];
-            let expected = match exactly {
-                true => format!(
-                    "expected `row {name}: ... not ...` below `{}`",
-                    "lattice order exactly"
+            let (what, expected) = match exactly {
+                true => (
+                    "row",
+                    format!("expected a line `row {name}: ... not ...` after it"),
                 ),
-                false => format!("expected a line `not {name} = ...` below `lattice order`"),
+                false => (
+                    "complement",
+                    format!("expected a line `not {name} = ...` after it"),
+                ),
             };
-            let message = format!("the complement of `{name}` is missing");
+            let message = format!("the {what} of `{name}` is missing");
             let span = self.elements.get(a).map_or(head, |e| e.span);
             return Err(one(TextError::new(span, message, expected)));
         }

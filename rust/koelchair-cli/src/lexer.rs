@@ -159,19 +159,29 @@ fn token_at(chars: &[char], at: usize, line: usize) -> Result<(Kind, usize), Tex
     });
     match sign {
         Some(sign) => Ok((Kind::Sign(sign), at + sign.len())),
-        None => Err(TextError::new(
+        None => Err(no_token(
+            chars[at],
             Span {
                 line,
                 start: at,
                 end: at + 1,
             },
-            format!(
-                "the character `{}` has no meaning here",
-                chars[at].escape_debug()
-            ),
-            "expected a name, a number or a sign such as `->`, `:`, `&`",
         )),
     }
+}
+
+/// The error that a character begins no token.
+fn no_token(character: char, span: Span) -> TextError {
+    let expected = match character {
+        '-' => "expected `->`",
+        '<' => "expected `<=`",
+        _ => "expected a name, a number or a sign such as `->`, `:`, `&`",
+    };
+    let message = format!(
+        "the character `{}` has no meaning here",
+        character.escape_debug()
+    );
+    TextError::new(span, message, expected)
 }
 
 /// The quoted text that begins at a place.

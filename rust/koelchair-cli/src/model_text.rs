@@ -5,7 +5,7 @@ use crate::lattice::Lattice;
 use crate::lattice_text::element;
 use crate::lexer::{Cursor, Kind, Statement, Token};
 use crate::model::Model;
-use crate::names::{self, declare, numbers};
+use crate::names::{self, numbers};
 
 /// What the models of a case share.
 #[derive(Clone, Copy)]
@@ -22,10 +22,7 @@ pub fn parse(statements: &[Statement], shared: Shared) -> Result<Model, Vec<Text
     let (declarations, rest): (Vec<_>, Vec<_>) = statements[1..]
         .iter()
         .partition(|s| names::is_word(&s[0], "states"));
-    let mut declared = Vec::new();
-    for statement in declarations {
-        states(statement, &mut declared).map_err(|e| vec![e])?;
-    }
+    let declared = names::declared(declarations, "state").map_err(|e| vec![e])?;
     if declared.is_empty() {
         let expected = "expected a line `states` with the names of its states after it";
         return Err(vec![TextError::new(
@@ -56,14 +53,6 @@ fn title(statement: &Statement) -> Result<Option<String>, TextError> {
     };
     cursor.expect_end("a title in double quotes or the end of the line")?;
     Ok(title)
-}
-
-fn states(statement: &Statement, declared: &mut Vec<names::Name>) -> Result<(), TextError> {
-    let mut cursor = Cursor::new(statement);
-    cursor.take();
-    let list = names::names(&mut cursor, "the names of the states")?;
-    cursor.expect_end("a name")?;
-    declare(list, declared, "state")
 }
 
 /// A value with the line that gave it.
@@ -235,37 +224,48 @@ pub fn print(model: &Model, number: usize, shared: Shared) -> String {
         "model {number}{title}\n  states {}\n",
         names::written(&model.states)
     );
-    let left_out = shared.lattice.left_out();
-    let value = |v: u8| shared.lattice.name(usize::from(v));
-    for (state, v) in model
-        .states
-        .iter()
-        .zip(&model.initial)
-        .filter(|(_, v)| **v != left_out)
-    {
-        text.push_str(&format!("  initial {state}: {}\n", value(*v)));
-    }
-    let k = shared.propositions.len();
-    for (q, state) in model.states.iter().enumerate() {
-        let row = shared
-            .propositions
-            .iter()
-            .zip(&model.propositions[q * k..(q + 1) * k]);
-        let given: Vec<String> = row
-            .filter(|(_, v)| **v != left_out)
-            .map(|(p, v)| format!("{p} = {}", value(*v)))
-            .collect();
-        if !given.is_empty() {
-            text.push_str(&format!("  {state}: {}\n", given.join(", ")));
+    for (state, value) in model.states.iter().zip(&model.initial) {
+        if let Some(value) = shared.given(*value) {
+            text.push_str(&format!("  initial {state}: {value}\n"));
         }
     }
-    for (q, from) in model.states.iter().enumerate() {
-        for (r, to) in model.states.iter().enumerate() {
-            let v = model.transition(q, r);
-            if v != left_out {
-                text.push_str(&format!("  {from} -> {to}: {}\n", value(v)));
-            }
-        }
+    for q in 0..model.size() {
+        text.push_str(&print_propositions(model, q, shared));
+    }
+    for q in 0..model.size() {
+        text.push_str(&print_transitions(model, q, shared));
     }
     text
+}
+
+impl Shared<'_> {
+    /// The name of a value that has to be given.
+    fn given(&self, value: u8) -> Option<String> {
+        (value != self.lattice.left_out()).then(|| self.lattice.name(usize::from(value)))
+    }
+}
+
+fn print_propositions(model: &Model, q: usize, shared: Shared) -> String {
+    let k = shared.propositions.len();
+    let values = shared
+        .propositions
+        .iter()
+        .zip(&model.propositions[q * k..(q + 1) * k]);
+    let given = values.filter_map(|(p, v)| shared.given(*v).map(|v| format!("{p} = {v}")));
+    let given: Vec<String> = given.collect();
+    match given.is_empty() {
+        true => String::new(),
+        false => format!("  {}: {}\n", model.states[q], given.join(", ")),
+    }
+}
+
+fn print_transitions(model: &Model, q: usize, shared: Shared) -> String {
+    let line = |r: usize| {
+        let value = shared.given(model.transition(q, r))?;
+        Some(format!(
+            "  {} -> {}: {value}\n",
+            model.states[q], model.states[r]
+        ))
+    };
+    (0..model.size()).filter_map(line).collect()
 }

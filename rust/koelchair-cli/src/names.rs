@@ -1,7 +1,7 @@
 //! Lists of names: written one after another, `q0..q63` standing for `q0`, `q1` and so on up to `q63`.
 
-use crate::errors::{listed, nearest, Span, TextError};
-use crate::lexer::{Cursor, Kind, Token};
+use crate::errors::{expected_one_of, with_nearest, Span, TextError};
+use crate::lexer::{Cursor, Kind, Statement, Token};
 
 /// Words that begin a statement, and so name neither an element, a state nor a proposition.
 const RESERVED: [&str; 11] = [
@@ -124,6 +124,22 @@ pub fn declare(list: Vec<Name>, declared: &mut Vec<Name>, sort: &str) -> Result<
     Ok(())
 }
 
+/// The names of some sort that statements list behind their first word.
+pub fn declared<'a>(
+    statements: impl IntoIterator<Item = &'a Statement>,
+    sort: &str,
+) -> Result<Vec<Name>, TextError> {
+    let mut all = Vec::new();
+    for statement in statements {
+        let mut cursor = Cursor::new(statement);
+        cursor.take();
+        let list = names(&mut cursor, &format!("the names of the {sort}s"))?;
+        cursor.expect_end("a name")?;
+        declare(list, &mut all, sort)?;
+    }
+    Ok(all)
+}
+
 /// The texts of names.
 pub fn texts(list: Vec<Name>) -> Vec<String> {
     list.into_iter().map(|n| n.text).collect()
@@ -139,15 +155,13 @@ pub fn lookup(word: &str, span: Span, all: &[String], sort: &str) -> Result<u8, 
 
 /// The error that a word names nothing of some sort.
 pub fn unknown(word: &str, span: Span, all: &[String], sort: &str) -> TextError {
-    let expected = match all.is_empty() {
-        true => format!("no {sort} is named in this text"),
-        false => format!("expected one of {}", listed(all.iter().map(String::as_str))),
-    };
-    let error = TextError::new(span, format!("`{word}` is no {sort}"), expected);
-    match nearest(word, all.iter().map(String::as_str)) {
-        Some(near) => error.with_help(format!("a similar name is `{near}`")),
-        None => error,
-    }
+    let all = || all.iter().map(String::as_str);
+    let error = TextError::new(
+        span,
+        format!("`{word}` is no {sort}"),
+        expected_one_of(all()),
+    );
+    with_nearest(error, word, all())
 }
 
 /// The numbers of one or more names of some sort, with their places.

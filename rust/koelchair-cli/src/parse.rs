@@ -3,14 +3,14 @@
 use crate::case::{Case, NamedFormula};
 use crate::decode::decode;
 use crate::encode::encode;
-use crate::errors::{nearest, Source, Span, TextError};
+use crate::errors::{with_nearest, Source, Span, TextError};
 use crate::formula_text::{self, name_allowed};
 use crate::lattice::Lattice;
 use crate::lattice_text;
 use crate::lexer::{lex, Cursor, Kind, Lexed, Statement, Token};
 use crate::model::Model;
 use crate::model_text::{self, Shared};
-use crate::names::{self, declare, Name};
+use crate::names;
 
 /// A text that could be read.
 #[derive(Clone, Debug)]
@@ -49,12 +49,13 @@ struct Sections {
     formulas: Vec<Statement>,
 }
 
-/// Which part the statements that follow belong to.
+/// Which part the statements that follow belong to; after a wrong beginning they are passed over.
 #[derive(Clone, Copy)]
 enum Current {
     Nothing,
     Lattice,
     Model(usize),
+    Wrong,
 }
 
 impl Sections {
@@ -78,21 +79,33 @@ impl Sections {
             Kind::Word(word) if PARTS.contains(&word.as_str()) => word.clone(),
             _ => return self.go_on(statement, *current),
         };
-        *current = Current::Nothing;
-        match word.as_str() {
-            "title" => self.title = Some(title(&statement)?),
+        *current = Current::Wrong;
+        *current = self.begin(statement, &word)?;
+        Ok(())
+    }
+
+    fn begin(&mut self, statement: Statement, word: &str) -> Result<Current, TextError> {
+        match word {
+            "title" if self.title.is_some() => {
+                return Err(TextError::new(
+                    names::whole(&statement),
+                    "the title is given twice",
+                    "expected it once",
+                ))
+            }
             "lattice" if !self.lattice.is_empty() => {
                 return Err(twice(&statement, "the lattice", &self.lattice[0]))
             }
+            "title" => self.title = Some(title(&statement)?),
             "lattice" => {
                 self.lattice.push(statement);
-                *current = Current::Lattice;
+                return Ok(Current::Lattice);
             }
-            "model" => *current = Current::Model(self.model(statement)?),
+            "model" => return self.model(statement).map(Current::Model),
             "propositions" => self.propositions.push(statement),
             _ => self.formulas.push(statement),
         }
-        Ok(())
+        Ok(Current::Nothing)
     }
 
     /// A statement that does not begin a part belongs to the one before.
@@ -100,19 +113,8 @@ impl Sections {
         match current {
             Current::Lattice => self.lattice.push(statement),
             Current::Model(m) => self.models[m].push(statement),
-            Current::Nothing => {
-                let error = Cursor::new(&statement).unexpected(
-                    "`title`, `lattice`, `propositions`, `model 1`, `model 2` or `formula`",
-                );
-                let near = match &statement[0].kind {
-                    Kind::Word(word) => nearest(word, PARTS),
-                    _ => None,
-                };
-                return Err(match near {
-                    Some(near) => error.with_help(format!("a similar word is `{near}`")),
-                    None => error,
-                });
-            }
+            Current::Nothing => return Err(no_part(&statement)),
+            Current::Wrong => {}
         }
         Ok(())
     }
@@ -133,6 +135,16 @@ impl Sections {
     }
 }
 
+/// The error that a statement begins no part.
+pub fn no_part(statement: &Statement) -> TextError {
+    let error = Cursor::new(statement)
+        .unexpected("`title`, `lattice`, `propositions`, `model 1`, `model 2` or `formula`");
+    match &statement[0].kind {
+        Kind::Word(word) => with_nearest(error, word, PARTS),
+        _ => error,
+    }
+}
+
 fn twice(statement: &Statement, what: &str, first: &Statement) -> TextError {
     let expected = format!(
         "expected it once: line {} begins it too",
@@ -146,31 +158,28 @@ fn twice(statement: &Statement, what: &str, first: &Statement) -> TextError {
 }
 
 fn title(statement: &Statement) -> Result<String, TextError> {
-    match &statement[..] {
-        [_, Token {
+    let mut cursor = Cursor::new(statement);
+    cursor.take();
+    match &statement[1..] {
+        [Token {
             kind: Kind::Quoted(text),
             ..
         }] => Ok(text.clone()),
-        _ => Err(Cursor::new(&statement[1..]).unexpected("a title in double quotes")),
+        _ => Err(cursor.unexpected("a title in double quotes")),
     }
 }
 
 /// The names of the propositions.
 fn propositions(statements: &[Statement]) -> Result<Vec<String>, TextError> {
-    let mut declared: Vec<Name> = Vec::new();
-    for statement in statements {
-        let mut cursor = Cursor::new(statement);
-        cursor.take();
-        let list = names::names(&mut cursor, "the names of the propositions")?;
-        cursor.expect_end("a name")?;
-        if let Some(name) = list.iter().find(|n| !name_allowed(&n.text)) {
+    let declared = names::declared(statements, "proposition")?;
+    match declared.iter().find(|n| !name_allowed(&n.text)) {
+        None => Ok(names::texts(declared)),
+        Some(name) => {
             let message = format!("`{}` cannot name a proposition", name.text);
             let expected = "expected a name that begins with a letter and is no word of formulas";
-            return Err(TextError::new(name.span, message, expected));
+            Err(TextError::new(name.span, message, expected))
         }
-        declare(list, &mut declared, "proposition")?;
     }
-    Ok(names::texts(declared))
 }
 
 /// A text with a lattice, two models and formulas.

@@ -51,7 +51,10 @@ pub fn print_bytes(bytes: &[u8]) -> String {
                 .chunks(16)
                 .map(|line| format!("  {}\n", numbers(line)))
                 .collect();
-            format!("bytes (\n{})\n", lines.concat())
+            format!(
+                "# These bytes have not the form of a case.\nbytes (\n{})\n",
+                lines.concat()
+            )
         }
     }
 }

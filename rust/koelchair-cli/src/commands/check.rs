@@ -17,14 +17,18 @@ pub fn check(arguments: &[String], input: &mut dyn Read) -> Outcome {
 fn contents(opened: &Opened) -> String {
     let case = &opened.case;
     let mut text = format!("accepted, {} bytes\n", opened.text.bytes.len());
-    let _ = writeln!(text, "lattice: {} elements", case.lattice.size());
-    let _ = writeln!(text, "propositions: {}", case.propositions.join(" "));
+    let _ = writeln!(text, "lattice, elements: {}", case.lattice.size());
+    let propositions = match case.propositions.is_empty() {
+        true => "none".to_string(),
+        false => case.propositions.join(" "),
+    };
+    let _ = writeln!(text, "propositions: {propositions}");
     for (i, model) in case.models.iter().enumerate() {
         let title = model
             .title
             .as_ref()
             .map_or(String::new(), |t| format!(" ({t})"));
-        let _ = writeln!(text, "model {}{title}: {} states", i + 1, model.size());
+        let _ = writeln!(text, "model {}{title}, states: {}", i + 1, model.size());
     }
     for named in &case.formulas {
         let formula = formula_text::print(&named.formula, &case.propositions);
@@ -35,18 +39,19 @@ fn contents(opened: &Opened) -> String {
             bounded(&named.formula)
         );
     }
-    text.truncate(text.trim_end().len());
-    text.push('\n');
     text
 }
 
-/// When the entry of a pair bounds the formula: its value in model 2 gives its value in model 1.
+/// From when on a pair's entry is at most 'not its value in model 2, joined with its value in model 1' (demand 3).
 fn bounded(formula: &Formula) -> String {
     if !formula.universal() {
-        return "not bounded by entries, since it has EX".to_string();
+        return "entries do not bound it, since it has EX".to_string();
     }
     match (formula.nested_binders(), formula.nested_ax()) {
-        (0, nested) => format!("bounded by entries from round {} on", nested + 1),
-        _ => "bounded by entries once settled".to_string(),
+        (0, nested) => format!(
+            "entries bound it from round {} on, or once settled",
+            nested + 1
+        ),
+        _ => "entries bound it once settled".to_string(),
     }
 }

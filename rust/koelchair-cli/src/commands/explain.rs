@@ -29,7 +29,7 @@ pub fn explain(arguments: &[String], input: &mut dyn Read) -> Outcome {
         pair,
         all: arguments.has("--all"),
     };
-    Ok(explanation.rounds(&mut opened).into_bytes())
+    explanation.rounds(&mut opened).map(String::into_bytes)
 }
 
 /// The number of a state of a model.
@@ -50,23 +50,12 @@ struct Explanation {
 }
 
 impl Explanation {
-    fn rounds(&self, opened: &mut Opened) -> String {
-        let (q1, q2) = self.pair;
-        let place = q1 * opened.case.models[1].size() + q2;
-        let case = &opened.case;
-        let mut text = format!(
-            "{} of {} against {} of {}\n",
-            case.models[0].states[q1],
-            case.model_name(0),
-            case.models[1].states[q2],
-            case.model_name(1)
-        );
-        let _ = writeln!(
-            text,
-            "round 0: {} (every entry begins at top)",
-            case.element(opened.desk.show()[place])
-        );
+    /// The pair's entry in each round; a failure if the parts of one do not meet to it.
+    fn rounds(&self, opened: &mut Opened) -> Result<String, Failure> {
+        let place = self.pair.0 * opened.case.models[1].size() + self.pair.1;
         let mut before = opened.desk.show().to_vec();
+        let mut text = self.heading(&opened.case, before[place]);
+        let mut agrees = true;
         loop {
             let answer = opened.desk.step();
             let (StepAnswer::Round(round) | StepAnswer::Settled(round)) = answer else {
@@ -76,40 +65,44 @@ impl Explanation {
             let settled = matches!(answer, StepAnswer::Settled(_));
             let last = if settled { " (settled)" } else { "" };
             let _ = writeln!(text, "round {round}{last}: {}", opened.case.element(entry));
-            text.push_str(&self.entry(&opened.case, &before, entry));
-            if settled {
-                return text;
+            agrees &= self.entry(&opened.case, &before, entry, &mut text);
+            match (settled, agrees) {
+                (true, true) => return Ok(text),
+                (true, false) => return Err(Failure::Other(text)),
+                (false, _) => before = opened.desk.show().to_vec(),
             }
-            before = opened.desk.show().to_vec();
         }
     }
 
-    /// The parts of an entry of the round after `table`, and whether they meet to the library's entry.
-    fn entry(&self, case: &Case, table: &[u8], entry: u8) -> String {
+    fn heading(&self, case: &Case, entry: u8) -> String {
+        let [first, second] = [(0, self.pair.0), (1, self.pair.1)]
+            .map(|(m, q)| format!("{} of {}", case.models[m].states[q], case.model_name(m)));
+        let entry = case.element(entry);
+        format!("{first} against {second}\nround 0: {entry} (every entry begins at top)\n")
+    }
+
+    /// Puts the parts of an entry of the round after `table` to the text; whether they meet to the library's entry.
+    fn entry(&self, case: &Case, table: &[u8], entry: u8, text: &mut String) -> bool {
         let parts = parts(case, &self.operations, table, self.pair.0, self.pair.1);
-        let mut text = String::new();
-        for part in parts
-            .iter()
-            .filter(|p| self.all || p.gives() != self.operations.top)
-        {
+        let shown = |part: &&Part| self.all || part.gives() != self.operations.top;
+        for part in parts.iter().filter(shown) {
             let _ = writeln!(text, "  {}", self.part(case, part));
         }
-        if text.is_empty() {
+        if !parts.iter().any(|part| shown(&part)) {
             text.push_str("  nothing holds it down\n");
         }
-        let meet = parts.iter().fold(self.operations.top, |m, p| {
-            self.operations.meet(m, p.gives())
+        let meet = parts.iter().fold(self.operations.top, |meet, part| {
+            self.operations.meet(meet, part.gives())
         });
-        if meet == entry {
-            text.push_str("  these parts meet to the library's entry\n");
-        } else {
-            let _ = writeln!(
+        let _ = match meet == entry {
+            true => writeln!(text, "  these parts meet to the library's entry"),
+            false => writeln!(
                 text,
                 "  ERROR: these parts meet to {}, which is not the library's entry",
                 case.element(meet)
-            );
-        }
-        text
+            ),
+        };
+        meet == entry
     }
 
     fn part(&self, case: &Case, part: &Part) -> String {
@@ -167,5 +160,36 @@ impl Explanation {
                 )
             }
         }
+    }
+}
+
+#[cfg(test)]
+mod tests {
+    use super::Explanation;
+    use crate::errors::Source;
+    use crate::parse::parse;
+    use crate::tables::Operations;
+
+    const TEXT: &str =
+        "lattice chain no yes\npropositions p\nmodel 1\n  states a\n  a: p\nmodel 2\n  states b\n";
+
+    #[test]
+    fn an_entry_that_the_parts_do_not_meet_to_is_said() {
+        let case = parse(Source::new("text", TEXT))
+            .expect("the text can be read")
+            .case
+            .expect("it has names");
+        let operations = Operations::of(&case.lattice).expect("a lattice");
+        let explanation = Explanation {
+            operations,
+            pair: (0, 0),
+            all: false,
+        };
+        let mut text = String::new();
+        assert!(explanation.entry(&case, &[1], 0, &mut text));
+        assert!(text.ends_with("these parts meet to the library's entry\n"));
+        assert!(!explanation.entry(&case, &[1], 1, &mut text));
+        let wrong = "ERROR: these parts meet to no, which is not the library's entry\n";
+        assert!(text.ends_with(wrong));
     }
 }

@@ -5,7 +5,7 @@ const COMMANDS: [(&str, &str, &str); 7] = [
     (
         "check",
         "koelchair check [--bytes] FILE",
-        "Reads a case and says whether the desk accepts it, what it holds, and from which round on each formula is bounded.\n\
+        "Reads a case and says whether the desk accepts it, what it holds, and from which round on entries bound each formula.\n\
          A refusal is said in words, with its number, its part and where that part stands in the text.",
     ),
     (

@@ -13,19 +13,20 @@ pub fn report(arguments: &[String], input: &mut dyn Read) -> Outcome {
     let arguments = Arguments::read(arguments, &["--names", "--values", "--bytes"], &["--share"])?;
     let [file] = arguments.exactly(["FILE"])?;
     let text = read_text(file, &arguments, input)?;
-    let listing = koelchair::listing(&text.bytes);
-    let mut opened = match open(text) {
-        Ok(opened) => opened,
-        Err(Failure::Refused(text, refusal, _)) => {
-            return Err(Failure::Refused(text, refusal, listing))
+    let bytes = text.bytes.clone();
+    let mut opened = open(text).map_err(|failure| match failure {
+        Failure::Refused(text, refusal, _) => {
+            Failure::Refused(text, refusal, koelchair::listing(&bytes))
         }
-        Err(other) => return Err(other),
-    };
-    let rounds = opened.desk.settle();
+        other => other,
+    })?;
     let mut printed = match arguments.has("--names") {
-        true => named_listing(&opened, rounds),
-        false => listing,
+        true => named_listing(&mut opened),
+        false => koelchair::listing(&bytes),
     };
+    if arguments.has("--values") || arguments.has("--share") {
+        opened.desk.settle();
+    }
     if arguments.has("--values") {
         printed.push_str(&values(&opened));
     }
@@ -35,10 +36,10 @@ pub fn report(arguments: &[String], input: &mut dyn Read) -> Outcome {
     Ok(printed.into_bytes())
 }
 
-/// The listing with names in place of numbers, from the calls of the library on a settled desk.
-fn named_listing(opened: &Opened, rounds: u32) -> String {
+/// The listing with names in place of numbers, from the calls of the library.
+fn named_listing(opened: &mut Opened) -> String {
+    let mut text = format!("rounds {}\n", opened.desk.settle());
     let (case, desk) = (&opened.case, &opened.desk);
-    let mut text = format!("rounds {rounds}\n");
     for (state, row) in case.models[0]
         .states
         .iter()

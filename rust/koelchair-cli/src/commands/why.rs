@@ -1,9 +1,8 @@
 //! Where in a refused part the rule is broken, as far as this tool can find it by itself. The refusal is the library's.
 
 use crate::case::Case;
-use crate::encode::lattice_part;
 use crate::lattice::Lattice;
-use crate::tables::greatest;
+use crate::tables::{greatest, Operations};
 use koelchair::Refusal;
 
 /// What breaks the rule, by name.
@@ -19,9 +18,9 @@ pub fn why(case: &Case, bytes: &[u8], refusal: Refusal) -> Option<String> {
         Refusal::Complement => complement(lattice),
         Refusal::Model(part @ (1 | 2)) => {
             let states = case.models[usize::from(part) - 1].size();
+            let k = case.propositions.len();
             Some(format!(
-                "it has {states} states (1 to 64) and {} propositions (0 to 16)",
-                case.propositions.len()
+                "states: {states} (1 to 64); propositions: {k} (0 to 16)"
             ))
         }
         Refusal::Formula(part) => formula(case, usize::from(part)),
@@ -34,9 +33,9 @@ fn formula(case: &Case, part: usize) -> Option<String> {
     let mut bytes = Vec::new();
     formula.write(&mut bytes);
     let binders = formula.nested_binders();
+    let length = bytes.len();
     Some(format!(
-        "it has {} bytes (1 to 255) and {binders} nested binders (at most 3)",
-        bytes.len()
+        "bytes: {length} (1 to 255); nested binders: {binders} (at most 3)"
     ))
 }
 
@@ -74,17 +73,12 @@ fn no_partial_order(lattice: &Lattice) -> Option<String> {
     })
 }
 
-fn meet(lattice: &Lattice, a: usize, b: usize) -> Option<usize> {
-    greatest(lattice.size(), a, b, |x, y| lattice.at_most(x, y)).map(usize::from)
-}
-
-fn join(lattice: &Lattice, a: usize, b: usize) -> Option<usize> {
-    greatest(lattice.size(), a, b, |x, y| lattice.at_most(y, x)).map(usize::from)
-}
-
 fn no_meet_or_join(lattice: &Lattice) -> Option<String> {
+    let n = lattice.size();
     pairs(lattice).find_map(|(a, b)| {
-        let missing = match (meet(lattice, a, b), join(lattice, a, b)) {
+        let meet = greatest(n, a, b, |x, y| lattice.at_most(x, y));
+        let join = greatest(n, a, b, |x, y| lattice.at_most(y, x));
+        let missing = match (meet, join) {
             (None, _) => "meet",
             (_, None) => "join",
             _ => return None,
@@ -98,12 +92,13 @@ fn no_meet_or_join(lattice: &Lattice) -> Option<String> {
 }
 
 fn not_distributive(lattice: &Lattice) -> Option<String> {
-    let name = |a| lattice.name(a);
+    let name = |a: usize| lattice.name(a);
+    let operations = Operations::of(lattice)?;
+    let (meet, join) = (|a, b| operations.meet(a, b), |a, b| operations.join(a, b));
     pairs(lattice).find_map(|(a, b)| {
         let c = (0..lattice.size()).find(|c| {
-            let left = join(lattice, b, *c).and_then(|j| meet(lattice, a, j));
-            let right = meet(lattice, a, b).zip(meet(lattice, a, *c)).and_then(|(x, y)| join(lattice, x, y));
-            left != right
+            let (a, b, c) = (a as u8, b as u8, *c as u8);
+            meet(a, join(b, c)) != join(meet(a, b), meet(a, c))
         })?;
         Some(format!(
             "`{0}` met with the join of `{1}` and `{2}` is not the join of `{0}` met with `{1}` and `{0}` met with `{2}`",
@@ -117,7 +112,6 @@ fn not_distributive(lattice: &Lattice) -> Option<String> {
 fn complement(lattice: &Lattice) -> Option<String> {
     let name = |a| lattice.name(a);
     let not = |a| lattice.complement(a);
-    let part = lattice_part(lattice);
     if let Some(a) = (0..lattice.size()).find(|a| not(not(*a)) != *a) {
         return Some(format!(
             "the complement of the complement of `{}` is `{}`",
@@ -127,16 +121,13 @@ fn complement(lattice: &Lattice) -> Option<String> {
     }
     let broken =
         |(a, b): &(usize, usize)| lattice.at_most(*a, *b) && !lattice.at_most(not(*b), not(*a));
-    pairs(lattice)
-        .find(broken)
-        .filter(|_| part.len() > 1)
-        .map(|(a, b)| {
-            format!(
-                "`{}` <= `{}`, but for their complements not `{}` <= `{}`",
-                name(a),
-                name(b),
-                name(not(b)),
-                name(not(a))
-            )
-        })
+    pairs(lattice).find(broken).map(|(a, b)| {
+        format!(
+            "`{}` <= `{}`, but for their complements not `{}` <= `{}`",
+            name(a),
+            name(b),
+            name(not(b)),
+            name(not(a))
+        )
+    })
 }

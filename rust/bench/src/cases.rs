@@ -1,0 +1,137 @@
+//! The cases that are measured: three sorts of lattice, models of any size with values drawn by a seed, and five formulas.
+
+use crate::random::Random;
+use std::fmt;
+
+/// A lattice. Element 0 is its bottom and n − 1 its top.
+#[derive(Clone, Copy)]
+pub enum Lattice {
+    /// The 27 elements of three answers no, unsure or yes, which the case names by one byte.
+    Panel,
+    /// The numbers below n in their order; the complement turns it round.
+    Chain(u8),
+    /// The subsets of so many things, as the bits of a number.
+    PowerSet(u8),
+}
+
+impl Lattice {
+    /// n.
+    pub fn size(self) -> u8 {
+        match self {
+            Lattice::Panel => 27,
+            Lattice::Chain(size) => size,
+            Lattice::PowerSet(things) => 1 << things,
+        }
+    }
+
+    fn part(self) -> Vec<u8> {
+        if let Lattice::Panel = self {
+            return vec![0];
+        }
+        let size = self.size();
+        let mut part = vec![size];
+        part.extend((0..size).rev());
+        for i in 0..size {
+            part.extend((0..size).map(|j| u8::from(self.at_most(i, j))));
+        }
+        part
+    }
+
+    /// Whether i is at or below j, in a chain or a power set.
+    fn at_most(self, i: u8, j: u8) -> bool {
+        match self {
+            Lattice::PowerSet(_) => i & j == i,
+            _ => i <= j,
+        }
+    }
+}
+
+impl fmt::Display for Lattice {
+    fn fmt(&self, f: &mut fmt::Formatter) -> fmt::Result {
+        match self {
+            Lattice::Panel => f.write_str("panel, 27"),
+            Lattice::Chain(size) => write!(f, "chain, {size}"),
+            Lattice::PowerSet(things) => write!(f, "subsets of {things}, {}", self.size()),
+        }
+    }
+}
+
+/// The propositions of each model.
+const PROPOSITIONS: u8 = 4;
+
+/// So many of a state's transitions are drawn, one perhaps twice, and the others are bottom.
+const SUCCESSORS: u8 = 16;
+
+/// One in so many proposition values is drawn, and the others are top, so that the table does not fall to bottom at once.
+const DRAWN: u8 = 8;
+
+/// The number of the formula AX EX AX of p0 or not-p1.
+pub const NESTED: u8 = 0;
+
+/// The number of the formula that is a greatest fixpoint of a least one of a greatest one, with AX and EX inside.
+pub const FIXPOINTS: u8 = 4;
+
+/// The formulas, in prefix form.
+const FORMULAS: [&[u8]; 5] = [
+    &[7, 8, 7, 5, 2, 0, 3, 1],
+    &[10, 6, 2, 2, 7, 4, 0],
+    &[9, 5, 2, 3, 8, 4, 0],
+    &[10, 9, 5, 6, 2, 0, 7, 4, 1, 8, 4, 0],
+    &[10, 9, 10, 6, 5, 6, 7, 4, 2, 2, 1, 8, 4, 1, 5, 7, 4, 0, 2, 0],
+];
+
+/// The sizes of a case, and the seed of its values.
+#[derive(Clone, Copy)]
+pub struct Setting {
+    pub lattice: Lattice,
+    pub states1: u8,
+    pub states2: u8,
+    pub seed: u64,
+}
+
+impl Setting {
+    /// The case with these sizes and values.
+    pub fn case(self) -> Vec<u8> {
+        let mut random = Random::new(self.seed);
+        let mut parts = vec![self.lattice.part()];
+        for states in [self.states1, self.states2] {
+            parts.push(model(&mut random, self.lattice.size(), states));
+        }
+        parts.extend(FORMULAS.map(<[u8]>::to_vec));
+        laid_out(&parts)
+    }
+}
+
+fn model(random: &mut Random, size: u8, states: u8) -> Vec<u8> {
+    let mut part = vec![states, PROPOSITIONS];
+    part.extend((0..states).map(|_| random.below(size)));
+    for _ in 0..states {
+        for _ in 0..PROPOSITIONS {
+            let drawn = random.below(DRAWN) == 0;
+            part.push(if drawn { random.below(size) } else { size - 1 });
+        }
+    }
+    for _ in 0..states {
+        let mut row = vec![0; usize::from(states)];
+        for _ in 0..SUCCESSORS {
+            row[usize::from(random.below(states))] = random.below(size);
+        }
+        part.extend(row);
+    }
+    part
+}
+
+/// The case with these parts, one after another.
+fn laid_out(parts: &[Vec<u8>]) -> Vec<u8> {
+    let mut case = vec![parts.len() as u8];
+    let mut place = 1 + 4 * parts.len();
+    for part in parts {
+        case.extend((place as u16).to_le_bytes());
+        case.extend((part.len() as u16).to_le_bytes());
+        place += part.len();
+    }
+    for part in parts {
+        case.extend(part);
+    }
+    case
+}

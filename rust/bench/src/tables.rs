@@ -1,0 +1,254 @@
+//! The tables that are printed: the calls, what a call spends on the check of its desk, and how a step grows.
+
+use crate::calls::Calls;
+use crate::cases::{Lattice, Setting, FIXPOINTS, NESTED};
+use crate::measure::Times;
+use crate::Options;
+
+/// The seed of all values.
+const SEED: u64 = 1;
+
+/// The sizes of the calls' table, from the smallest to the largest; both models have so many states.
+const SIZES: [(Lattice, u8); 7] = [
+    (Lattice::Chain(3), 2),
+    (Lattice::Panel, 16),
+    (Lattice::Panel, 64),
+    (Lattice::Chain(64), 16),
+    (Lattice::Chain(64), 64),
+    (Lattice::PowerSet(6), 16),
+    (Lattice::PowerSet(6), 64),
+];
+
+/// A call's name, and how it is measured.
+type Measured = (&'static str, fn(&Calls, usize) -> Times);
+
+/// The calls in the order of the table.
+const CALLS: [Measured; 10] = [
+    ("open", Calls::open),
+    ("step", Calls::step),
+    ("show", Calls::show),
+    ("value, AX EX AX", |c, repeat| c.value(repeat, NESTED)),
+    ("value, three fixpoints", |c, n| c.value(n, FIXPOINTS)),
+    ("whole, three fixpoints", |c, n| c.whole(n, FIXPOINTS)),
+    ("score", Calls::score),
+    ("share", Calls::share),
+    ("judge", Calls::judge),
+    ("report", Calls::report),
+];
+
+/// Prints all tables, or the rows of them that are asked for.
+pub fn print(options: &Options) {
+    println!(
+        "Medians of up to {} samples of each side, which take turns: proved, second, proved, second, and so on. A sample repeats its call \
+         for about 0.4 ms or makes it once, and its time is that of one call. *Second / proved* is the second implementation's median as a \
+         multiple of the proved one's: above 1 the proved one is the faster, so many times. Half of the ratios of two samples that \
+         follow one another are within the *middle half*. After each two samples the answers, and for open and step the standings \
+         and tables too, were compared, and were equal.\n",
+        options.repeat
+    );
+    let checks = print_calls(options);
+    print_checks(&checks);
+    print_growth(options);
+}
+
+// ---- the calls
+
+/// The times of a desk's check, measured by show, and of a step.
+struct Check {
+    lattice: Lattice,
+    states: u8,
+    show: Times,
+    step: Times,
+}
+
+/// Prints the table of calls; gives the rows of the next table.
+fn print_calls(options: &Options) -> Vec<Check> {
+    let sizes = SIZES.map(|(lattice, states)| (lattice, states, wanted(options, lattice, states)));
+    if sizes.iter().all(|(_, _, calls)| calls.is_empty()) {
+        return Vec::new();
+    }
+    println!("| Lattice, elements | States | Call | Proved, µs | Second, µs | Second / proved | Middle half | Samples |");
+    println!("|---|---|---|---|---|---|---|---|");
+    let checks = sizes
+        .into_iter()
+        .filter(|(_, _, calls)| !calls.is_empty())
+        .filter_map(|(lattice, states, calls)| print_size(options.repeat, lattice, states, &calls))
+        .collect();
+    println!();
+    checks
+}
+
+/// The calls that are asked for at this size.
+fn wanted(options: &Options, lattice: Lattice, states: u8) -> Vec<Measured> {
+    CALLS
+        .into_iter()
+        .filter(|(call, _)| options.wants(&format!("{lattice}; {states}; {call}")))
+        .collect()
+}
+
+/// Prints the rows of one size; gives the times of show and step where both are among them.
+fn print_size(repeat: usize, lattice: Lattice, states: u8, wanted: &[Measured]) -> Option<Check> {
+    let calls = Calls::new(Setting {
+        lattice,
+        states1: states,
+        states2: states,
+        seed: SEED,
+    });
+    let (mut show, mut step) = (None, None);
+    for &(call, measure) in wanted {
+        let times = measure(&calls, repeat);
+        print!("| {lattice} | {states} | {call}");
+        match call {
+            "report" => print!(", {} rounds", calls.rounds()),
+            "show" => show = Some(times),
+            "step" => step = Some(times),
+            _ => {}
+        }
+        println!(" | {} |", columns(&times));
+    }
+    Some(Check {
+        lattice,
+        states,
+        show: show?,
+        step: step?,
+    })
+}
+
+// ---- the check of the desk
+
+fn print_checks(checks: &[Check]) {
+    if checks.is_empty() {
+        return;
+    }
+    println!(
+        "Every call but open begins with the check of its desk: the store is read as a case and its lattice's tables are worked out anew, then \
+         the standing and both tables are looked at. show does this and nothing else (the second one's show also copies the table), so its time is taken for the check's, and \
+         the rest of a step is the row.\n"
+    );
+    println!("| Lattice, elements | States | Check, proved, µs | Step, proved, µs | Check's share of a step, proved | The same, second |");
+    println!("|---|---|---|---|---|---|");
+    for check in checks {
+        println!(
+            "| {} | {} | {} | {} | {} | {} |",
+            check.lattice,
+            check.states,
+            micros(check.show.proved),
+            micros(check.step.proved),
+            per_cent(check.show.proved, check.step.proved),
+            per_cent(check.show.second, check.step.second)
+        );
+    }
+    println!();
+}
+
+// ---- the growth of a step
+
+/// N1, N2 and n of each row: N1 grows and the others stay, then N2, then n, then N1 and N2.
+const GROWTH: [(u8, u8, u8); 17] = [
+    (8, 16, 16),
+    (16, 16, 16),
+    (32, 16, 16),
+    (64, 16, 16),
+    (16, 8, 16),
+    (16, 16, 16),
+    (16, 32, 16),
+    (16, 64, 16),
+    (16, 16, 4),
+    (16, 16, 8),
+    (16, 16, 16),
+    (16, 16, 32),
+    (16, 16, 64),
+    (8, 8, 16),
+    (16, 16, 16),
+    (32, 32, 16),
+    (64, 64, 16),
+];
+
+/// Prints how the check and the row of a step grow with each size, on chains.
+fn print_growth(options: &Options) {
+    let rows = GROWTH.map(|sizes| (sizes, format!("growth; {sizes:?}")));
+    if !rows.iter().any(|(_, name)| options.wants(name)) {
+        return;
+    }
+    println!(
+        "How a step grows, on chains of n elements: first with N1 alone, then with N2, then with n, the others being 16, then with both \
+         models. The row is what the step takes beyond the check, the difference of the two medians.\n"
+    );
+    println!("| N1 | N2 | n | Step, proved, µs | Step, second, µs | Second / proved | Check, proved, µs | Row, proved, µs |");
+    println!("|---|---|---|---|---|---|---|---|");
+    for ((states1, states2, size), name) in rows {
+        if !options.wants(&name) {
+            continue;
+        }
+        let calls = Calls::new(Setting {
+            lattice: Lattice::Chain(size),
+            states1,
+            states2,
+            seed: SEED,
+        });
+        let (step, show) = (calls.step(options.repeat), calls.show(options.repeat));
+        println!(
+            "| {states1} | {states2} | {size} | {} | {} | {:.2} | {} | {} |",
+            micros(step.proved),
+            micros(step.second),
+            step.ratio(),
+            micros(show.proved),
+            micros(step.proved - show.proved)
+        );
+    }
+    println!();
+}
+
+// ---- figures
+
+/// Both medians, their ratio, the middle half of the ratios, and how many samples they are of.
+fn columns(times: &Times) -> String {
+    let (lower, upper) = times.middle_half();
+    format!(
+        "{} | {} | {:.2} | {lower:.2} to {upper:.2} | {}",
+        micros(times.proved),
+        micros(times.second),
+        times.ratio(),
+        times.samples
+    )
+}
+
+/// Nanoseconds as microseconds, with three figures or all before the point, these in groups of three.
+fn micros(nanos: f64) -> String {
+    let micros = nanos / 1000.0;
+    match micros.abs() {
+        size if size < 10.0 => format!("{micros:.2}"),
+        size if size < 100.0 => format!("{micros:.1}"),
+        _ => grouped(&format!("{micros:.0}")),
+    }
+}
+
+fn grouped(digits: &str) -> String {
+    let mut text = String::new();
+    for (place, digit) in digits.chars().enumerate() {
+        if place > 0 && (digits.len() - place).is_multiple_of(3) {
+            text.push(',');
+        }
+        text.push(digit);
+    }
+    text
+}
+
+fn per_cent(part: f64, whole: f64) -> String {
+    format!("{:.0} %", 100.0 * part / whole)
+}
+
+#[cfg(test)]
+mod tests {
+    use super::*;
+
+    #[test]
+    fn figures() {
+        assert_eq!(micros(1_234.0), "1.23");
+        assert_eq!(micros(12_340.0), "12.3");
+        assert_eq!(micros(123_400.0), "123");
+        assert_eq!(micros(1_234_000.0), "1,234");
+        assert_eq!(micros(1_234_567_890.0), "1,234,568");
+        assert_eq!(per_cent(1.0, 3.0), "33 %");
+    }
+}

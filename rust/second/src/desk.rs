@@ -1,0 +1,298 @@
+//! The eight calls on a desk: a standing, a store and two tables. Rests on `case`, `formula` and `rounds`.
+
+use crate::case::{self, Content, Refusal};
+use crate::formula::{Formula, Valuer};
+use crate::model::{Model, State};
+use crate::rounds::{self, Table};
+
+/// "a store of 24,576 bytes"; a longer one is accepted, and bytes past these are neither read nor written.
+pub const STORE_LENGTH: usize = 24_576;
+
+/// "two tables of 4,096"; longer ones are accepted.
+pub const TABLE_LENGTH: usize = 4_096;
+
+/// "a standing (sizes, round, next row, whether this round has changed anything yet, settled, which table is whole)".
+#[derive(Clone, Copy, Debug, Default, PartialEq, Eq)]
+pub struct Standing {
+    /// N1, the states of model 1.
+    pub states1: u8,
+    /// N2, the states of model 2.
+    pub states2: u8,
+    /// The round of the whole table.
+    pub round: u32,
+    /// The next row to work.
+    pub row: u8,
+    /// Whether the round being worked has changed anything yet.
+    pub changed: bool,
+    /// Whether the last round equalled the one before.
+    pub settled: bool,
+    /// Whether the second table is the whole one.
+    pub second_whole: bool,
+}
+
+/// The answer of a call.
+#[derive(Clone, Debug, PartialEq, Eq)]
+pub enum Reply {
+    /// The call was refused.
+    Refused {
+        /// The number, 1 to 13.
+        number: u8,
+        /// The part, or 255.
+        part: u8,
+    },
+    /// A desk was opened.
+    Opened,
+    /// A row was worked that is not the last of its round.
+    Row,
+    /// The last row of this round was worked, and the round differs from the one before.
+    Round(u32),
+    /// The desk is settled at this round.
+    Settled(u32),
+    /// The first N1·N2 bytes of the whole table; none where show is refused.
+    Shown(Vec<u8>),
+    /// An element.
+    Element(u8),
+    /// A share in per cent.
+    PerCent(u8),
+    /// Whether judge's table is a simulation.
+    Says(bool),
+}
+
+/// The reply to a call that may have been refused.
+fn reply(result: Result<Reply, Refusal>) -> Reply {
+    result.unwrap_or_else(|Refusal { number, part }| Reply::Refused { number, part })
+}
+
+/// "open takes a case, makes an unsettled desk at round 0 and next row 0, the first table whole, the first N1·N2 bytes of both tables
+/// top, and replaces the former desk. It answers Opened."
+pub fn open(
+    standing: &mut Standing,
+    case: &[u8],
+    store: &mut [u8],
+    first: &mut [u8],
+    second: &mut [u8],
+) -> Reply {
+    if let Err(refusal) = check_lengths(store, first, second) {
+        return reply(Err(refusal));
+    }
+    let (parts, content) = match case::read(case) {
+        Ok(read) => read,
+        Err(refusal) => return reply(Err(refusal)),
+    };
+    let kept = case::gapless(&parts);
+    store[..kept.len()].copy_from_slice(&kept);
+    let entries = rounds::entries(&content);
+    first[..entries].fill(content.lattice.top().byte());
+    second[..entries].fill(content.lattice.top().byte());
+    *standing = Standing {
+        states1: content.model1.size(),
+        states2: content.model2.size(),
+        ..Standing::default()
+    };
+    Reply::Opened
+}
+
+/// "step works row q1 of the next round, for all q2, in the table that is not whole, and writes nothing else in either table."
+/// "A settled desk answers Settled(T) again and is left unchanged."
+pub fn step(standing: &mut Standing, store: &[u8], first: &mut [u8], second: &mut [u8]) -> Reply {
+    let desk = match check(standing, store, first, second) {
+        Ok(desk) => desk,
+        Err(refusal) => return reply(Err(refusal)),
+    };
+    if standing.settled {
+        return Reply::Settled(standing.round);
+    }
+    let row = rounds::row(&desk.content, &desk.shown, desk.next);
+    let changed = standing.changed || row != desk.shown[desk.next.place()];
+    let other = if standing.second_whole { first } else { second };
+    let start = desk.next.place() * row.len();
+    for (byte, element) in other[start..].iter_mut().zip(row) {
+        *byte = element.byte();
+    }
+    move_on(standing, changed)
+}
+
+/// The standing after a row was worked, and the answer: "It answers Row; after the last row the new table becomes the whole one, the
+/// round goes up by 1, next row is 0, and the answer is Round(r), or Settled(T) when that round equals the one before".
+fn move_on(standing: &mut Standing, changed: bool) -> Reply {
+    let row = standing.row.saturating_add(1);
+    if row < standing.states1 {
+        standing.row = row;
+        standing.changed = changed;
+        return Reply::Row;
+    }
+    standing.row = 0;
+    standing.changed = false;
+    standing.second_whole = !standing.second_whole;
+    standing.round = standing.round.saturating_add(1);
+    standing.settled = !changed;
+    if changed {
+        Reply::Round(standing.round)
+    } else {
+        Reply::Settled(standing.round)
+    }
+}
+
+/// "show gives the first N1·N2 bytes of the whole table". "A refused show returns an empty part and no refusal number."
+pub fn show(standing: &Standing, store: &[u8], first: &[u8], second: &[u8]) -> Reply {
+    match check(standing, store, first, second) {
+        Ok(desk) => {
+            let entries = desk.shown.iter().flatten();
+            Reply::Shown(entries.map(|element| element.byte()).collect())
+        }
+        Err(_) => Reply::Shown(Vec::new()),
+    }
+}
+
+/// "value gives a formula's element at a state of model 1 or 2".
+pub fn value(
+    standing: &Standing,
+    store: &[u8],
+    first: &[u8],
+    second: &[u8],
+    formula: u8,
+    model: u8,
+    state: u8,
+) -> Reply {
+    reply(check(standing, store, first, second).and_then(|desk| {
+        let formula = desk.formula(formula)?;
+        let model = desk.model(model)?;
+        let state = model.state(state).ok_or(OUT_OF_RANGE)?;
+        let lattice = &desk.content.lattice;
+        let element = Valuer { lattice, model }.at(formula, state);
+        Ok(Reply::Element(element.byte()))
+    }))
+}
+
+/// "whole on a model": the value of a formula on the whole of model 1 or 2.
+pub fn whole(
+    standing: &Standing,
+    store: &[u8],
+    first: &[u8],
+    second: &[u8],
+    formula: u8,
+    model: u8,
+) -> Reply {
+    reply(check(standing, store, first, second).and_then(|desk| {
+        let formula = desk.formula(formula)?;
+        let model = desk.model(model)?;
+        let lattice = &desk.content.lattice;
+        let element = Valuer { lattice, model }.whole(formula);
+        Ok(Reply::Element(element.byte()))
+    }))
+}
+
+/// The score of the shown table.
+pub fn score(standing: &Standing, store: &[u8], first: &[u8], second: &[u8]) -> Reply {
+    reply(
+        check(standing, store, first, second)
+            .map(|desk| Reply::Element(rounds::score(&desk.content, &desk.shown).byte())),
+    )
+}
+
+/// The share of the shown entries at or above an element.
+pub fn share(standing: &Standing, store: &[u8], first: &[u8], second: &[u8], element: u8) -> Reply {
+    reply(check(standing, store, first, second).and_then(|desk| {
+        let element = desk.content.lattice.element(element).ok_or(OUT_OF_RANGE)?;
+        let share = rounds::share(&desk.content, &desk.shown, element);
+        Ok(Reply::PerCent(share))
+    }))
+}
+
+/// "judge takes a table of N1·N2 elements and says yes exactly when it is a simulation."
+pub fn judge(
+    standing: &Standing,
+    store: &[u8],
+    first: &[u8],
+    second: &[u8],
+    table: &[u8],
+) -> Reply {
+    reply(check(standing, store, first, second).and_then(|desk| {
+        let table = rounds::table(&desk.content, table).ok_or(OUT_OF_RANGE)?;
+        Ok(Reply::Says(rounds::is_simulation(&desk.content, &table)))
+    }))
+}
+
+/// "a formula, model, state or element in the call out of range, or judge's table of another length or with a byte not below n".
+const OUT_OF_RANGE: Refusal = Refusal {
+    number: 13,
+    part: 255,
+};
+
+/// A desk that breaks no rule: what its store says, the whole table, and the next row.
+struct Desk {
+    content: Content,
+    shown: Table,
+    next: State,
+}
+
+impl Desk {
+    /// The formula of a number, or refusal 13.
+    fn formula(&self, number: u8) -> Result<&Formula, Refusal> {
+        let formula = self.content.formulas.get(usize::from(number));
+        formula.ok_or(OUT_OF_RANGE)
+    }
+
+    /// Model 1 or 2, or refusal 13.
+    fn model(&self, number: u8) -> Result<&Model, Refusal> {
+        match number {
+            1 => Ok(&self.content.model1),
+            2 => Ok(&self.content.model2),
+            _ => Err(OUT_OF_RANGE),
+        }
+    }
+}
+
+/// Number 11: "the store or a table is shorter than above".
+fn check_lengths(store: &[u8], first: &[u8], second: &[u8]) -> Result<(), Refusal> {
+    if store.len() < STORE_LENGTH || first.len() < TABLE_LENGTH || second.len() < TABLE_LENGTH {
+        return Err(Refusal::general(11));
+    }
+    Ok(())
+}
+
+/// The desk, or number 11 or 12. "Number 12 is given when, and only when, one of these is broken."
+fn check(standing: &Standing, store: &[u8], first: &[u8], second: &[u8]) -> Result<Desk, Refusal> {
+    check_lengths(store, first, second)?;
+    intact(standing, store, first, second).ok_or(Refusal::general(12))
+}
+
+/// The desk of buffers that are long enough, where no rule of number 12 is broken.
+fn intact(standing: &Standing, store: &[u8], first: &[u8], second: &[u8]) -> Option<Desk> {
+    // "The store reads as a lattice, two models and formulas that open accepts, with the standing's sizes."
+    let (_, content) = case::read(&store[..STORE_LENGTH]).ok()?;
+    let sizes = (content.model1.size(), content.model2.size());
+    if (standing.states1, standing.states2) != sizes {
+        return None;
+    }
+    // "Next row is below N1".
+    let next = content.model1.state(standing.row)?;
+    if !counts_hold(standing, &content) {
+        return None;
+    }
+    // "The first N1·N2 bytes of both tables are below n."
+    let entries = rounds::entries(&content);
+    let first = rounds::table(&content, &first[..entries])?;
+    let second = rounds::table(&content, &second[..entries])?;
+    let shown = if standing.second_whole { second } else { first };
+    Some(Desk {
+        content,
+        shown,
+        next,
+    })
+}
+
+/// "at next row 0 nothing has changed yet. Unsettled, the round is at most N1·N2·(n − 1); settled, it is 1 to N1·N2·(n − 1) + 1 and next
+/// row is 0."
+fn counts_hold(standing: &Standing, content: &Content) -> bool {
+    let most = (rounds::entries(content) * (content.lattice.size() - 1)) as u64;
+    let round = u64::from(standing.round);
+    if standing.row == 0 && standing.changed {
+        return false;
+    }
+    if standing.settled {
+        (1..=most + 1).contains(&round) && standing.row == 0
+    } else {
+        round <= most
+    }
+}

@@ -1,0 +1,25 @@
+//! The latticed simulation desk of document 01 in plain Rust: a second implementation, written from the document's words and
+//! sharing nothing with the proved code, so that the two can be held against each other.
+//!
+//! It is simple rather than fast. Every call reads the store anew, meets and joins are found by search in the order, and
+//! fixpoints by iteration until nothing changes. No call panics, whatever its arguments hold.
+//!
+//! Modules: `lattice`, `model`, `formula` (the parts of a case and their values), `case` (directory, refusals 1 to 10, layout of
+//! the store), `rounds` (F and what is read off a table), `desk` (the eight calls), `report` (the listing).
+
+#![forbid(unsafe_code)]
+#![deny(missing_docs)]
+
+mod case;
+mod desk;
+mod formula;
+mod lattice;
+mod model;
+mod report;
+mod rounds;
+
+pub use desk::{
+    judge, open, score, share, show, step, value, whole, Reply, Standing, STORE_LENGTH,
+    TABLE_LENGTH,
+};
+pub use report::report;

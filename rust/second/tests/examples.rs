@@ -1,0 +1,269 @@
+//! Document 01's worked examples, by running the calls.
+
+mod common;
+
+use common::{case, chain, lattice, Desk, Numbers, L2, L3, LOOP, STILL};
+use second::{report, Reply, Standing};
+
+/// The bytes of the report example.
+const REPORT_EXAMPLE: [u8; 42] = [
+    4, 17, 0, 13, 0, 30, 0, 5, 0, 35, 0, 5, 0, 40, 0, 2, 0, // directory
+    3, 2, 1, 0, 1, 1, 1, 0, 1, 1, 0, 0, 1, // lattice
+    1, 1, 2, 1, 0, // model 1
+    1, 1, 2, 1, 0, // model 2
+    2, 0, // formula
+];
+
+fn refused(number: u8, part: u8) -> Reply {
+    Reply::Refused { number, part }
+}
+
+#[test]
+fn example_1_one_state_with_a_middle_proposition() {
+    let model: &[u8] = &[1, 1, 2, 1, 0];
+    let mut desk = Desk::opened(&[L3, model, model]);
+    assert_eq!(desk.show(), [2]);
+    assert_eq!(desk.step(), Reply::Round(1));
+    assert_eq!(desk.show(), [1]);
+    assert_eq!(desk.step(), Reply::Settled(2));
+    assert_eq!(desk.show(), [1]);
+    let settled = desk.clone();
+    assert_eq!(desk.step(), Reply::Settled(2));
+    assert_eq!(desk, settled);
+}
+
+#[test]
+fn example_2_a_loop_and_no_transition() {
+    let mut desk = Desk::opened(&[L2, LOOP, STILL]);
+    assert_eq!(desk.step(), Reply::Round(1));
+    assert_eq!(desk.step(), Reply::Settled(2));
+    assert_eq!(desk.show(), [0]);
+    let mut exchanged = Desk::opened(&[L2, STILL, LOOP]);
+    assert_eq!(exchanged.step(), Reply::Settled(1));
+    assert_eq!(exchanged.show(), [1]);
+}
+
+#[test]
+fn example_3_a_middle_loop() {
+    let desk = Desk::settled(&[L3, LOOP, STILL]);
+    assert_eq!(desk.show(), [1]);
+    assert_eq!(desk.standing.round, 2);
+}
+
+#[test]
+fn example_4_three_rounds() {
+    let model1: &[u8] = &[2, 1, 1, 0, 0, 1, 0, 1, 0, 0];
+    let model2: &[u8] = &[2, 1, 1, 0, 0, 0, 0, 1, 0, 0];
+    let mut desk = Desk::opened(&[L2, model1, model2, &[7, 3, 0]]);
+    assert_eq!(desk.step(), Reply::Row);
+    // The rows worked so far are not shown.
+    assert_eq!(desk.show(), [1, 1, 1, 1]);
+    let half = Standing {
+        states1: 2,
+        states2: 2,
+        row: 1,
+        changed: true,
+        ..Standing::default()
+    };
+    assert_eq!(desk.standing, half);
+    assert_eq!(desk.step(), Reply::Round(1));
+    assert_eq!(desk.show(), [1, 0, 0, 0]);
+    assert_eq!(desk.value(0, 2, 0), Reply::Element(1));
+    assert_eq!(desk.value(0, 1, 0), Reply::Element(0));
+    assert_eq!(desk.step(), Reply::Row);
+    assert_eq!(desk.step(), Reply::Round(2));
+    assert_eq!(desk.show(), [0, 0, 0, 0]);
+    assert_eq!(desk.step(), Reply::Row);
+    assert_eq!(desk.step(), Reply::Settled(3));
+    assert_eq!(desk.show(), [0, 0, 0, 0]);
+}
+
+#[test]
+fn example_5_subsets_of_three() {
+    // {a} is 1, {b} is 2, {c} is 4.
+    let subsets = lattice(8, |e| 7 - e, |i, j| i & j == i);
+    let model: &[u8] = &[3, 1, 7, 0, 0, 0, 2, 6, 0, 6, 6, 0, 0, 0, 0, 0, 0];
+    let desk = Desk::opened(&[&subsets, model, model, &[7, 2, 0], &[8, 2, 0]]);
+    assert_eq!(desk.value(0, 1, 0), Reply::Element(3));
+    assert_eq!(desk.value(1, 1, 0), Reply::Element(6));
+    assert_eq!(desk.whole(0, 2), Reply::Element(3));
+}
+
+#[test]
+fn example_6_one_element() {
+    let mut desk = Desk::opened(&[&[1, 0, 1], &[1, 0, 0, 0], &[1, 0, 0, 0]]);
+    assert_eq!(desk.step(), Reply::Settled(1));
+    assert_eq!(desk.show(), [0]);
+    assert_eq!(desk.share(0), Reply::PerCent(100));
+}
+
+#[test]
+fn example_6_shares_of_eight() {
+    let share = |alike: usize| {
+        // Model 1: one state with p; model 2: eight states, so many of them with p. No transitions.
+        let model1: &[u8] = &[1, 1, 1, 1, 0];
+        let mut model2 = vec![0; 2 + 8 + 8 + 64];
+        model2[..2].copy_from_slice(&[8, 1]);
+        model2[10..10 + alike].fill(1);
+        let desk = Desk::settled(&[L2, model1, &model2]);
+        assert_eq!(desk.share(0), Reply::PerCent(100));
+        desk.share(1)
+    };
+    assert_eq!(share(0), Reply::PerCent(0));
+    assert_eq!(share(1), Reply::PerCent(13));
+    assert_eq!(share(2), Reply::PerCent(25));
+    assert_eq!(share(3), Reply::PerCent(38));
+    assert_eq!(share(8), Reply::PerCent(100));
+}
+
+#[test]
+fn example_7_limits() {
+    let open = |parts: &[&[u8]]| Desk::any().open(&case(parts));
+    let diamond = lattice(5, |e| 4 - e, |i, j| i == j || i == 0 || j == 4);
+    assert_eq!(open(&[&diamond, STILL, STILL]), refused(7, 0));
+    assert_eq!(open(&[&chain(64), STILL, STILL]), Reply::Opened);
+    assert_eq!(open(&[&chain(65), STILL, STILL]), refused(4, 0));
+    let mut long = vec![7; 254];
+    long.push(1);
+    assert_eq!(open(&[L2, STILL, STILL, &long]), Reply::Opened);
+    long.insert(0, 7);
+    assert_eq!(open(&[L2, STILL, STILL, &long]), refused(10, 3));
+    assert_eq!(open(&[L2, STILL, STILL, &[9, 10, 9, 4, 2]]), Reply::Opened);
+    assert_eq!(
+        open(&[L2, STILL, STILL, &[9, 10, 9, 9, 4, 2]]),
+        refused(10, 3)
+    );
+    assert_eq!(open(&[L2, STILL, STILL]), Reply::Opened);
+    assert_eq!(open(&[L2, STILL]), refused(2, 255));
+}
+
+#[test]
+fn report_example() {
+    let text = "rounds 2\nrow 0: 1\nscore 1\nformula 0: 1 1\n";
+    assert_eq!(report(&REPORT_EXAMPLE), text);
+    assert_eq!(report(&[]), "refused 1 255\n");
+    assert_eq!(report(&[0; 32_769]), "refused 1 255\n");
+    assert_eq!(report(&REPORT_EXAMPLE[..41]), "refused 3 3\n");
+}
+
+#[test]
+fn report_of_several_states_and_formulas() {
+    let model1: &[u8] = &[2, 1, 1, 0, 0, 1, 0, 1, 0, 0];
+    let model2: &[u8] = &[2, 1, 1, 0, 0, 0, 0, 1, 0, 0];
+    let text = "rounds 3\nrow 0: 0 0\nrow 1: 0 0\nscore 0\nformula 0: 0 1\nformula 1: 1 1\n";
+    assert_eq!(
+        report(&case(&[L2, model1, model2, &[7, 3, 0], &[3, 0]])),
+        text
+    );
+}
+
+#[test]
+fn open_writes_the_gapless_case_and_the_two_tables_alone() {
+    let any = Desk::any();
+    let mut desk = any.clone();
+    // The report example with two bytes before part 0, one after part 1, and one at the end.
+    let spread: [&[u8]; 6] = [
+        &[
+            4, 19, 0, 13, 0, 32, 0, 5, 0, 38, 0, 5, 0, 43, 0, 2, 0, 77, 78,
+        ],
+        &REPORT_EXAMPLE[17..30],
+        &REPORT_EXAMPLE[30..35],
+        &[79],
+        &REPORT_EXAMPLE[35..42],
+        &[80],
+    ];
+    assert_eq!(desk.open(&spread.concat()), Reply::Opened);
+    assert_eq!(desk.store[..42], REPORT_EXAMPLE);
+    assert_eq!(desk.store[42..], any.store[42..]);
+    assert_eq!((desk.first[0], desk.second[0]), (2, 2));
+    assert_eq!(desk.first[1..], any.first[1..]);
+    assert_eq!(desk.second[1..], any.second[1..]);
+    let standing = Standing {
+        states1: 1,
+        states2: 1,
+        ..Standing::default()
+    };
+    assert_eq!(desk.standing, standing);
+}
+
+#[test]
+fn step_writes_one_row_of_the_table_that_is_not_whole() {
+    let model1: &[u8] = &[2, 1, 1, 0, 0, 1, 0, 1, 0, 0];
+    let model2: &[u8] = &[2, 1, 1, 0, 0, 0, 0, 1, 0, 0];
+    let mut desk = Desk::opened(&[L2, model1, model2]);
+    loop {
+        let before = desk.clone();
+        let row = 2 * usize::from(before.standing.row);
+        let answer = desk.step();
+        assert_eq!(desk.store, before.store);
+        let (kept, worked) = match before.standing.second_whole {
+            true => ((&desk.second, &before.second), (&desk.first, &before.first)),
+            false => ((&desk.first, &before.first), (&desk.second, &before.second)),
+        };
+        assert_eq!(kept.0, kept.1);
+        assert_eq!(worked.0[..row], worked.1[..row]);
+        assert_eq!(worked.0[row + 2..], worked.1[row + 2..]);
+        if answer == Reply::Settled(3) {
+            break;
+        }
+    }
+    assert!(desk.standing.second_whole);
+}
+
+#[test]
+fn a_round_with_an_early_change_does_not_settle_by_its_last_row() {
+    // State 0 of model 1 differs from model 2's state, state 1 does not.
+    let model1: &[u8] = &[2, 1, 1, 1, 1, 0, 0, 0, 0, 0];
+    let model2: &[u8] = &[1, 1, 1, 0, 0];
+    let mut desk = Desk::opened(&[L2, model1, model2]);
+    assert_eq!(desk.step(), Reply::Row);
+    assert!(desk.standing.changed);
+    assert_eq!(desk.step(), Reply::Round(1));
+    assert_eq!(desk.step(), Reply::Row);
+    assert!(!desk.standing.changed);
+    assert_eq!(desk.step(), Reply::Settled(2));
+    assert_eq!(desk.show(), [0, 1]);
+}
+
+/// The settled table is at or above every table that judge calls a simulation, and is one itself.
+#[test]
+fn the_settled_table_is_the_greatest_simulation() {
+    let mut numbers = Numbers(88_172_645_463_325_252);
+    let mut several = 0;
+    for _ in 0..60 {
+        let (model1, model2) = (numbers.model(2, 1, 3), numbers.model(2, 1, 3));
+        let desk = Desk::settled(&[L3, &model1, &model2]);
+        let shown = desk.show();
+        let mut simulations = 0;
+        for number in 0..81u8 {
+            let table = [number / 27, number / 9 % 3, number / 3 % 3, number % 3];
+            if desk.judge(&table) == Reply::Says(true) {
+                simulations += 1;
+                assert!(table.iter().zip(&shown).all(|(entry, most)| entry <= most));
+            }
+        }
+        assert_eq!(desk.judge(&shown), Reply::Says(true));
+        several += usize::from(simulations > 1);
+    }
+    assert!(several > 5);
+}
+
+/// Score of one start against two: the best start of model 2 counts, as far as it is a start.
+#[test]
+fn score_joins_over_the_starts_of_model_2() {
+    let model1: &[u8] = &[1, 1, 2, 2, 0];
+    let model2: &[u8] = &[2, 1, 1, 2, 2, 1, 0, 0, 0, 0];
+    let desk = Desk::settled(&[L3, model1, model2]);
+    assert_eq!(desk.show(), [2, 1]);
+    assert_eq!(desk.score(), Reply::Element(1));
+    let middle: &[u8] = &[1, 1, 1, 2, 0];
+    let apart: &[u8] = &[1, 1, 2, 0, 0];
+    assert_eq!(
+        Desk::settled(&[L3, middle, apart]).score(),
+        Reply::Element(1)
+    );
+    assert_eq!(
+        Desk::settled(&[L3, model1, apart]).score(),
+        Reply::Element(0)
+    );
+}
