@@ -34,6 +34,7 @@ function showTheme() {
     root.style.setProperty(`--h${h}`, `rgb(${colour.join(",")})`);
     root.style.setProperty(`--t${h}`, (light + 0.05) / 0.05 > 1.05 / (light + 0.05) ? "#000" : "#fff");
   }
+  showOverview();
   at("theme").textContent = theme === "dark" ? "Light colours" : "Dark colours";
 }
 
@@ -48,6 +49,7 @@ function startTheme() {
   at("theme").addEventListener("click", () => {
     chosenTheme = document.documentElement.dataset.theme === "dark" ? "light" : "dark";
     showTheme();
+    writeAddress();
   });
   showTheme();
 }

@@ -55,7 +55,11 @@ fn rounds(desk: &mut Desk) -> Vec<String> {
         while answer == StepAnswer::Row {
             answer = desk.step();
         }
-        let changes = desk.show().iter().enumerate().filter(|(i, e)| before[*i] != **e);
+        let changes = desk
+            .show()
+            .iter()
+            .enumerate()
+            .filter(|(i, e)| before[*i] != **e);
         let mut round = vec![usize::from(desk.score().0)];
         round.extend(changes.flat_map(|(i, e)| [i, usize::from(*e)]));
         rounds.push(numbers(round));
@@ -79,10 +83,7 @@ fn lattice(lattice: &Lattice, operations: &Operations) -> String {
         .map(|(a, b)| numbers([a, b]));
     object(&[
         ("names", strings((0..n).map(|a| lattice.name(a)))),
-        (
-            "complement",
-            numbers((0..n).map(|a| lattice.complement(a))),
-        ),
+        ("complement", numbers((0..n).map(|a| lattice.complement(a)))),
         ("height", numbers(heights(lattice))),
         ("covers", array(covering)),
         ("implies", numbers(implies)),
@@ -143,7 +144,10 @@ fn formula(case: &Case, desk: &Desk, f: usize, named: &NamedFormula) -> Result<S
         ("name", string(&named.name)),
         ("text", string(&text)),
         ("universal", named.formula.universal().to_string()),
-        ("fixpoints", (named.formula.nested_binders() > 0).to_string()),
+        (
+            "fixpoints",
+            (named.formula.nested_binders() > 0).to_string(),
+        ),
         ("nestedAx", named.formula.nested_ax().to_string()),
         ("whole", elements(whole)),
         ("values", array([values(1)?, values(2)?])),

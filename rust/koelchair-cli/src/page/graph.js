@@ -18,7 +18,7 @@ function stateLines(model, q) {
   const all = data.propositions
     .map((name, p) => [name, model.propositions[q * k + p]])
     .filter(([, value]) => value !== lattice.bottom)
-    .map(([name, value]) => (value === lattice.top ? short(name, 15) : `${short(name, 9)}: ${short(lattice.names[value], 9)}`));
+    .map(([name, value]) => (value === lattice.top ? short(name, 15) : `${short(name, 9)}: ${short(lattice.names[value], 14)}`));
   const shown = all.length > 4 ? [...all.slice(0, 3), `and ${all.length - 3} more`] : all;
   return [short(model.states[q], 14), ...shown];
 }
@@ -100,13 +100,14 @@ function candidate(drawing, from, to, text, bend, part) {
   for (const node of others) {
     if (points.some((p) => Math.hypot(p.x - node.x, p.y - node.y) < node.radius + 10)) cost += 1000;
   }
+  if (drawing.bends.get(`${to.q},${from.q}`) === -bend) cost += 1000;
   if (text) {
     for (const node of drawing.nodes) if (distance(node.x, node.y, label) < node.radius + 6) cost += 400;
     for (const other of drawing.labels) if (overlap(label, other)) cost += 600;
     for (const other of drawing.curves) if (other.some((p) => distance(p.x, p.y, label) < 5)) cost += 60;
   }
   for (const other of drawing.labels) if (points.some((p) => distance(p.x, p.y, other) < 5)) cost += 60;
-  return { curve, points, label, cost };
+  return { curve, points, label, bend, cost };
 }
 
 function arrow(drawing, from, to, text) {
@@ -120,6 +121,7 @@ function arrow(drawing, from, to, text) {
   const end = fine.findLast((t) => outside(to, 11)(onCurve(best.curve, t))) ?? 1;
   const [a, c, b] = piece(best.curve, start, Math.max(start, end));
   drawing.curves.push(best.points);
+  drawing.bends.set(`${from.q},${to.q}`, best.bend);
   if (text) drawing.labels.push(best.label);
   return { path: `M${a.x} ${a.y} Q${c.x} ${c.y} ${b.x} ${b.y}` };
 }
@@ -128,7 +130,8 @@ function arrow(drawing, from, to, text) {
 function beyond(node, reach, angle, text) {
   const width = textWidth(text) + 14;
   const [c, s] = [Math.cos(angle), Math.sin(angle)];
-  return rectangle(text, node.x + c * (reach + width / 2), node.y + s * (reach + 14));
+  const side = (part) => Math.max(-1, Math.min(1, 1.8 * part));
+  return rectangle(text, node.x + c * reach + (side(c) * width) / 2, node.y + s * reach + side(s) * 14);
 }
 
 // A transition from a state to itself: a loop away from the ring.
@@ -150,9 +153,10 @@ function initial(drawing, node, text, angle) {
 
 // All of a drawing: states, values at their places, paths.
 function layOut(model, values) {
-  const drawing = { nodes: circles(model), labels: [], curves: [], paths: [], elements: [] };
+  const drawing = { nodes: circles(model), labels: [], curves: [], bends: new Map(), paths: [], elements: [] };
   const widest = Math.max(40, ...model.transitions.map(([, , value]) => textWidth(values(value)) + 14));
-  place(drawing.nodes, 2 * drawing.nodes[0].radius + Math.min(widest, 190) + 56);
+  const gap = model.states.length > 6 ? 56 : Math.min(widest, 190) + 44;
+  place(drawing.nodes, 2 * drawing.nodes[0].radius + gap);
   const put = (made, element) => {
     drawing.paths.push(made.path);
     while (drawing.elements.length < drawing.labels.length) drawing.elements.push(element);
@@ -182,12 +186,12 @@ function extent({ nodes, labels, curves }) {
   return [left - 12, top - 12, right - left + 24, bottom - top + 24];
 }
 
-// A drawing in its own size, 18 units being the size of the page's text; a little smaller where there is less room.
+// A drawing in which 18 units are the size of the page's text; where there is less room, down to 18 pixels, then it scrolls.
 function sized(svg, box) {
   svg.setAttribute("viewBox", box.join(" "));
   svg.style.width = `${box[2] / 18}rem`;
   svg.style.maxWidth = "100%";
-  svg.style.minWidth = `${box[2] / 18 / 1.15}rem`;
+  svg.style.minWidth = `${box[2]}px`;
   return svg;
 }
 
@@ -250,9 +254,15 @@ function modelTable(m) {
   return scrolling(`states of ${modelName(m)}`, tableOf("", [head, ...model.states.map(line)]));
 }
 
+// Both models side by side if both drawings then have room, else one below the other.
+function fitModels() {
+  const widths = [...document.querySelectorAll("#models svg")].map((svg) => parseFloat(svg.style.minWidth));
+  const tables = data.models.some((model) => model.states.length > MOST_STATES);
+  const room = at("models").clientWidth / 2 - 16;
+  at("models").classList.toggle("wide", tables || Math.max(...widths) > room);
+}
+
 function showModels() {
-  const most = Math.max(...data.models.map((model) => model.states.length));
-  at("models").classList.toggle("wide", most > 6);
   data.models.forEach((model, m) => {
     const heading = make("h3", {}, capital(modelName(m)));
     const drawn = model.states.length <= MOST_STATES;
@@ -261,7 +271,9 @@ function showModels() {
       : [make("p", {}, `${model.states.length} states: too many to draw, so they stand in a table.`), modelTable(m)];
     at("models").append(make("section", {}, heading, ...parts));
   });
+  fitModels();
+  window.addEventListener("resize", fitModels);
   const left = `Left out are transitions, initial values and propositions that are ${lattice.names[lattice.bottom]}. `;
   const bare = data.propositions.length > 0 ? `A proposition without a value is ${lattice.names[lattice.top]}.` : "";
-  at("models").after(make("p", { class: "note" }, left, bare));
+  at("models").after(make("p", { class: "note" }, left, bare, " The states of the chosen pair have a thick ring."));
 }

@@ -129,7 +129,7 @@ function showLattice() {
   const words = make("p", { id: "element" }, "Point at an element, or go to it with Tab and the arrow keys, to see its complement.");
   const wide = svg.viewBox.baseVal.width > 700;
   at("lattice").classList.toggle("wide", wide);
-  const box = make("div", { class: "drawing", "data-hasse": "" }, svg);
+  const box = make("div", { class: `drawing${highest > 14 ? " tall" : ""}`, "data-hasse": "" }, svg);
   const table = scrolling("complements", tableOf("", [["Element", "Complement"], ...complements]));
   at("lattice").append(
     make("div", {}, words, box),

@@ -26,12 +26,12 @@ function atMost(a, b) {
 
 // Whether the shown round covers a formula, and why, in words.
 function covered(formula) {
-  if (!formula.universal) return [false, "never covered: it has EX"];
-  if (shownRound === T) return [true, "covered: settled, and it has no EX"];
-  if (formula.fixpoints) return [false, "not covered yet: it has a fixpoint, so only once settled"];
+  if (!formula.universal) return [false, "never: has EX"];
+  if (shownRound === T) return [true, "covered: settled, no EX"];
+  if (formula.fixpoints) return [false, "not yet: has a fixpoint, only once settled"];
   const nested = `${formula.nestedAx} nested AX`;
   if (formula.nestedAx < shownRound) return [true, `covered: ${nested}, fewer than ${shownRound}`];
-  return [false, `not covered yet: ${nested}, so from round ${formula.nestedAx + 1} on`];
+  return [false, `not yet: ${nested}, from round ${formula.nestedAx + 1} on`];
 }
 
 // A formula's line: values in model 2 and in model 1, the bound, whether the entry keeps it, whether it must.
@@ -47,7 +47,7 @@ function pairLine(formula, f, entry) {
     chip(value2),
     chip(value1),
     chip(bound),
-    below ? "yes, at or below" : "no, not at or below",
+    below ? "at or below" : "not at or below",
     make("span", { class: isCovered ? "covered" : "" }, why),
   ];
   return { line, f, bound, below, isCovered };
@@ -60,15 +60,18 @@ function showPair() {
   const entry = entries[q1 * columns.length + q2];
   const standing = shownRound === T ? `settled at round ${T}` : `round ${shownRound} of ${T}, not a result`;
   const lines = data.formulas.map((formula, f) => pairLine(formula, f, entry));
-  const head = ["Formula", `In model 2, at ${state2}`, `In model 1, at ${state1}`, "Bound", "Entry at or below it?", "Covered by this round?"];
+  const head = ["Formula", `Model 2, at ${state2}`, `Model 1, at ${state1}`, "Bound", "The entry is", "Covered by this round?"];
   const table = tableOf("", [head, ...lines.map((l) => l.line)]);
   table.querySelectorAll("tbody tr").forEach((row, i) => {
     Object.assign(row.dataset, { bound: lattice.names[lines[i].bound], below: lines[i].below, covered: lines[i].isCovered });
   });
   at("pair").replaceChildren(
     make("h3", { id: "pair-heading" }, `Pair (${state1}, ${state2})`),
-    make("p", { id: "pair-entry", "data-entry": lattice.names[entry] }, "Entry: ", chip(entry), ` (${standing})`),
-    make("p", {}, `It says how far ${state2} of model 2 can follow ${state1} of model 1.`),
+    make(
+      "p",
+      { id: "pair-entry", "data-entry": lattice.names[entry] },
+      "Entry: ", chip(entry), ` (${standing}), how far ${state2} of model 2 can follow ${state1} of model 1.`,
+    ),
     ...(lines.length === 0 ? [make("p", {}, "The case has no formulas.")] : [
       make("p", {}, "Bound: not the value in model 2, joined with the value in model 1."),
       scrolling("formulas at the chosen pair", table),

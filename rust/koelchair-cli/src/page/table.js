@@ -30,6 +30,7 @@ function buildTable() {
   });
   at("table").append(make("caption", { id: "table-caption" }), make("thead", {}, head), make("tbody", {}, ...body));
   at("split").classList.toggle("wide", columns.length * longestName() > 40);
+  if (columns.length * longestName() > 90 || rows.length > 12) startOverview();
   cells[0].setAttribute("tabindex", "0");
   roving(at("table"), ".cell", nextCell);
   cells.forEach((_, place) => showCell(place));
@@ -66,6 +67,34 @@ function showCell(place) {
   button.setAttribute("aria-label", `${pair}: ${lattice.names[element]}${lower ? ", lower than before" : ""}`);
 }
 
+// The whole of a large table at once, a point for each entry; a click chooses the pair.
+function startOverview() {
+  const canvas = at("overview").querySelector("canvas");
+  at("overview").hidden = false;
+  [canvas.width, canvas.height] = [columns.length, rows.length];
+  canvas.addEventListener("click", (event) => {
+    const box = canvas.getBoundingClientRect();
+    const part = (place, from, length, number) => Math.max(0, Math.min(number - 1, Math.floor(((place - from) / length) * number)));
+    const q1 = part(event.clientY, box.top, box.height, rows.length);
+    const q2 = part(event.clientX, box.left, box.width, columns.length);
+    choose(q1, q2);
+    cells[q1 * columns.length + q2].scrollIntoView({ block: "nearest", inline: "nearest" });
+  });
+}
+
+function showOverview() {
+  if (at("overview").hidden) return;
+  const canvas = at("overview").querySelector("canvas");
+  const context = canvas.getContext("2d");
+  const style = getComputedStyle(document.documentElement);
+  const colours = Array.from({ length: highest + 1 }, (_, h) => style.getPropertyValue(`--h${h}`));
+  entries.forEach((element, place) => {
+    context.fillStyle = colours[lattice.height[element]];
+    context.fillRect(place % columns.length, Math.floor(place / columns.length), 1, 1);
+  });
+  canvas.dataset.settled = shownRound === T;
+}
+
 // The places that the shown round lowered.
 let lowered = new Set();
 
@@ -88,6 +117,7 @@ function goTo(round) {
   lowered.forEach((place) => touched.add(place));
   touched.forEach(showCell);
   showStanding();
+  showOverview();
   showPair();
   writeAddress();
 }
