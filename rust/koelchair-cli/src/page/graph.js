@@ -35,7 +35,7 @@ function radiusOf(lines) {
 function place(nodes, apart) {
   const n = nodes.length;
   if (n === 1) return Object.assign(nodes[0], { x: 0, y: 0, out: -Math.PI / 2 });
-  const flat = n > 6 ? 0.55 : 1;
+  const flat = n > 6 ? 0.68 : 1;
   const steps = 3600;
   const point = (i) => {
     const angle = Math.PI + (2 * Math.PI * i) / steps;
@@ -155,7 +155,7 @@ function initial(drawing, node, text, angle) {
 function layOut(model, values) {
   const drawing = { nodes: circles(model), labels: [], curves: [], bends: new Map(), paths: [], elements: [] };
   const widest = Math.max(40, ...model.transitions.map(([, , value]) => textWidth(values(value)) + 14));
-  const gap = model.states.length > 6 ? 56 : Math.min(widest, 190) + 44;
+  const gap = model.states.length > 6 ? 48 : Math.min(widest, 190) + 44;
   place(drawing.nodes, 2 * drawing.nodes[0].radius + gap);
   const put = (made, element) => {
     drawing.paths.push(made.path);
