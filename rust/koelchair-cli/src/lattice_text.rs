@@ -423,7 +423,7 @@ pub fn partial_order(lattice: &Lattice) -> bool {
 }
 
 /// Whether b is above a with nothing between.
-fn covers(lattice: &Lattice, a: usize, b: usize) -> bool {
+pub fn covers(lattice: &Lattice, a: usize, b: usize) -> bool {
     let below = |x: usize, y: usize| x != y && lattice.at_most(x, y);
     below(a, b) && !(0..lattice.size()).any(|c| below(a, c) && below(c, b))
 }

@@ -46,7 +46,8 @@ const COMMANDS: [(&str, &str, &str); 7] = [
     (
         "page",
         "koelchair page [--bytes] FILE",
-        "Writes a page of HTML to standard output, to be shown to a class.",
+        "Writes a page of HTML to standard output, to be shown to a class. It needs no network. Its address can say what is shown,\n\
+         as in page.html#round=2&pair=STATE1,STATE2&theme=dark.",
     ),
 ];
 
