@@ -229,7 +229,8 @@ function graph(m) {
     ...drawing.labels.map((label, i) => valueLabel(label, drawing.elements[i])),
   );
   const note = dense ? `An arrow without a value is ${lattice.names[lattice.top]}.` : "";
-  return [make("div", { class: "drawing", "data-graph": m + 1 }, sized(svg, extent(drawing))), ...(note ? [make("p", {}, note)] : [])];
+  const box = { class: "drawing", "data-graph": m + 1, tabindex: "0", role: "region", "aria-label": `Drawing of ${modelName(m)}` };
+  return [make("div", box, sized(svg, extent(drawing))), ...(note ? [make("p", {}, note)] : [])];
 }
 
 // States, initial values, propositions and transitions as a table; equal values stand together.
