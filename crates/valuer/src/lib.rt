@@ -617,11 +617,16 @@ fn from_initial(t: &[u8; 12352], l: Lattice, m: &[u8], x: &[u8; 64]) -> Element
     gathered(t, true, l.top, m, 2, x, model::states(m))
 }
 
-// The value of a formula part on the whole model.
+// The value of a formula part on the whole model. `values_by_codes` is called here too: called from one place only, it would be compiled into
+// it, and each valuation by the tables would have its 64 KiB in the frame.
 pub fn whole(t: &[u8; 12352], l: Lattice, m: &[u8], f: &[u8]) -> Element
     requires { ⌜ ModelShape (now m) × Reads (now m) (now f) ⌝ }
     ensures { λ r. ⌜ WholeValue (now (t .entry)) l (now (m .entry)) (now (f .entry)) (r .0) ⌝ }
 {
-    let x = values(t, l, m, f);
-    from_initial(t, l, m, &x)
+    if worth(l, m, f) {
+        let x = values_by_codes(t, l, m, f);
+        return from_initial(t, l, m, &x);
+    }
+    let y = values_by_tables(t, l, m, f);
+    from_initial(t, l, m, &y)
 }
