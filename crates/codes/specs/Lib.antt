@@ -1,0 +1,4 @@
+-- Definitions of `codes`.
+pub mod Coded
+-- ---- theorems
+pub mod Laws
