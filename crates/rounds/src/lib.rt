@@ -584,10 +584,14 @@ fn large_simulation(t: &[u8; 12352], l: Lattice, m1: &[u8], m2: &[u8], s: &[u8])
     simulation_by_tables(t, l, m1, m2, s)
 }
 
-// Whether so many steps by the tables take longer than finding codes: n·n steps, and what clearing and filling their tables takes.
-fn worth(steps: usize, l: Lattice) -> bool {
+// Whether so many rows take longer by the tables than to find codes, in n·n steps, and to clear and fill their tables.
+fn worth(l: Lattice, m1: &[u8], m2: &[u8], rows: usize) -> bool
+    requires { ⌜ ModelShape (now m1) × ModelShape (now m2) × (rows ≤ 64) ⌝ }
+{
     let n = operations::index(l.size);
-    n * n + 2000 < steps
+    let n1 = model::states(m1);
+    let n2 = model::states(m2);
+    n * n + 2000 < rows * (n1 * (n2 * n2))
 }
 
 // Works row q1 of F of the table s into the same row of out; says whether any entry differs from that of s.
@@ -604,9 +608,7 @@ pub fn row(
     ensures { λ r. ⌜ (now (out .exit) ≡ rowWritten (modelOf (now (m1 .entry))) (modelOf (now (m2 .entry))) (F (opsIn (now (t .entry)) l) (modelOf (now (m1 .entry))) (modelOf (now (m2 .entry)))) (tableOf (now (s .entry)) (getD (now (m2 .entry)) 0 0)) (q1 .0) (now (out .entry)))
         × (r ≡ rowChanged (modelOf (now (m1 .entry))) (modelOf (now (m2 .entry))) (F (opsIn (now (t .entry)) l) (modelOf (now (m1 .entry))) (modelOf (now (m2 .entry)))) (tableOf (now (s .entry)) (getD (now (m2 .entry)) 0 0)) (q1 .0)) ⌝ }
 {
-    let n1 = model::states(m1);
-    let n2 = model::states(m2);
-    if worth(n1 * n2 * n2, l) {
+    if worth(l, m1, m2, 1) {
         return large_row(t, l, m1, m2, s, out, q1);
     }
     row_by_tables(t, l, m1, m2, s, out, q1)
@@ -625,9 +627,7 @@ pub fn round(
     requires { ⌜ Shaped (now m1) (now m2) (now whole) × (getD (now m1) 0 0 * getD (now m2) 0 0 ≤ length (now other)) ⌝ }
     ensures { λ r. ⌜ RoundSoFar (modelOf (now (m1 .entry))) (modelOf (now (m2 .entry))) (F (opsIn (now (t .entry)) l) (modelOf (now (m1 .entry))) (modelOf (now (m2 .entry)))) (tableOf (now (whole .entry)) (getD (now (m2 .entry)) 0 0)) (now (other .entry)) (getD (now (m1 .entry)) 0 0) (now (other .exit)) r ⌝ }
 {
-    let n1 = model::states(m1);
-    let n2 = model::states(m2);
-    if worth(n1 * n1 * n2 * n2, l) {
+    if worth(l, m1, m2, model::states(m1)) {
         return large_round(t, l, m1, m2, whole, other);
     }
     round_by_tables(t, l, m1, m2, whole, other)
@@ -638,9 +638,7 @@ pub fn is_simulation(t: &[u8; 12352], l: Lattice, m1: &[u8], m2: &[u8], s: &[u8]
     requires { ⌜ Shaped (now m1) (now m2) (now s) ⌝ }
     ensures { λ r. ⌜ r ≡ simulationTest (modelOf (now (m1 .entry))) (modelOf (now (m2 .entry))) (F (opsIn (now (t .entry)) l) (modelOf (now (m1 .entry))) (modelOf (now (m2 .entry)))) (tableOf (now (s .entry)) (getD (now (m2 .entry)) 0 0)) ⌝ }
 {
-    let n1 = model::states(m1);
-    let n2 = model::states(m2);
-    if worth(n1 * n1 * n2 * n2, l) {
+    if worth(l, m1, m2, model::states(m1)) {
         return large_simulation(t, l, m1, m2, s);
     }
     simulation_by_tables(t, l, m1, m2, s)

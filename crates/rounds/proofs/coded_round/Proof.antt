@@ -1,56 +1,57 @@
+-- `rounds::coded_round` meets its contract: the rows below q1 are worked. Assumes nothing.
+use Prim.Native.Nat.{_≤_, _-_}
+use native.Mathlib.Omega.{arith}
+use lib.ListN.{getD}
+use Rattle.theory.specs.Part.{modelOf}
+use Rattle.operations.specs.Table.{opsIn}
+use Rattle.rounds.specs.Table.{tableOf}
+use Rattle.theory.specs.Simulation.{F}
+use Rattle.rounds.specs.Round.{RoundSoFar, round-none, round-more, round-reached}
+use borrow.Author.Needs.{needs}
 use Rattle.rounds.proofs.coded_round.Statement.{statement}
 use Rattle.rounds.proofs.coded_round.Tie as tie
-use Rattle.rounds.proofs.coded_round.Reads as reads
-use Rattle.rounds.proofs.coded_round.Lts as lts
-use Rattle.model.proofs.states.Reads as states-reads
-use Rattle.rounds.proofs.coded_row.Reads as coded-row-reads
-use Rattle.rounds.proofs.either.Reads as either-reads
 
 abbrev Inv-loop : tie.InvT-loop
-Inv-loop t l m1 m2 s codes negated joins out₀ n1 changed₀ q1₀ out changed q1 = ?
+Inv-loop t l m1 m2 s codes negated joins out₀ n1 changed₀ q1₀ out changed q1 =
+    (q1 ≤ n1) × RoundSoFar (modelOf m1) (modelOf m2) (F (opsIn t l) (modelOf m1) (modelOf m2)) (tableOf s (getD m2 0 0)) out₀ q1 out changed
 
 abbrev μ-loop : tie.MeasureT-loop
-μ-loop t l m1 m2 s codes negated joins out₀ n1 changed₀ q1₀ out changed q1 = ?
+μ-loop t l m1 m2 s codes negated joins out₀ n1 changed₀ q1₀ out changed q1 = n1 - q1
 
--- src/lib.rt:520:9
 states-requires : tie.Need-states-requires Inv-loop μ-loop
-states-requires c κs = ?
+states-requires c κs = search needs
 
--- src/lib.rt:522:5
 loop-holds : tie.Need-loop-holds Inv-loop μ-loop
-loop-holds c = ?
+loop-holds c = (omega arith, round-none)
 
--- src/lib.rt:523:78
 cast-t17 : tie.Need-cast-t17 Inv-loop μ-loop
-cast-t17 c = ?
+cast-t17 c = search needs
 
--- src/lib.rt:523:13
 coded-row-requires : tie.Need-coded-row-requires Inv-loop μ-loop
-coded-row-requires c κs = ?
+coded-row-requires c κs = search needs
 
--- src/lib.rt:524:9
 either-requires : tie.Need-either-requires Inv-loop μ-loop
-either-requires c κs = ?
+either-requires c κs = search needs
 
--- src/lib.rt:522:9
 add-q1 : tie.Need-add-q1 Inv-loop μ-loop
-add-q1 c = ?
+add-q1 c = search needs
 
--- src/lib.rt:522:5
 loop-less : tie.Need-loop-less Inv-loop μ-loop
-loop-less c = ?
+loop-less c = search needs
 
--- src/lib.rt:522:5
 loop-again : tie.Need-loop-again Inv-loop μ-loop
-loop-again c = ?
+loop-again c =
+    let i = c .before .before .before .before .before .before .loop .inv in
+    let b = c .before .before .before .before .before .before .before .before .before .before .before .before in (
+      omega arith,
+      round-more (i .1) (omega arith) (b .pre .2) (c .before .before .before .coded-row .ensures .0) (c .before .before .before .coded-row .ensures .1) (c .either .ensures),
+    )
 
--- src/lib.rt:506:1
 same-length : tie.Need-same-length Inv-loop μ-loop
-same-length c = ?
+same-length c = c .before .loop .inv .1 .worked .same-length
 
--- src/lib.rt:506:1
 returns : tie.Need-returns Inv-loop μ-loop
-returns c = ?
+returns c = let i = c .before .loop .inv in round-reached (i .1) (omega arith) (omega arith)
 
 pub coded-round-spec : {M : Type 1} → statement M
 coded-round-spec =

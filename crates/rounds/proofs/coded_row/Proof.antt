@@ -7,7 +7,7 @@ use Rattle.theory.specs.Simulation.{F}
 use Rattle.operations.specs.Table.{opsIn}
 use Rattle.rounds.specs.Codes.{RowWords, row-words}
 use Rattle.rounds.specs.Table.{tableOf, rowSame}
-use Rattle.rounds.specs.Row.{RowAt, row-at, row-entry, RowSoFar, row-none, row-more, row-all, row-written}
+use Rattle.rounds.specs.Row.{few-entries, RowAt, row-at, row-entry, RowSoFar, row-none, row-more, row-all, row-written}
 use borrow.Author.Needs.{needs}
 use native.Mathlib.Omega.{arith}
 use Rattle.rounds.proofs.coded_row.Statement.{statement}
@@ -70,7 +70,7 @@ coded-entry-requires : tie.Need-coded-entry-requires Inv-loop μ-loop
 coded-entry-requires c κs = (c .before .before .before .before .before .before .before .before .before .before .before .before .before .before .pre .0, c .before .before .before .before .before .before .before .before .before .before .before .before .before .before .pre .1, c .before .before .loop .inv .3, c .before .before .before .before .before .before .before .before .before .before .before .before .before .before .pre .3, search needs)
 
 add-changed-or : tie.Need-add-changed-or Inv-loop μ-loop
-add-changed-or c = search needs
+add-changed-or c = omega (arith, c .before .before .before .loop .inv .0, few-entries (c .before .before .before .before .before .before .before .before .before .before .before .before .before .before .before .pre .0))
 
 shared-slice-read-changed-or : tie.Need-shared-slice-read-changed-or Inv-loop μ-loop
 shared-slice-read-changed-or c = search needs
@@ -79,7 +79,7 @@ changed-or-requires : tie.Need-changed-or-requires Inv-loop μ-loop
 changed-or-requires c κs = search needs
 
 add-out : tie.Need-add-out Inv-loop μ-loop
-add-out c = search needs
+add-out c = omega (arith, c .before .before .before .before .before .loop .inv .0, few-entries (c .before .before .before .before .before .before .before .before .before .before .before .before .before .before .before .before .before .pre .0))
 
 slice-write-out : tie.Need-slice-write-out Inv-loop μ-loop
 slice-write-out c = search needs
