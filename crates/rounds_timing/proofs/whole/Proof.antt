@@ -1,12 +1,12 @@
--- `rounds_timing::work` meets its contract: a row at a time. Assumes nothing.
+-- `rounds_timing::whole` meets its contract: a round at a time. Assumes nothing.
 use mathlib.Core.Path.{_≡_, refl, _∙_}
 use Prim.Native.Nat.{_≤_, _-_}
 use native.Mathlib.Omega.{arith}
 use lib.ListN.{length}
 use borrow.Author.Needs.{needs}
 use Rattle.rounds_timing.specs.Full.{full-shaped, full-held}
-use Rattle.rounds_timing.proofs.work.Statement.{statement}
-use Rattle.rounds_timing.proofs.work.Tie as tie
+use Rattle.rounds_timing.proofs.whole.Statement.{statement}
+use Rattle.rounds_timing.proofs.whole.Tie as tie
 
 abbrev Inv-loop : tie.InvT-loop
 Inv-loop t l m1 m2 s out₀ i₀ out i = (i ≤ 640) × (length out ≡ length out₀)
@@ -17,22 +17,20 @@ abbrev μ-loop : tie.MeasureT-loop
 loop-holds : tie.Need-loop-holds Inv-loop μ-loop
 loop-holds c = (omega arith, refl)
 
-cast-t12 : tie.Need-cast-t12 Inv-loop μ-loop
-cast-t12 c = search needs
 
-row-requires : tie.Need-row-requires Inv-loop μ-loop
-row-requires c κs =
+round-requires : tie.Need-round-requires Inv-loop μ-loop
+round-requires c κs =
     let p = c .before .before .before .before .before .before .before .pre in
-    (full-shaped _ _ _ (p .0) (p .1) (p .2), full-held _ _ (c .before .before .loop .out) (p .0) (p .1) (c .before .before .loop .inv .1 ∙ p .3), omega arith)
+    (full-shaped _ _ _ (p .0) (p .1) (p .2), full-held _ _ (c .before .before .loop .out) (p .0) (p .1) (c .before .before .loop .inv .1 ∙ p .3))
 
-add-i : tie.Need-add-i Inv-loop μ-loop
-add-i c = search needs
+add-counter : tie.Need-add-counter Inv-loop μ-loop
+add-counter c = search needs
 
 loop-less : tie.Need-loop-less Inv-loop μ-loop
 loop-less c = search needs
 
 loop-again : tie.Need-loop-again Inv-loop μ-loop
-loop-again c = (omega arith, c .before .before .row .kept .1 .1 .1 .1 .1 .0 ∙ c .before .before .before .before .before .loop .inv .1)
+loop-again c = (omega arith, search needs)
 
 same-length : tie.Need-same-length Inv-loop μ-loop
 same-length c = c .before .loop .inv .1
@@ -40,16 +38,15 @@ same-length c = c .before .loop .inv .1
 returns : tie.Need-returns Inv-loop μ-loop
 returns c = search needs
 
-pub work-spec : {M : Type 1} → statement M
-work-spec =
+pub whole-spec : {M : Type 1} → statement M
+whole-spec =
     tie.close
     (tie.spec
     Inv-loop
     μ-loop
     loop-holds
-    cast-t12
-    row-requires
-    add-i
+    round-requires
+    add-counter
     loop-less
     loop-again
     same-length
