@@ -191,12 +191,16 @@ abbrev pub innerWord : ℕ → List ℕ → List ℕ → List ℕ → ℕ → �
 innerWord bottom codes m₂ table q₂ q₁ =
     fold bitOr bottom (λ i. bitAnd (wordOf codes (modelOf m₂ .transition q₂ i)) (getD table (q₁ * 64 + i) 0)) (getD m₂ 0 0)
 
+-- the join over the states r of model 2 of R2(q₂, r) met with S(q₁, r)
+abbrev pub innerJoin : List ℕ → Lattice → List ℕ → (ℕ → ℕ → ℕ) → ℕ → ℕ → ℕ
+innerJoin t l m₂ S q₂ q₁ = bigJoin (opsIn t l) (getD m₂ 0 0) (λ r. meetIn t (modelOf m₂ .transition q₂ r) (S q₁ r))
+
 -- what is ready when a row or a round is worked by codes
 pub record Prepared (t : List ℕ) (l : Lattice) (m₁ m₂ s codes negated joins : List ℕ) : Type 0 where
   pub coded : Coded t l codes
   pub elements : Elements t l m₁ m₂ s
   pub complements : (a : ℕ) → a < l .size → Means l codes (wordOf negated a) (complementIn t a)
-  pub inner : (q₂ q₁ : ℕ) → q₂ < getD m₂ 0 0 → q₁ < getD m₁ 0 0 → Means l codes (getD joins (q₂ * 64 + q₁) 0) (bigJoin (opsIn t l) (getD m₂ 0 0) (λ r. meetIn t (modelOf m₂ .transition q₂ r) (tableOf s (getD m₂ 0 0) q₁ r)))
+  pub inner : (q₂ q₁ : ℕ) → q₂ < getD m₂ 0 0 → q₁ < getD m₁ 0 0 → Means l codes (getD joins (q₂ * 64 + q₁) 0) (innerJoin t l m₂ (tableOf s (getD m₂ 0 0)) q₂ q₁)
 
 -- the words, by the table `codes` of words, of the transitions of m that leave q
 pub record RowWords (codes m : List ℕ) (q : ℕ) (row : List ℕ) : Type 0 where
@@ -236,7 +240,7 @@ module _ {t : List ℕ} {l : Lattice} {m₁ m₂ s codes : List ℕ} (h : Shaped
       let there : getD negated a 0 ≡ wordOf codes (getD t (12288 + a) 0) = ap (λ (j : ℕ). getD negated j 0) (sym z) ∙ written-rule (λ i. wordOf codes (getD t (12288 + i) 0)) 0 n before f (omega arith) a (omega arith) in
       rw (low, there) (means-word k (getD t (12288 + a) 0) (e .complements a m))
 
-  inner-mean : {table joins : List ℕ} → Rows (λ q r. wordOf codes (tableOf s (getD m₂ 0 0) q r)) (getD m₁ 0 0) (getD m₂ 0 0) table → Rows (innerWord (wordOf codes (l .bottom .0)) codes m₂ table) (getD m₂ 0 0) (getD m₁ 0 0) joins → (q₂ q₁ : ℕ) → q₂ < getD m₂ 0 0 → q₁ < getD m₁ 0 0 → Means l codes (getD joins (q₂ * 64 + q₁) 0) (bigJoin (opsIn t l) (getD m₂ 0 0) (λ r. meetIn t (modelOf m₂ .transition q₂ r) (tableOf s (getD m₂ 0 0) q₁ r)))
+  inner-mean : {table joins : List ℕ} → Rows (λ q r. wordOf codes (tableOf s (getD m₂ 0 0) q r)) (getD m₁ 0 0) (getD m₂ 0 0) table → Rows (innerWord (wordOf codes (l .bottom .0)) codes m₂ table) (getD m₂ 0 0) (getD m₁ 0 0) joins → (q₂ q₁ : ℕ) → q₂ < getD m₂ 0 0 → q₁ < getD m₁ 0 0 → Means l codes (getD joins (q₂ * 64 + q₁) 0) (innerJoin t l m₂ (tableOf s (getD m₂ 0 0)) q₂ q₁)
   inner-mean {table} {joins} w j q₂ q₁ a b =
       rw (j .at q₂ q₁ a b)
       (means-joins k (getD m₂ 0 0) _ (λ r. meetIn t (modelOf m₂ .transition q₂ r) (tableOf s (getD m₂ 0 0) q₁ r)) (means-word k _ (e .bottom))

@@ -232,13 +232,7 @@ fn row_same(t: &[u8; 12352], l: Lattice, m1: &[u8], m2: &[u8], s: &[u8], q1: Sta
 }
 
 // What `is_simulation` says, by the tables.
-fn simulation_by_tables(
-    t: &[u8; 12352],
-    l: Lattice,
-    m1: &[u8],
-    m2: &[u8],
-    s: &[u8],
-) -> bool
+fn simulation_by_tables(t: &[u8; 12352], l: Lattice, m1: &[u8], m2: &[u8], s: &[u8]) -> bool
     requires { ⌜ Shaped (now m1) (now m2) (now s) ⌝ }
     ensures { λ r. ⌜ r ≡ simulationTest (modelOf (now (m1 .entry))) (modelOf (now (m2 .entry))) (F (opsIn (now (t .entry)) l) (modelOf (now (m1 .entry))) (modelOf (now (m2 .entry)))) (tableOf (now (s .entry)) (getD (now (m2 .entry)) 0 0)) ⌝ }
 {
@@ -473,14 +467,8 @@ fn coded_row(
     let n2 = model::states(m2);
     let at = operations::index(q1.0) * n2;
     let mut left = [0u64; 64];
-    encode(
-        negated,
-        m1,
-        model::transition_row(m1, q1),
-        model::states(m1),
-        &mut left,
-        0,
-    );
+    let from = model::transition_row(m1, q1);
+    encode(negated, m1, from, model::states(m1), &mut left, 0);
     let mut changed = false;
     for q2 in 0..n2 {
         let e = coded_entry(
@@ -496,7 +484,8 @@ fn coded_row(
             q1,
             State(q2 as u8),
         );
-        changed = changed_or(changed, s[at + q2], e.0);
+        let old = s[at + q2];
+        changed = changed_or(changed, old, e.0);
         out[at + q2] = e.0;
     }
     changed
@@ -550,14 +539,7 @@ fn large_row(
     row_by_tables(t, l, m1, m2, s, out, q1)
 }
 
-fn large_round(
-    t: &[u8; 12352],
-    l: Lattice,
-    m1: &[u8],
-    m2: &[u8],
-    s: &[u8],
-    out: &mut [u8],
-) -> bool
+fn large_round(t: &[u8; 12352], l: Lattice, m1: &[u8], m2: &[u8], s: &[u8], out: &mut [u8]) -> bool
     requires { ⌜ Shaped (now m1) (now m2) (now s) × (getD (now m1) 0 0 * getD (now m2) 0 0 ≤ length (now out)) ⌝ }
     ensures { λ r. ⌜ RoundSoFar (modelOf (now (m1 .entry))) (modelOf (now (m2 .entry))) (F (opsIn (now (t .entry)) l) (modelOf (now (m1 .entry))) (modelOf (now (m2 .entry)))) (tableOf (now (s .entry)) (getD (now (m2 .entry)) 0 0)) (now (out .entry)) (getD (now (m1 .entry)) 0 0) (now (out .exit)) r ⌝ }
 {
@@ -591,7 +573,7 @@ fn worth(l: Lattice, m1: &[u8], m2: &[u8], rows: usize) -> bool
     let n = operations::index(l.size);
     let n1 = model::states(m1);
     let n2 = model::states(m2);
-    n * n + 2000 < rows * (n1 * (n2 * n2))
+    n * n + 1000 < rows * (n1 * (n2 * n2))
 }
 
 // Works row q1 of F of the table s into the same row of out; says whether any entry differs from that of s.

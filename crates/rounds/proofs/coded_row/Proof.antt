@@ -14,7 +14,7 @@ use Rattle.rounds.proofs.coded_row.Statement.{statement}
 use Rattle.rounds.proofs.coded_row.Tie as tie
 
 abbrev Inv-loop : tie.InvT-loop
-Inv-loop t l m1 m2 s codes negated joins out₀ q1 n2 at left changed₀ q2₀ out changed q2 =
+Inv-loop t l m1 m2 s codes negated joins out₀ q1 n2 at left from changed₀ q2₀ out changed q2 =
     RowAt m1 m2 (q1 .0) n2 at
     × (q2 ≤ n2)
     × (length out ≡ length out₀)
@@ -25,7 +25,7 @@ Inv-loop t l m1 m2 s codes negated joins out₀ q1 n2 at left changed₀ q2₀ o
     out₀ q2 out changed
 
 abbrev μ-loop : tie.MeasureT-loop
-μ-loop t l m1 m2 s codes negated joins out₀ q1 n2 at left changed₀ q2₀ out changed q2 = n2 - q2
+μ-loop t l m1 m2 s codes negated joins out₀ q1 n2 at left from changed₀ q2₀ out changed q2 = n2 - q2
 
 states-requires : tie.Need-states-requires Inv-loop μ-loop
 states-requires c κs = search needs
@@ -63,17 +63,17 @@ loop-holds c = (
       row-none,
     )
 
-cast-changed-or : tie.Need-cast-changed-or Inv-loop μ-loop
-cast-changed-or c = search needs
+cast-old : tie.Need-cast-old Inv-loop μ-loop
+cast-old c = search needs
 
 coded-entry-requires : tie.Need-coded-entry-requires Inv-loop μ-loop
 coded-entry-requires c κs = (c .before .before .before .before .before .before .before .before .before .before .before .before .before .before .pre .0, c .before .before .before .before .before .before .before .before .before .before .before .before .before .before .pre .1, c .before .before .loop .inv .3, c .before .before .before .before .before .before .before .before .before .before .before .before .before .before .pre .3, search needs)
 
-add-changed-or : tie.Need-add-changed-or Inv-loop μ-loop
-add-changed-or c = omega (arith, c .before .before .before .loop .inv .0, few-entries (c .before .before .before .before .before .before .before .before .before .before .before .before .before .before .before .pre .0))
+add-old : tie.Need-add-old Inv-loop μ-loop
+add-old c = omega (arith, c .before .before .before .loop .inv .0, few-entries (c .before .before .before .before .before .before .before .before .before .before .before .before .before .before .before .pre .0))
 
-shared-slice-read-changed-or : tie.Need-shared-slice-read-changed-or Inv-loop μ-loop
-shared-slice-read-changed-or c = search needs
+shared-slice-read-old : tie.Need-shared-slice-read-old Inv-loop μ-loop
+shared-slice-read-old c = search needs
 
 changed-or-requires : tie.Need-changed-or-requires Inv-loop μ-loop
 changed-or-requires c κs = search needs
@@ -124,10 +124,10 @@ coded-row-spec =
     slice-aggregate-encode
     encode-requires
     loop-holds
-    cast-changed-or
+    cast-old
     coded-entry-requires
-    add-changed-or
-    shared-slice-read-changed-or
+    add-old
+    shared-slice-read-old
     changed-or-requires
     add-out
     slice-write-out

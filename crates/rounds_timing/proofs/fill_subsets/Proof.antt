@@ -5,10 +5,10 @@ use Rattle.rounds_timing.proofs.fill_subsets.Statement.{statement}
 use Rattle.rounds_timing.proofs.fill_subsets.Tie as tie
 
 abbrev Inv-loop : tie.InvT-loop
-Inv-loop t₀ k₀ t k = k ≤ 4096
+Inv-loop t₀ n k₀ t k = k ≤ 4096
 
 abbrev μ-loop : tie.MeasureT-loop
-μ-loop t₀ k₀ t k = 4096 - k
+μ-loop t₀ n k₀ t k = 4096 - k
 
 loop-holds : tie.Need-loop-holds Inv-loop μ-loop
 loop-holds c = search needs
@@ -37,8 +37,8 @@ add-t-2 c = search needs
 element-write-t-3 : tie.Need-element-write-t-3 Inv-loop μ-loop
 element-write-t-3 c = search needs
 
-sub-t : tie.Need-sub-t Inv-loop μ-loop
-sub-t c = search needs
+from-top-requires : tie.Need-from-top-requires Inv-loop μ-loop
+from-top-requires c κs = search needs
 
 add-t-3 : tie.Need-add-t-3 Inv-loop μ-loop
 add-t-3 c = search needs
@@ -73,7 +73,7 @@ fill-subsets-spec =
     element-write-t-2
     add-t-2
     element-write-t-3
-    sub-t
+    from-top-requires
     add-t-3
     element-write-t-4
     add-k

@@ -1,29 +1,33 @@
 -- `rounds_timing::rows` meets its contract: a row at a time. Assumes nothing.
 use mathlib.Core.Path.{_≡_, refl, _∙_}
 use Prim.Native.Nat.{_≤_, _-_}
-use native.Mathlib.Omega.{arith}
 use lib.ListN.{length}
+use native.Mathlib.Nat.{mod-lt}
+use Rattle.rounds_timing.specs.Sized.{sized-shaped, sized-held}
 use borrow.Author.Needs.{needs}
-use Rattle.rounds_timing.specs.Full.{full-shaped, full-held}
+use native.Mathlib.Omega.{arith}
 use Rattle.rounds_timing.proofs.rows.Statement.{statement}
 use Rattle.rounds_timing.proofs.rows.Tie as tie
 
 abbrev Inv-loop : tie.InvT-loop
-Inv-loop t l m1 m2 s out₀ i₀ out i = (i ≤ 640) × (length out ≡ length out₀)
+Inv-loop t l m1 m2 s out₀ states count i₀ out i = (i ≤ count) × (length out ≡ length out₀)
 
 abbrev μ-loop : tie.MeasureT-loop
-μ-loop t l m1 m2 s out₀ i₀ out i = 640 - i
+μ-loop t l m1 m2 s out₀ states count i₀ out i = count - i
 
 loop-holds : tie.Need-loop-holds Inv-loop μ-loop
 loop-holds c = (omega arith, refl)
 
-cast-t12 : tie.Need-cast-t12 Inv-loop μ-loop
-cast-t12 c = search needs
+rem-t14 : tie.Need-rem-t14 Inv-loop μ-loop
+rem-t14 c = let l = c .before .before .before .before .before .before .before .pre .0 .some in search needs
+
+cast-t15 : tie.Need-cast-t15 Inv-loop μ-loop
+cast-t15 c = omega (arith, mod-lt (c .before .before .loop .i) (c .before .before .before .before .before .before .before .pre .0 .some), c .before .before .before .before .before .before .before .pre .0 .most)
 
 row-requires : tie.Need-row-requires Inv-loop μ-loop
 row-requires c κs =
     let p = c .before .before .before .before .before .before .before .pre in
-    (full-shaped _ _ _ (p .0) (p .1) (p .2), full-held _ _ (c .before .before .loop .out) (p .0) (p .1) (c .before .before .loop .inv .1 ∙ p .3), omega arith)
+    (sized-shaped _ _ _ _ (p .0) (p .1) (p .2), sized-held _ _ _ (c .before .before .loop .out) (p .0) (p .1) (c .before .before .loop .inv .1 ∙ p .3), omega (arith, mod-lt (c .before .before .loop .i) (c .before .before .before .before .before .before .before .pre .0 .some), c .before .before .before .before .before .before .before .pre .0 .states))
 
 add-i : tie.Need-add-i Inv-loop μ-loop
 add-i c = search needs
@@ -32,7 +36,7 @@ loop-less : tie.Need-loop-less Inv-loop μ-loop
 loop-less c = search needs
 
 loop-again : tie.Need-loop-again Inv-loop μ-loop
-loop-again c = (omega arith, c .before .before .row .kept .1 .1 .1 .1 .1 .0 ∙ c .before .before .before .before .before .loop .inv .1)
+loop-again c = (omega arith, search needs)
 
 same-length : tie.Need-same-length Inv-loop μ-loop
 same-length c = c .before .loop .inv .1
@@ -47,7 +51,8 @@ rows-spec =
     Inv-loop
     μ-loop
     loop-holds
-    cast-t12
+    rem-t14
+    cast-t15
     row-requires
     add-i
     loop-less
