@@ -1,5 +1,5 @@
 // Codes of a lattice's elements: words of 64 bits on which meet is & and join is |. Codes, and meets and joins, are guessed from the order in
-// the tables, in n·n steps; nothing is claimed of a guess. The codes are then tested for every two elements.
+// the tables, in a few times 64·64 steps; nothing is claimed of a guess. The codes are then tested for every two elements.
 use operations::Element;
 use operations::Lattice;
 ghost use mathlib.Core.Path.{_≡_};
@@ -9,8 +9,9 @@ ghost use Rattle.codes.specs.Coded.{firstOf, PairCoded, RowCoded, Coded,
 
 // ---- words of the order: bit place[b] stands for element b
 
-fn bit(k: u8) -> u64 {
-    1u64 << ((k % 64) as u64)
+// The lowest bit of x, moved to place k.
+fn bit(x: u8, k: u8) -> u64 {
+    ((x % 2) as u64) << ((k % 64) as u64)
 }
 
 // The bits of the elements at or above a where `up`, else of those at or below it.
@@ -20,9 +21,7 @@ fn word_of(t: &[u8; 12352], n: usize, place: &[u8; 64], up: bool, a: usize) -> u
     let mut x: u64 = 0;
     for b in 0..n {
         let order = if up { t[a * 64 + b] } else { t[b * 64 + a] };
-        if order == 1 {
-            x = x | bit(place[b]);
-        }
+        x = x | bit(order, place[b]);
     }
     x
 }
@@ -44,27 +43,33 @@ fn by_number(place: &mut [u8; 64]) {
 
 // ---- the guess of meets and joins
 
-// The place of a among the n elements, by how many are at or below each, then by number: none stands before one that is below it.
-fn place_of(down: &[u64; 64], n: usize, a: usize) -> usize
+// A key for each element, by how many are at or below it, then by its number: that of a lower element is lower.
+fn fill_keys(down: &[u64; 64], key: &mut [u32; 64]) {
+    for a in 0..64usize {
+        key[a] = u64::count_ones(down[a]) % 128 * 64 + a as u32;
+    }
+}
+
+// The place of a among the n elements by their keys.
+fn place_of(key: &[u32; 64], n: usize, a: usize) -> usize
     requires { ⌜ (n ≤ 64) × (a < 64) ⌝ }
     ensures { λ r. ⌜ r ≤ n ⌝ }
 {
-    let x = u64::count_ones(down[a]);
+    let x = key[a];
     let mut k: usize = 0;
     for b in 0..n {
-        let y = u64::count_ones(down[b]);
-        if y < x || (y == x && b < a) {
+        if key[b] < x {
             k += 1;
         }
     }
     k
 }
 
-fn fill_places(down: &[u64; 64], n: usize, place: &mut [u8; 64], element: &mut [u8; 64])
+fn fill_places(key: &[u32; 64], n: usize, place: &mut [u8; 64], element: &mut [u8; 64])
     requires { ⌜ n ≤ 64 ⌝ }
 {
     for a in 0..n {
-        let k = place_of(down, n, a) % 64;
+        let k = place_of(key, n, a) % 64;
         place[a] = k as u8;
         element[k] = a as u8;
     }
@@ -104,11 +109,13 @@ pub fn guess_bounds(t: &mut [u8; 12352], n: usize)
 {
     let mut place = [0u8; 64];
     let mut element = [0u8; 64];
+    let mut key = [0u32; 64];
     let mut down = [0u64; 64];
     let mut up = [0u64; 64];
     by_number(&mut place);
     fill_words(t, n, &place, false, &mut down);
-    fill_places(&down, n, &mut place, &mut element);
+    fill_keys(&down, &mut key);
+    fill_places(&key, n, &mut place, &mut element);
     fill_words(t, n, &place, false, &mut down);
     fill_words(t, n, &place, true, &mut up);
     fill_bounds(t, &element, &down, &up);
@@ -116,11 +123,11 @@ pub fn guess_bounds(t: &mut [u8; 12352], n: usize)
 
 // ---- the guess of codes
 
-// a is not the join of others: those below it are all that are at or below one of them.
+// a is no join of others: the elements below it are all those at or below one of them.
 fn is_irreducible(down: &[u64; 64], n: usize, a: usize) -> bool
     requires { ⌜ (n ≤ 64) × (a < 64) ⌝ }
 {
-    let others = down[a] ^ bit(a as u8);
+    let others = down[a] ^ bit(1, a as u8);
     for b in 0..n {
         if down[b] == others {
             return true;
@@ -129,20 +136,20 @@ fn is_irreducible(down: &[u64; 64], n: usize, a: usize) -> bool
     false
 }
 
-// The bits of all those elements.
+// The bits of all such elements.
 fn irreducibles(down: &[u64; 64], n: usize) -> u64
     requires { ⌜ n ≤ 64 ⌝ }
 {
     let mut x: u64 = 0;
     for a in 0..n {
         if is_irreducible(down, n, a) {
-            x = x | bit(a as u8);
+            x = x | bit(1, a as u8);
         }
     }
     x
 }
 
-// An element's code has the bits of those at or below it.
+// An element's code has the bits of those at or below it that are no joins of others.
 fn guess_codes(t: &[u8; 12352], n: usize, codes: &mut [u64; 64])
     requires { ⌜ n ≤ 64 ⌝ }
 {

@@ -5,10 +5,10 @@ use Rattle.codes.proofs.fill_places.Statement.{statement}
 use Rattle.codes.proofs.fill_places.Tie as tie
 
 abbrev Inv-loop : tie.InvT-loop
-Inv-loop down n place₀ element₀ a₀ place element a = a ≤ n
+Inv-loop key n place₀ element₀ a₀ place element a = a ≤ n
 
 abbrev μ-loop : tie.MeasureT-loop
-μ-loop down n place₀ element₀ a₀ place element a = n - a
+μ-loop key n place₀ element₀ a₀ place element a = n - a
 
 loop-holds : tie.Need-loop-holds Inv-loop μ-loop
 loop-holds c = search needs

@@ -7,10 +7,10 @@ use Rattle.codes.proofs.place_of.Statement.{statement}
 use Rattle.codes.proofs.place_of.Tie as tie
 
 abbrev Inv-loop : tie.InvT-loop
-Inv-loop down n a x k₀ b₀ k b = (b ≤ n) × (k ≤ b)
+Inv-loop key n a x k₀ b₀ k b = (b ≤ n) × (k ≤ b)
 
 abbrev μ-loop : tie.MeasureT-loop
-μ-loop down n a x k₀ b₀ k b = n - b
+μ-loop key n a x k₀ b₀ k b = n - b
 
 mul-x : tie.Need-mul-x Inv-loop μ-loop
 mul-x c = search needs
@@ -21,11 +21,11 @@ element-copy-out-x c = search needs
 loop-holds : tie.Need-loop-holds Inv-loop μ-loop
 loop-holds c = search needs
 
-mul-y : tie.Need-mul-y Inv-loop μ-loop
-mul-y c = search needs
+mul-if1 : tie.Need-mul-if1 Inv-loop μ-loop
+mul-if1 c = search needs
 
-element-copy-out-y : tie.Need-element-copy-out-y Inv-loop μ-loop
-element-copy-out-y c = search needs
+element-copy-out-if1 : tie.Need-element-copy-out-if1 Inv-loop μ-loop
+element-copy-out-if1 c = search needs
 
 add-k : tie.Need-add-k Inv-loop μ-loop
 add-k c = search needs
@@ -51,8 +51,8 @@ place-of-spec =
     mul-x
     element-copy-out-x
     loop-holds
-    mul-y
-    element-copy-out-y
+    mul-if1
+    element-copy-out-if1
     add-k
     add-b
     loop-less
