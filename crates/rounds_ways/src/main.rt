@@ -6,18 +6,18 @@ use model::State;
 use operations::Element;
 use operations::Lattice;
 ghost use mathlib.Core.Path.{_≡_};
-ghost use Prim.Native.Nat.{_≤_};
+ghost use Prim.Native.Nat.{_+_, _≤_};
 ghost use lib.ListN.{length};
 ghost use Rattle.rounds_ways.specs.Full.{Full};
 
-// Values all over the 64 elements, from subsets of many things, so that the entries are not all bottom.
+// Values all over the 64 elements, small subsets more often, so that the entries differ.
 fn scatter(m: &mut [u8], seed: usize)
     requires { ⌜ seed ≤ 1000 ⌝ }
 {
     let mut x = seed;
     for i in 0..m.len() {
         x = (x * 37 + 11) % 1009;
-        m[i] = ((x % 64) as u8) | ((x % 61) as u8);
+        m[i] = ((x % 64) as u8) & ((x % 61) as u8);
     }
 }
 
@@ -50,7 +50,15 @@ fn by_entries(t: &[u8; 12352], l: Lattice, m1: &[u8], m2: &[u8], s: &[u8], out: 
     requires { ⌜ Full (now m1) × Full (now m2) × (length (now s) ≡ 650) × (length (now out) ≡ 650) ⌝ }
 {
     for i in 0..576usize {
-        let e = rounds::entry(t, l, m1, m2, s, State((i / 24) as u8), State((i % 24) as u8));
+        let e = rounds::entry(
+            t,
+            l,
+            m1,
+            m2,
+            s,
+            State((i / 24) as u8),
+            State((i % 24) as u8),
+        );
         out[i] = e.0;
     }
 }
@@ -69,13 +77,21 @@ fn by_round(t: &[u8; 12352], l: Lattice, m1: &[u8], m2: &[u8], s: &[u8], out: &m
     rounds::round(t, l, m1, m2, s, out)
 }
 
+fn one_more(n: usize, counts: bool) -> usize
+    requires { ⌜ n ≤ 576 ⌝ }
+    ensures { λ r. ⌜ r ≤ n + 1 ⌝ }
+{
+    if counts {
+        return n + 1;
+    }
+    n
+}
+
 // How many of the 576 entries are the same.
 fn same(a: &[u8; 650], b: &[u8; 650]) -> usize {
     let mut n: usize = 0;
     for i in 0..576usize {
-        if a[i] == b[i] {
-            n += 1;
-        }
+        n = one_more(n, a[i] == b[i]);
     }
     n
 }
@@ -95,7 +111,7 @@ fn say_codes(t: &[u8; 12352], l: Lattice) {
     }
 }
 
-// The three ways over one lattice's tables, and the round after.
+// The three ways over one lattice's tables.
 fn ways(t: &[u8; 12352], m1: &[u8], m2: &[u8])
     requires { ⌜ Full (now m1) × Full (now m2) ⌝ }
 {
@@ -105,7 +121,8 @@ fn ways(t: &[u8; 12352], m1: &[u8], m2: &[u8])
         bottom: Element(0),
     };
     say_codes(t, l);
-    let s = [63u8; 650];
+    let mut s = [0u8; 650];
+    scatter(&mut s, 7);
     let mut entries = [0u8; 650];
     let mut rows = [0u8; 650];
     let mut round = [0u8; 650];

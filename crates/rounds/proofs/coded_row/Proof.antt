@@ -56,12 +56,12 @@ encode-requires c κs = search needs
 
 loop-holds : tie.Need-loop-holds Inv-loop μ-loop
 loop-holds c = (
-      place (c .before .before .before .before .before),
-      omega arith,
-      refl,
-      row-words (c .before .before .before .before .before .before .before .before .before .before .before .args .negated .now) (c .before .before .before .before .before .before .before .before .before .before .before .args .m1 .now) _ _ _ _ (c .before .encode .ensures) (omega arith) (c .before .before .before .before .transition-row .ensures .0) (c .before .before .before .states2 .ensures),
-      row-none,
-    )
+  place (c .before .before .before .before .before),
+  omega arith,
+  refl,
+  row-words (c .before .before .before .before .before .before .before .before .before .before .before .args .negated .now) (c .before .before .before .before .before .before .before .before .before .before .before .args .m1 .now) _ _ _ _ (c .before .encode .ensures) (omega arith) (c .before .before .before .before .transition-row .ensures .0) (c .before .before .before .states2 .ensures),
+  row-none,
+)
 
 cast-old : tie.Need-cast-old Inv-loop μ-loop
 cast-old c = search needs

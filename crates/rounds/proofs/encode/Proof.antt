@@ -1,9 +1,7 @@
 -- `rounds::encode` meets its contract: the words below i are written. Assumes nothing.
-use mathlib.Core.Path.{_≡_, refl, sym}
+use mathlib.Core.Path.{_≡_, refl}
 use Prim.Native.Nat.{_+_, _≤_, _-_}
 use lib.ListN.{length, getD, length-set}
-use Rattle.theory.specs.Lists.{tab, written}
-use Rattle.theory.specs.Written.{written-none, written-turn}
 use Rattle.rounds.specs.Codes.{wordOf, Written, written-start, written-more, written-all}
 use borrow.Author.Needs.{needs}
 use native.Mathlib.Omega.{arith}

@@ -1,7 +1,6 @@
 -- `rounds::only_elements` meets its contract: each test is one of the facts. Assumes nothing.
 use mathlib.Core.Path.{refl, sym, _∙_}
 use Prim.Native.Nat.{_+_}
-use lib.ListN.{length, getD}
 use borrow.Author.Tests.{not-false}
 use Rattle.theory.specs.TestLaws.{false-true}
 use Rattle.model.specs.Places.{prod-le}

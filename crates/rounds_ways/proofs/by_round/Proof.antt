@@ -1,19 +1,17 @@
+-- `rounds_ways::by_round` meets its contract. Assumes nothing.
+use Rattle.rounds_ways.specs.Full.{full-shaped, full-held}
 use borrow.Author.Needs.{needs}
 use Rattle.rounds_ways.proofs.by_round.Statement.{statement}
 use Rattle.rounds_ways.proofs.by_round.Tie as tie
-use Rattle.rounds_ways.proofs.by_round.Reads as reads
-use Rattle.rounds_ways.proofs.by_round.Lts as lts
-use Rattle.rounds.proofs.round.Reads as round-reads
 
--- src/main.rt:69:5
 round-requires : tie.Need-round-requires
-round-requires c κs = ?
+round-requires c κs =
+    let p = c .before .before .before .before .before .pre in
+    (full-shaped _ _ _ (p .0) (p .1) (p .2), full-held _ _ (c .before .before .before .before .before .args .out .now) (p .0) (p .1) (p .3))
 
--- src/main.rt:66:1
 same-length : tie.Need-same-length
 same-length c = search needs
 
--- src/main.rt:66:1
 returns : tie.Need-returns
 returns c = search needs
 

@@ -1,42 +1,41 @@
+-- `rounds_ways::by_rows` meets its contract: a row at a time. Assumes nothing.
+use mathlib.Core.Path.{_≡_, refl, _∙_}
+use Prim.Native.Nat.{_≤_, _-_}
+use lib.ListN.{length}
+use Rattle.rounds_ways.specs.Full.{full-shaped, full-held}
+use borrow.Author.Needs.{needs}
+use native.Mathlib.Omega.{arith}
 use Rattle.rounds_ways.proofs.by_rows.Statement.{statement}
 use Rattle.rounds_ways.proofs.by_rows.Tie as tie
-use Rattle.rounds_ways.proofs.by_rows.Reads as reads
-use Rattle.rounds_ways.proofs.by_rows.Lts as lts
-use Rattle.rounds.proofs.row.Reads as row-reads
 
 abbrev Inv-loop : tie.InvT-loop
-Inv-loop t l m1 m2 s out₀ q1₀ out q1 = ?
+Inv-loop t l m1 m2 s out₀ q1₀ out q1 = (q1 ≤ 24) × (length out ≡ length out₀)
 
 abbrev μ-loop : tie.MeasureT-loop
-μ-loop t l m1 m2 s out₀ q1₀ out q1 = ?
+μ-loop t l m1 m2 s out₀ q1₀ out q1 = 24 - q1
 
--- src/main.rt:61:5
 loop-holds : tie.Need-loop-holds Inv-loop μ-loop
-loop-holds c = ?
+loop-holds c = (omega arith, refl)
 
--- src/main.rt:62:9
 row-requires : tie.Need-row-requires Inv-loop μ-loop
-row-requires c κs = ?
+row-requires c κs =
+    let p = c .before .before .before .before .before .before .before .pre in
+    (full-shaped _ _ _ (p .0) (p .1) (p .2), full-held _ _ (c .before .before .loop .out) (p .0) (p .1) (c .before .before .loop .inv .1 ∙ p .3), omega arith)
 
--- src/main.rt:61:9
 add-q1 : tie.Need-add-q1 Inv-loop μ-loop
-add-q1 c = ?
+add-q1 c = search needs
 
--- src/main.rt:61:5
 loop-less : tie.Need-loop-less Inv-loop μ-loop
-loop-less c = ?
+loop-less c = search needs
 
--- src/main.rt:61:5
 loop-again : tie.Need-loop-again Inv-loop μ-loop
-loop-again c = ?
+loop-again c = (omega arith, search needs)
 
--- src/main.rt:58:1
 same-length : tie.Need-same-length Inv-loop μ-loop
-same-length c = ?
+same-length c = c .before .loop .inv .1
 
--- src/main.rt:58:1
 returns : tie.Need-returns Inv-loop μ-loop
-returns c = ?
+returns c = search needs
 
 pub by-rows-spec : {M : Type 1} → statement M
 by-rows-spec =

@@ -1,78 +1,62 @@
+-- `rounds_ways::fill_subsets` meets its contract: the counter is within the table. Assumes nothing.
+use Prim.Native.Nat.{_≤_, _-_}
+use borrow.Author.Needs.{needs}
 use Rattle.rounds_ways.proofs.fill_subsets.Statement.{statement}
 use Rattle.rounds_ways.proofs.fill_subsets.Tie as tie
-use Rattle.rounds_ways.proofs.fill_subsets.Reads as reads
-use Rattle.rounds_ways.proofs.fill_subsets.Lts as lts
-use Rattle.rounds_ways.proofs.within.Reads as within-reads
 
 abbrev Inv-loop : tie.InvT-loop
-Inv-loop t₀ k₀ t k = ?
+Inv-loop t₀ k₀ t k = k ≤ 4096
 
 abbrev μ-loop : tie.MeasureT-loop
-μ-loop t₀ k₀ t k = ?
+μ-loop t₀ k₀ t k = 4096 - k
 
--- src/main.rt:31:5
 loop-holds : tie.Need-loop-holds Inv-loop μ-loop
-loop-holds c = ?
+loop-holds c = search needs
 
--- src/main.rt:32:17
 cast-a : tie.Need-cast-a Inv-loop μ-loop
-cast-a c = ?
+cast-a c = search needs
 
--- src/main.rt:33:17
 cast-b : tie.Need-cast-b Inv-loop μ-loop
-cast-b c = ?
+cast-b c = search needs
 
--- src/main.rt:34:16
 within-requires : tie.Need-within-requires Inv-loop μ-loop
-within-requires c κs = ?
+within-requires c κs = search needs
 
--- src/main.rt:34:9
 element-write-t : tie.Need-element-write-t Inv-loop μ-loop
-element-write-t c = ?
+element-write-t c = search needs
 
--- src/main.rt:35:11
 add-t : tie.Need-add-t Inv-loop μ-loop
-add-t c = ?
+add-t c = search needs
 
--- src/main.rt:35:9
 element-write-t-2 : tie.Need-element-write-t-2 Inv-loop μ-loop
-element-write-t-2 c = ?
+element-write-t-2 c = search needs
 
--- src/main.rt:36:11
 add-t-2 : tie.Need-add-t-2 Inv-loop μ-loop
-add-t-2 c = ?
+add-t-2 c = search needs
 
--- src/main.rt:36:9
 element-write-t-3 : tie.Need-element-write-t-3 Inv-loop μ-loop
-element-write-t-3 c = ?
+element-write-t-3 c = search needs
 
--- src/main.rt:37:29
 sub-t : tie.Need-sub-t Inv-loop μ-loop
-sub-t c = ?
+sub-t c = search needs
 
--- src/main.rt:37:11
 add-t-3 : tie.Need-add-t-3 Inv-loop μ-loop
-add-t-3 c = ?
+add-t-3 c = search needs
 
--- src/main.rt:37:9
 element-write-t-4 : tie.Need-element-write-t-4 Inv-loop μ-loop
-element-write-t-4 c = ?
+element-write-t-4 c = search needs
 
--- src/main.rt:31:9
 add-k : tie.Need-add-k Inv-loop μ-loop
-add-k c = ?
+add-k c = search needs
 
--- src/main.rt:31:5
 loop-less : tie.Need-loop-less Inv-loop μ-loop
-loop-less c = ?
+loop-less c = search needs
 
--- src/main.rt:31:5
 loop-again : tie.Need-loop-again Inv-loop μ-loop
-loop-again c = ?
+loop-again c = search needs
 
--- src/main.rt:30:1
 returns : tie.Need-returns Inv-loop μ-loop
-returns c = ?
+returns c = search needs
 
 pub fill-subsets-spec : {M : Type 1} → statement M
 fill-subsets-spec =

@@ -1,45 +1,39 @@
+-- `rounds_ways::same` meets its contract: at most as many as were passed. Assumes nothing.
+use Prim.Native.Nat.{_≤_, _-_}
+use borrow.Author.Needs.{needs}
+use native.Mathlib.Omega.{arith}
 use Rattle.rounds_ways.proofs.same.Statement.{statement}
 use Rattle.rounds_ways.proofs.same.Tie as tie
-use Rattle.rounds_ways.proofs.same.Reads as reads
-use Rattle.rounds_ways.proofs.same.Lts as lts
 
 abbrev Inv-loop : tie.InvT-loop
-Inv-loop a b n₀ i₀ n i = ?
+Inv-loop a b n₀ i₀ n i = (i ≤ 576) × (n ≤ i)
 
 abbrev μ-loop : tie.MeasureT-loop
-μ-loop a b n₀ i₀ n i = ?
+μ-loop a b n₀ i₀ n i = 576 - i
 
--- src/main.rt:75:5
 loop-holds : tie.Need-loop-holds Inv-loop μ-loop
-loop-holds c = ?
+loop-holds c = (omega arith, omega arith)
 
--- src/main.rt:76:12
-element-copy-out-if1 : tie.Need-element-copy-out-if1 Inv-loop μ-loop
-element-copy-out-if1 c = ?
+element-copy-out-one-more : tie.Need-element-copy-out-one-more Inv-loop μ-loop
+element-copy-out-one-more c = search needs
 
--- src/main.rt:76:20
-element-copy-out-if1-2 : tie.Need-element-copy-out-if1-2 Inv-loop μ-loop
-element-copy-out-if1-2 c = ?
+element-copy-out-one-more-2 : tie.Need-element-copy-out-one-more-2 Inv-loop μ-loop
+element-copy-out-one-more-2 c = search needs
 
--- src/main.rt:77:13
-add-n : tie.Need-add-n Inv-loop μ-loop
-add-n c = ?
+one-more-requires : tie.Need-one-more-requires Inv-loop μ-loop
+one-more-requires c κs = search needs
 
--- src/main.rt:75:9
 add-i : tie.Need-add-i Inv-loop μ-loop
-add-i c = ?
+add-i c = search needs
 
--- src/main.rt:75:5
 loop-less : tie.Need-loop-less Inv-loop μ-loop
-loop-less c = ?
+loop-less c = search needs
 
--- src/main.rt:75:5
 loop-again : tie.Need-loop-again Inv-loop μ-loop
-loop-again c = ?
+loop-again c = search needs
 
--- src/main.rt:73:1
 returns : tie.Need-returns Inv-loop μ-loop
-returns c = ?
+returns c = search needs
 
 pub same-spec : {M : Type 1} → statement M
 same-spec =
@@ -48,9 +42,9 @@ same-spec =
     Inv-loop
     μ-loop
     loop-holds
-    element-copy-out-if1
-    element-copy-out-if1-2
-    add-n
+    element-copy-out-one-more
+    element-copy-out-one-more-2
+    one-more-requires
     add-i
     loop-less
     loop-again
