@@ -30,6 +30,10 @@ pub folded-more : {A : Type 0} {g : A → A → A} {start : A} {f : ℕ → A} {
 unfolding fold
 folded-more u d e = record { eq = e ∙ rw (add-one, d, ← u .eq) }
 
+-- at the loop's end the counter i has reached n
+pub folded-all : {A : Type 0} {g : A → A → A} {start : A} {f : ℕ → A} {n i : ℕ} {x : A} → Folded g start f i x → i ≤ n → n ≤ i → x ≡ fold g start f n
+folded-all {n = n} {i = i} u p q = let e : i ≡ n = omega arith in rw e at (u .eq)
+
 module _ {A : Type 0} (O : Ops A) where
   meet-fold : (n : ℕ) (f : ℕ → A) → fold (O .meet) (O .top) f n ≡ bigMeet O n f
   unfolding fold bigMeet
@@ -41,12 +45,11 @@ module _ {A : Type 0} (O : Ops A) where
   join-fold zero f = refl
   join-fold (suc n) f = ap₂ (O .join) (join-fold n f) refl
 
-  -- at the loop's end the counter i has reached n
   pub folded-meet : {f : ℕ → A} {n i : ℕ} {x : A} → Folded (O .meet) (O .top) f i x → i ≤ n → n ≤ i → x ≡ bigMeet O n f
-  folded-meet {f} {n} {i} u p q = let e : i ≡ n = omega arith in rw e at (u .eq) ∙ meet-fold n f
+  folded-meet {f} {n} {i} u p q = folded-all u p q ∙ meet-fold n f
 
   pub folded-join : {f : ℕ → A} {n i : ℕ} {x : A} → Folded (O .join) (O .bot) f i x → i ≤ n → n ≤ i → x ≡ bigJoin O n f
-  folded-join {f} {n} {i} u p q = let e : i ≡ n = omega arith in rw e at (u .eq) ∙ join-fold n f
+  folded-join {f} {n} {i} u p q = folded-all u p q ∙ join-fold n f
 
 -- ---- a loop that counts
 

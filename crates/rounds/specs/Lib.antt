@@ -8,3 +8,4 @@ pub mod Share
 pub mod Row
 pub mod Entry
 pub mod Folded
+pub mod Codes

@@ -182,6 +182,15 @@ module _ {M₁ M₂ : Model ℕ} {G : (ℕ → ℕ → ℕ) → ℕ → ℕ → 
   pub round-reached : {q n : ℕ} {out : List ℕ} {changed : Bool} → RoundSoFar M₁ M₂ G S before q out changed → q ≤ n → n ≤ q → RoundSoFar M₁ M₂ G S before n out changed
   round-reached {q = q} {n = n} u a b = let e : q ≡ n = omega arith in rw e at u
 
+not-not : (a : Bool) → not (not a) ≡ a
+not-not true = refl
+not-not false = refl
+
+-- a whole round that changes nothing is the test for a simulation
+pub round-test : {M₁ M₂ : Model ℕ} {G : (ℕ → ℕ → ℕ) → ℕ → ℕ → ℕ} {S : ℕ → ℕ → ℕ} {before out : List ℕ} {changed : Bool} → RoundSoFar M₁ M₂ G S before (M₁ .states) out changed → not changed ≡ simulationTest M₁ M₂ G S
+unfolding changedBelow simulationTest
+round-test u = ap not (u .changed-is) ∙ not-not _
+
 -- what all rows of a round have made of round r: round r + 1, with nothing changed exactly when the two are equal
 pub record RoundDone (O : Ops ℕ) (M₁ M₂ : Model ℕ) (G : (ℕ → ℕ → ℕ) → ℕ → ℕ → ℕ) (r : ℕ) (out : List ℕ) (changed : Bool) : Type 0 where
   pub holds : SameTable O M₁ M₂ (tableOf out (M₂ .states)) (roundOf O M₁ M₂ G (suc r))

@@ -13,8 +13,12 @@ use Rattle.theory.specs.Test.{allBelow}
 use Rattle.theory.specs.Lists.{tab}
 use Rattle.theory.specs.Written.{written-none, written-turn}
 use Rattle.theory.specs.Lists.{written}
-use Rattle.model.specs.Places.{row-le}
+use Rattle.model.specs.Places.{row-le, prod-le}
 use Rattle.rounds.specs.Table.{tableOf, Shaped}
+
+-- a table has at most 64 · 64 entries
+pub few-entries : {m₁ m₂ s : List ℕ} → Shaped m₁ m₂ s → getD m₁ 0 0 * getD m₂ 0 0 ≤ 4096
+few-entries {m₁} {m₂} h = prod-le (getD m₁ 0 0) (getD m₂ 0 0) 64 64 (h .first .states-most) (h .second .states-most)
 
 -- ---- where row q₁ stands: the code's place of it, and n₂ columns
 

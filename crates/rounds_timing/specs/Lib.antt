@@ -1,2 +1,2 @@
 -- Definitions of `rounds_timing`.
-pub mod Full
+pub mod Sized

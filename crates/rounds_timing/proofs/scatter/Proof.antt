@@ -1,6 +1,7 @@
 -- `rounds_timing::scatter` meets its contract: each index is below the length, and x is small. Assumes nothing.
 use mathlib.Core.Path.{_≡_, refl}
-use Prim.Native.Nat.{_≤_, _-_}
+use Prim.Native.Nat.{_+_, _*_, _%_, _≤_, _-_}
+use native.Mathlib.Nat.{mod-lt}
 use native.Mathlib.Omega.{arith}
 use lib.ListN.{length, length-set}
 use borrow.Author.Needs.{needs}
@@ -8,10 +9,10 @@ use Rattle.rounds_timing.proofs.scatter.Statement.{statement}
 use Rattle.rounds_timing.proofs.scatter.Tie as tie
 
 abbrev Inv-loop : tie.InvT-loop
-Inv-loop m₀ seed x₀ i₀ i-end m x i = (i ≤ i-end) × (x ≤ 1009) × (i-end ≡ length m₀) × (length m ≡ length m₀)
+Inv-loop m₀ seed n x₀ i₀ i-end m x i = (i ≤ i-end) × (x ≤ 1009) × (i-end ≡ length m₀) × (length m ≡ length m₀)
 
 abbrev μ-loop : tie.MeasureT-loop
-μ-loop m₀ seed x₀ i₀ i-end m x i = i-end - i
+μ-loop m₀ seed n x₀ i₀ i-end m x i = i-end - i
 
 loop-holds : tie.Need-loop-holds Inv-loop μ-loop
 loop-holds c = (omega arith, omega arith, refl, refl)
@@ -22,8 +23,11 @@ mul-x c = search needs
 add-x : tie.Need-add-x Inv-loop μ-loop
 add-x c = search needs
 
+rem-m : tie.Need-rem-m Inv-loop μ-loop
+rem-m c = search needs
+
 cast-m : tie.Need-cast-m Inv-loop μ-loop
-cast-m c = search needs
+cast-m c = omega (arith, mod-lt ((c .before .loop .x * 37 + 11) % 1009) (c .before .before .pre .1))
 
 slice-write-m : tie.Need-slice-write-m Inv-loop μ-loop
 slice-write-m c = search needs
@@ -52,6 +56,7 @@ scatter-spec =
     loop-holds
     mul-x
     add-x
+    rem-m
     cast-m
     slice-write-m
     add-i

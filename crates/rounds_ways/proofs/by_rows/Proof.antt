@@ -1,38 +1,35 @@
--- `rounds_timing::work` meets its contract: a row at a time. Assumes nothing.
+-- `rounds_ways::by_rows` meets its contract: a row at a time. Assumes nothing.
 use mathlib.Core.Path.{_≡_, refl, _∙_}
 use Prim.Native.Nat.{_≤_, _-_}
-use native.Mathlib.Omega.{arith}
 use lib.ListN.{length}
+use Rattle.rounds_ways.specs.Full.{full-shaped, full-held}
 use borrow.Author.Needs.{needs}
-use Rattle.rounds_timing.specs.Full.{full-shaped, full-held}
-use Rattle.rounds_timing.proofs.work.Statement.{statement}
-use Rattle.rounds_timing.proofs.work.Tie as tie
+use native.Mathlib.Omega.{arith}
+use Rattle.rounds_ways.proofs.by_rows.Statement.{statement}
+use Rattle.rounds_ways.proofs.by_rows.Tie as tie
 
 abbrev Inv-loop : tie.InvT-loop
-Inv-loop t l m1 m2 s out₀ i₀ out i = (i ≤ 640) × (length out ≡ length out₀)
+Inv-loop t l m1 m2 s out₀ q1₀ out q1 = (q1 ≤ 24) × (length out ≡ length out₀)
 
 abbrev μ-loop : tie.MeasureT-loop
-μ-loop t l m1 m2 s out₀ i₀ out i = 640 - i
+μ-loop t l m1 m2 s out₀ q1₀ out q1 = 24 - q1
 
 loop-holds : tie.Need-loop-holds Inv-loop μ-loop
 loop-holds c = (omega arith, refl)
-
-cast-t12 : tie.Need-cast-t12 Inv-loop μ-loop
-cast-t12 c = search needs
 
 row-requires : tie.Need-row-requires Inv-loop μ-loop
 row-requires c κs =
     let p = c .before .before .before .before .before .before .before .pre in
     (full-shaped _ _ _ (p .0) (p .1) (p .2), full-held _ _ (c .before .before .loop .out) (p .0) (p .1) (c .before .before .loop .inv .1 ∙ p .3), omega arith)
 
-add-i : tie.Need-add-i Inv-loop μ-loop
-add-i c = search needs
+add-q1 : tie.Need-add-q1 Inv-loop μ-loop
+add-q1 c = search needs
 
 loop-less : tie.Need-loop-less Inv-loop μ-loop
 loop-less c = search needs
 
 loop-again : tie.Need-loop-again Inv-loop μ-loop
-loop-again c = (omega arith, c .before .before .row .kept .1 .1 .1 .1 .1 .0 ∙ c .before .before .before .before .before .loop .inv .1)
+loop-again c = (omega arith, search needs)
 
 same-length : tie.Need-same-length Inv-loop μ-loop
 same-length c = c .before .loop .inv .1
@@ -40,16 +37,15 @@ same-length c = c .before .loop .inv .1
 returns : tie.Need-returns Inv-loop μ-loop
 returns c = search needs
 
-pub work-spec : {M : Type 1} → statement M
-work-spec =
+pub by-rows-spec : {M : Type 1} → statement M
+by-rows-spec =
     tie.close
     (tie.spec
     Inv-loop
     μ-loop
     loop-holds
-    cast-t12
     row-requires
-    add-i
+    add-q1
     loop-less
     loop-again
     same-length

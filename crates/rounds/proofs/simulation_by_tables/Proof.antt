@@ -1,4 +1,4 @@
--- `rounds::is_simulation` meets its contract: the rows below q1 are equal. Assumes nothing.
+-- `rounds::simulation_by_tables` meets its contract: the rows below q1 are equal. Assumes nothing.
 use mathlib.Core.Path.{sym, _∙_}
 use Prim.Native.Nat.{_≤_, _-_}
 use native.Mathlib.Omega.{arith}
@@ -11,8 +11,8 @@ use Rattle.operations.specs.Table.{opsIn}
 use Rattle.theory.specs.Simulation.{F}
 use Rattle.rounds.specs.Table.{tableOf, rowSame, simulationTest}
 use Rattle.rounds.specs.Folded.{Passed, passed-none, passed-more, passed-all}
-use Rattle.rounds.proofs.is_simulation.Statement.{statement}
-use Rattle.rounds.proofs.is_simulation.Tie as tie
+use Rattle.rounds.proofs.simulation_by_tables.Statement.{statement}
+use Rattle.rounds.proofs.simulation_by_tables.Tie as tie
 
 abbrev Inv-loop : tie.InvT-loop
 Inv-loop t l m1 m2 s n1 q1₀ q1 =
@@ -52,8 +52,8 @@ returns-2 : tie.Need-returns-2 Inv-loop μ-loop
 unfolding simulationTest
 returns-2 c = let i = c .before .loop .inv in passed-all (i .1) (omega arith) (omega arith)
 
-pub is-simulation-spec : {M : Type 1} → statement M
-is-simulation-spec =
+pub simulation-by-tables-spec : {M : Type 1} → statement M
+simulation-by-tables-spec =
     tie.close
     (tie.spec
     Inv-loop

@@ -1,4 +1,4 @@
--- `rounds::row` meets its contract: the entries below q2 are written and compared. Assumes nothing.
+-- `rounds::row_by_tables` meets its contract: the entries below q2 are written and compared. Assumes nothing.
 use mathlib.Core.Path.{_≡_, refl}
 use Prim.Native.Nat.{_*_, _≤_, _-_}
 use native.Mathlib.Omega.{arith}
@@ -9,8 +9,8 @@ use Rattle.theory.specs.Simulation.{F}
 use Rattle.operations.specs.Table.{opsIn}
 use Rattle.rounds.specs.Table.{tableOf, rowSame}
 use Rattle.rounds.specs.Row.{RowAt, row-at, row-entry, RowSoFar, row-none, row-more, row-all, row-written}
-use Rattle.rounds.proofs.row.Statement.{statement}
-use Rattle.rounds.proofs.row.Tie as tie
+use Rattle.rounds.proofs.row_by_tables.Statement.{statement}
+use Rattle.rounds.proofs.row_by_tables.Tie as tie
 
 abbrev Inv-loop : tie.InvT-loop
 Inv-loop t l m1 m2 s out₀ q1 n2 at changed₀ q2₀ out changed q2 =
@@ -90,8 +90,8 @@ returns c =
     let a = c .before .before .before .before .before .before .before .before .args in
     row-written (i .0) (c .before .before .before .states .ensures) (row-all (i .3) (omega arith) (omega arith))
 
-pub row-spec : {M : Type 1} → statement M
-row-spec =
+pub row-by-tables-spec : {M : Type 1} → statement M
+row-by-tables-spec =
     tie.close
     (tie.spec
     Inv-loop

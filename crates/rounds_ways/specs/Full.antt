@@ -1,4 +1,4 @@
--- Model parts of the greatest size. Rests on theory's Part and rounds' Table.
+-- Model parts of 24 states. Rests on theory's Part and rounds' Table.
 use Prim.Native.Nat.{ℕ, _*_, _≤_}
 use mathlib.Core.Path.{_≡_, sym, _∙_}
 use mathlib.Core.List.{List}
@@ -7,20 +7,20 @@ use lib.ListN.{length, getD}
 use Rattle.theory.specs.Part.{ModelShape}
 use Rattle.rounds.specs.Table.{Shaped}
 
--- 64 states and 16 propositions
+-- 24 states and two propositions
 pub record Full (m : List ℕ) : Type 0 where
-  pub size : length m ≡ 5186
-  pub states : getD m 0 0 ≡ 64
-  pub propositions : getD m 1 0 ≡ 16
+  pub size : length m ≡ 650
+  pub states : getD m 0 0 ≡ 24
+  pub propositions : getD m 1 0 ≡ 2
 
 full-shape : (m : List ℕ) → Full m → ModelShape m
 full-shape m f = record { some = omega arith; states-most = omega arith; propositions-most = omega arith; exact = rw (f .states, f .propositions) (f .size) }
 
--- a table of 5,186 bytes holds the 4,096 entries
-pub full-held : (m₁ m₂ s : List ℕ) → Full m₁ → Full m₂ → length s ≡ 5186 → getD m₁ 0 0 * getD m₂ 0 0 ≤ length s
+-- a table of 650 bytes holds the 576 entries
+pub full-held : (m₁ m₂ s : List ℕ) → Full m₁ → Full m₂ → length s ≡ 650 → getD m₁ 0 0 * getD m₂ 0 0 ≤ length s
 full-held m₁ m₂ s f g e = rw (f .states, g .states, e) (omega arith)
 
-pub full-shaped : (m₁ m₂ s : List ℕ) → Full m₁ → Full m₂ → length s ≡ 5186 → Shaped m₁ m₂ s
+pub full-shaped : (m₁ m₂ s : List ℕ) → Full m₁ → Full m₂ → length s ≡ 650 → Shaped m₁ m₂ s
 full-shaped m₁ m₂ s f g e =
     record {
       first = full-shape m₁ f;

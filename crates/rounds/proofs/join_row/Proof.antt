@@ -1,0 +1,64 @@
+-- `rounds::join_row` meets its contract: the joins below q are written. Assumes nothing.
+use mathlib.Core.Path.{_≡_, refl}
+use Prim.Native.Nat.{_≤_, _-_}
+use lib.ListN.{length, length-set}
+use Rattle.rounds.specs.Codes.{joinWord, Written, written-start, written-more, written-all}
+use borrow.Author.Needs.{needs}
+use native.Mathlib.Omega.{arith}
+use Rattle.rounds.proofs.join_row.Statement.{statement}
+use Rattle.rounds.proofs.join_row.Tie as tie
+
+abbrev Inv-loop : tie.InvT-loop
+Inv-loop bottom row table n1 n2 joins₀ at q₀ joins q = (q ≤ n1) × (length joins ≡ length joins₀) × Written at (joinWord bottom row table n2) q joins₀ joins
+
+abbrev μ-loop : tie.MeasureT-loop
+μ-loop bottom row table n1 n2 joins₀ at q₀ joins q = n1 - q
+
+loop-holds : tie.Need-loop-holds Inv-loop μ-loop
+loop-holds c = (omega arith, refl, written-start)
+
+joined-requires : tie.Need-joined-requires Inv-loop μ-loop
+joined-requires c κs = search needs
+
+add-joins : tie.Need-add-joins Inv-loop μ-loop
+add-joins c = search needs
+
+mul-joins : tie.Need-mul-joins Inv-loop μ-loop
+mul-joins c = search needs
+
+slice-write-joins : tie.Need-slice-write-joins Inv-loop μ-loop
+slice-write-joins c = search needs
+
+add-q : tie.Need-add-q Inv-loop μ-loop
+add-q c = search needs
+
+loop-less : tie.Need-loop-less Inv-loop μ-loop
+loop-less c = search needs
+
+loop-again : tie.Need-loop-again Inv-loop μ-loop
+loop-again c =
+    let i = c .before .before .loop .inv in
+    (omega arith, simp length-set (i .1), written-more (i .2) (omega arith) (c .joined .ensures))
+
+same-length : tie.Need-same-length Inv-loop μ-loop
+same-length c = c .before .loop .inv .1
+
+returns : tie.Need-returns Inv-loop μ-loop
+returns c = written-all (c .before .loop .inv .2) (omega arith) (omega arith)
+
+pub join-row-spec : {M : Type 1} → statement M
+join-row-spec =
+    tie.close
+    (tie.spec
+    Inv-loop
+    μ-loop
+    loop-holds
+    joined-requires
+    add-joins
+    mul-joins
+    slice-write-joins
+    add-q
+    loop-less
+    loop-again
+    same-length
+    returns)

@@ -1,0 +1,67 @@
+-- `rounds::joined` meets its contract: the join so far. Assumes nothing.
+use mathlib.Core.Path.{refl}
+use Prim.Native.Nat.{_+_, _*_, _≤_, _-_}
+use lib.Bits.{bitAnd, bitOr}
+use lib.ListN.{getD}
+use Rattle.rounds.specs.Folded.{Folded, folded-none, folded-more, folded-all}
+use borrow.Author.Needs.{needs}
+use native.Mathlib.Omega.{arith}
+use Rattle.rounds.proofs.joined.Statement.{statement}
+use Rattle.rounds.proofs.joined.Tie as tie
+
+abbrev Inv-loop : tie.InvT-loop
+Inv-loop bottom row table n q x₀ i₀ x i = (i ≤ n) × Folded bitOr x₀ (λ i. bitAnd (getD row i 0) (getD table (q * 64 + i) 0)) i x
+
+abbrev μ-loop : tie.MeasureT-loop
+μ-loop bottom row table n q x₀ i₀ x i = n - i
+
+loop-holds : tie.Need-loop-holds Inv-loop μ-loop
+loop-holds c = (omega arith, folded-none)
+
+mul-x : tie.Need-mul-x Inv-loop μ-loop
+mul-x c = search needs
+
+element-copy-out-x : tie.Need-element-copy-out-x Inv-loop μ-loop
+element-copy-out-x c = search needs
+
+mul-x-2 : tie.Need-mul-x-2 Inv-loop μ-loop
+mul-x-2 c = search needs
+
+add-x : tie.Need-add-x Inv-loop μ-loop
+add-x c = search needs
+
+mul-x-3 : tie.Need-mul-x-3 Inv-loop μ-loop
+mul-x-3 c = search needs
+
+element-copy-out-x-2 : tie.Need-element-copy-out-x-2 Inv-loop μ-loop
+element-copy-out-x-2 c = search needs
+
+add-i : tie.Need-add-i Inv-loop μ-loop
+add-i c = search needs
+
+loop-less : tie.Need-loop-less Inv-loop μ-loop
+loop-less c = search needs
+
+loop-again : tie.Need-loop-again Inv-loop μ-loop
+loop-again c = (omega arith, folded-more (c .before .before .before .loop .inv .1) refl refl)
+
+returns : tie.Need-returns Inv-loop μ-loop
+returns c = folded-all (c .before .loop .inv .1) (c .before .loop .inv .0) (c .loop-test .left)
+
+pub joined-spec : {M : Type 1} → statement M
+joined-spec =
+    tie.close
+    (tie.spec
+    Inv-loop
+    μ-loop
+    loop-holds
+    mul-x
+    element-copy-out-x
+    mul-x-2
+    add-x
+    mul-x-3
+    element-copy-out-x-2
+    add-i
+    loop-less
+    loop-again
+    returns)

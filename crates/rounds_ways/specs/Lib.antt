@@ -1,0 +1,2 @@
+-- Definitions of `rounds_ways`.
+pub mod Full
