@@ -1,16 +1,23 @@
--- What holds of an accepted case, and its gapless form: the same content, and its greatest length. Rests on Reading, Placed and Laid.
+-- What holds of an accepted case, and its gapless form: the same content, and its greatest length.
+-- Rests on Reading, Placed, Laid and FormulaParts.
+--   Accepted, accepted-case: what holds of a case that is accepted with a content
+--   case-exactly: a case is accepted exactly when its parts stand where they may, are those of the content, and pass their tests
+--   ContentOf, content-of, refused-content: the content of parts that are read
+--   part-length, parts-length, parts-four: the parts of a placed case
+--   gapless-most, written-most: the gapless form has at most 16,618 bytes
+--   gapless-reads, store-reads, written-reads: it is read as the same content, in a store too
+--   same-content, same-gapless: the same parts give the same content and the same gapless form
 use Prim.Native.Nat.{ℕ, zero, suc, _+_, _*_, _-_, _≤_, _<_}
 use mathlib.Core.Path.{_≡_, refl, sym, ap, _∙_}
 use mathlib.Core.Bool.{Bool, true, false, cond, _&&_, _||_}
 use mathlib.Core.Logic.{_↔_}
 use mathlib.Core.List.{List, [], _∷_, _++_}
-use native.Mathlib.Nat.{le-of-suc-le-suc, not-suc-le-zero}
 use native.Mathlib.Omega.{arith}
 use borrow.Author.Tests.{eqb-true, eq-eqb}
 use lib.Dec.{eqb}
 use lib.ListN.{length, getD, take, length-append, length-take, length-drop}
 use lib.Seq.{take-append-add}
-use Rattle.theory.specs.Formula.{Formula, bottom}
+use Rattle.theory.specs.Formula.{Formula}
 use Rattle.theory.specs.Lattice.{All}
 use Rattle.theory.specs.Part.{LatticePart, ModelShape}
 use Rattle.theory.specs.TestLaws.{and-l, and-r}
@@ -21,15 +28,14 @@ use Rattle.lattice.specs.Accepted.{explicit-out}
 use Rattle.model.specs.Places.{prod-le}
 use Rattle.model.specs.Reading.{modelTest}
 use Rattle.model.specs.Accepted.{accepted-shape}
-use Rattle.formula.specs.Bytes.{FormulaReading, formulaReading}
 use Rattle.formula.specs.RoundTrip.{formula-part}
 use Rattle.casefile.specs.Directory.{partCount, partSize, partAt, partsFrom, partsOf}
-use Rattle.casefile.specs.Reading.{Content, contentParts, FormulasReading, readOne, formulasReading, afterFormulas, modelsReading, afterLattice, partsReading, caseReading, storeReading, refused, content, refusedAt, read}
+use Rattle.casefile.specs.Reading.{Content, contentParts, FormulasReading, formulasReading, afterFormulas, modelsReading, afterLattice, partsReading, caseReading, storeReading, refused, content, refusedAt, read}
 use Rattle.casefile.specs.Gapless.{joined, gapless}
 use Rattle.casefile.specs.Placed.{placed-reading, accepted-placed}
-use Rattle.casefile.specs.Conditions.{Placed}
+use Rattle.casefile.specs.Conditions.{Placed, FormulasRead, PartsRead}
 use Rattle.casefile.specs.Laid.{gapless-length, gapless-reading}
-use Rattle.casefile.specs.Conditions.{FormulasRead, PartsRead}
+use Rattle.casefile.specs.FormulaParts.{formulas-read, read-less}
 
 -- the content is that of the parts l, m1, m2 and fs
 pub record ContentOf (l m1 m2 : List ℕ) (fs : List (List ℕ)) (c : Content) : Type 0 where
@@ -125,47 +131,6 @@ case-exactly b c = (λ e. let a = accepted-case b c e in (a .placed, a .parts, a
     back p s r =
         let q : partAt b 0 ∷ partAt b 1 ∷ partAt b 2 ∷ partsFrom b 3 (partCount b - 3) ≡ contentParts c = sym (parts-four b (p .directory .count-least)) ∙ s in
         placed-reading b p ∙ cc (q, parts-read c r)
-
--- ---- the formulas of formula parts
-
--- one part more, and one less
-read-more : (k : ℕ) (p : List ℕ) (ps : List (List ℕ)) (φ : Formula) (φs : List Formula) → formulaReading k p ≡ FormulaReading.read φ → FormulasRead k ps φs → FormulasRead k (p ∷ ps) (φ ∷ φs)
-read-more k p ps φ φs e h = record { as-many = ap suc (h .as-many); each = each }
-  where
-    each : (f : ℕ) → f < length (φ ∷ φs) → formulaReading k (getD (p ∷ ps) f []) ≡ FormulaReading.read (getD (φ ∷ φs) f bottom)
-    each zero l = e
-    each (suc f) l = h .each f (le-of-suc-le-suc l)
-
-read-less : (k : ℕ) (p : List ℕ) (ps : List (List ℕ)) (φ : Formula) (φs : List Formula) → FormulasRead k (p ∷ ps) (φ ∷ φs) → (formulaReading k p ≡ FormulaReading.read φ) × FormulasRead k ps φs
-read-less k p ps φ φs h = (h .each 0 (omega arith), record { as-many = omega (arith, h .as-many); each = λ f l. h .each (suc f) (omega arith) })
-
--- a refused part is named, whatever follows it, and then no formulas are read
-refused-named : (i : ℕ) (y : FormulasReading) → readOne i FormulaReading.refused y ≡ refusedAt i
-refused-named i y = refl
-
-named-unread : {i : ℕ} {φs : List Formula} → refusedAt i ≡ read φs → ⊥
-named-unread e = let z : _≡_ {A = ℕ} 0 1 = cc in omega arith
-
-pub formulas-read : (k i : ℕ) (ps : List (List ℕ)) (φs : List Formula) → formulasReading k i ps ≡ read φs → FormulasRead k ps φs
-unfolding formulasReading
-formulas-read k i [] φs e = let q : φs ≡ [] = cc in rw q (record { as-many = refl; each = λ f l. absurd (not-suc-le-zero l) })
-formulas-read k i (p ∷ ps) φs e = go (formulaReading k p) refl (formulasReading k (suc i) ps) (formulas-read k (suc i) ps) e
-  where
-    go : (x : FormulaReading) → formulaReading k p ≡ x → (y : FormulasReading) → ((ψs : List Formula) → y ≡ read ψs → FormulasRead k ps ψs) → readOne i x y ≡ read φs → FormulasRead k (p ∷ ps) φs
-    go FormulaReading.refused f y h u = absurd (named-unread (sym (refused-named i y) ∙ u))
-    go (FormulaReading.read φ) f (refusedAt j) h u = absurd (named-unread u)
-    go (FormulaReading.read φ) f (read ψs) h u = let q : φs ≡ φ ∷ ψs = cc in rw q (read-more k p ps φ ψs f (h ψs refl))
-
-read-formulas : (k i : ℕ) (ps : List (List ℕ)) (φs : List Formula) → FormulasRead k ps φs → formulasReading k i ps ≡ read φs
-unfolding formulasReading
-read-formulas k i [] [] h = refl
-read-formulas k i [] (φ ∷ φs) h = absurd (omega (arith, h .as-many))
-read-formulas k i (p ∷ ps) [] h = absurd (omega (arith, h .as-many))
-read-formulas k i (p ∷ ps) (φ ∷ φs) h = let w = read-less k p ps φ φs h in simp (w .0, read-formulas k (suc i) ps φs (w .1))
-
--- Parts are read as formulas exactly when there are as many of both and each part is read as its formula; i is the first part's number.
-pub formulas-exactly : (k i : ℕ) (ps : List (List ℕ)) (φs : List Formula) → (formulasReading k i ps ≡ read φs) ↔ FormulasRead k ps φs
-formulas-exactly k i ps φs = (formulas-read k i ps φs, read-formulas k i ps φs)
 
 -- ---- lengths
 

@@ -22,7 +22,8 @@ use Rattle.casefile.specs.Reading.{Content, CaseReading, FormulasReading
 use Rattle.casefile.specs.Answer.{caseAnswer, CaseAnswered}
 use Rattle.casefile.specs.Placed.{placed-reading}
 use Rattle.casefile.specs.Conditions.{Placed}
-use Rattle.casefile.specs.Accepted.{formulas-read, ContentOf, refused-content, content-of, parts-length}
+use Rattle.casefile.specs.FormulaParts.{formulas-read}
+use Rattle.casefile.specs.Accepted.{ContentOf, refused-content, content-of, parts-length}
 use Rattle.casefile.specs.Steps.{formulasAnswer, restOf, restAnswer, afterSecond, secondAnswer, afterFirst, modelsAnswer, afterChecked, PartsAnswered}
 
 -- model 2 with the same k, and with another

@@ -1,5 +1,9 @@
 -- Conditions on a case: what functions on an accepted case ask for, and what its parts have to be. Rests on Directory, Reading, and on what a
 -- single part has to be: lattice's DeMorgan, theory's Part, formula's Bytes.
+--   PartPlaced, HasDirectory, Placed: the parts stand where they may
+--   PartsRead, FormulasRead: each part passes its own test
+--   CaseOf: a string of bytes is a case of document 01 that holds a content
+--   SameWhereRead: two strings of bytes agree wherever one is read
 use Prim.Native.Nat.{ℕ, _≤_, _<_}
 use mathlib.Core.Path.{_≡_}
 use mathlib.Core.Bool.{true}

@@ -14,7 +14,8 @@ use Rattle.model.specs.Accepted.{accepted-shape, accepted-valued}
 use Rattle.casefile.specs.Directory.{partCount, partAt}
 use Rattle.casefile.specs.Reading.{Content, contentParts, caseReading, content}
 use Rattle.casefile.specs.Placed.{part-of}
-use Rattle.casefile.specs.Accepted.{formulas-read, parts-length, accepted-case}
+use Rattle.casefile.specs.FormulaParts.{formulas-read}
+use Rattle.casefile.specs.Accepted.{parts-length, accepted-case}
 use Rattle.casefile.specs.Conditions.{PartsRead, FormulasRead}
 
 pub record ContentSound (c : Content) : Type 0 where

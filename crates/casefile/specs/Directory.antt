@@ -1,4 +1,7 @@
 -- The directory of a case: where its parts stand, and whether they may stand there. Rests on theory's Test.
+--   partCount, directoryEnd, wordAt, partStart, partSize, partEnd, endBefore: what the directory says
+--   sizeTest, directoryTest, placed, misplaced: refusals 1, 2 and 3
+--   partAt, partsFrom, partsOf: the bytes of the parts
 use Prim.Native.Nat.{ℕ, zero, suc, _+_, _*_}
 use mathlib.Core.Bool.{Bool, not, _&&_}
 use mathlib.Core.List.{List, [], _∷_}

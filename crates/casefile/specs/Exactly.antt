@@ -15,7 +15,8 @@ use Rattle.formula.specs.RoundTrip.{reading-exact}
 use Rattle.casefile.specs.Directory.{partsOf}
 use Rattle.casefile.specs.Reading.{Content, contentParts, caseReading, content}
 use Rattle.casefile.specs.Conditions.{Placed}
-use Rattle.casefile.specs.Accepted.{formulas-exactly, case-exactly}
+use Rattle.casefile.specs.FormulaParts.{formulas-exactly}
+use Rattle.casefile.specs.Accepted.{case-exactly}
 use Rattle.casefile.specs.Conditions.{PartsRead, FormulasRead}
 use Rattle.casefile.specs.Conditions.{CaseOf}
 

@@ -7,7 +7,7 @@ use Rattle.theory.specs.Part.{topOf, botOf, explicitPart}
 use Rattle.theory.specs.Test.{allBelow, firstBelow}
 use Rattle.theory.specs.Examples.{L3, middleP}
 use Rattle.lattice.specs.Examples.{L3-accepted}
-use Rattle.model.specs.Examples.{middleP-accepted}
+use Rattle.model.specs.Examples.{L3-models}
 use Rattle.formula.specs.Bytes.{byCode, parse, formulaReading}
 use Rattle.casefile.specs.declared.CaseCheck.the-variants.{Accepted}
 use Rattle.casefile.specs.Directory.{partStart, partSize, placed, misplaced, partsFrom, partsOf}
@@ -56,8 +56,8 @@ unfolding boundBy overProps nestedBinders byCode parse formulaReading formulasRe
 report-parts =
     record {
       lattice-read = L3-accepted;
-      model1-read = middleP-accepted;
-      model2-read = middleP-accepted;
+      model1-read = L3-models .0;
+      model2-read = L3-models .0;
       same-propositions = refl;
       formulas-read = refl;
     }

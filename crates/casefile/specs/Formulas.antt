@@ -1,4 +1,6 @@
 -- For a loop over the formula parts: the answer is that of the parts still to come. Rests on Answer.
+--   FormulasUpto: the first f of n formula parts are formulas; formulas-none, formulas-more, formulas-stop, formulas-done
+--   answerFrom: the answer for the parts from part i on
 use Prim.Native.Nat.{ℕ, suc, _+_, _-_, _≤_, _<_}
 use mathlib.Core.Path.{_≡_, refl, sym, ap, ap₂, _∙_}
 use mathlib.Core.Bool.{true, false}

@@ -1,7 +1,10 @@
--- The gapless case of a list of parts. Rests on nothing.
+-- The gapless case of a list of parts, and of the parts of a case. Rests on Directory.
+--   word, pairs, joined, directory, gapless: a number, the pairs, the parts' bytes, the count with the pairs, and the whole
+--   pairsOf, joinedOf, gaplessOf: the same for the parts of a case
 use Prim.Native.Nat.{ℕ, _+_, _*_, _/_, _%_}
 use mathlib.Core.List.{List, [], _∷_, _++_}
 use lib.ListN.{length}
+use Rattle.casefile.specs.Directory.{directoryEnd, partsOf}
 
 -- a number of 16 bits, low byte first, before b
 abbrev pub word : ℕ → List ℕ → List ℕ
@@ -24,3 +27,13 @@ directory ps = length ps ∷ pairs (1 + 4 * length ps) ps
 unfoldable pub gapless : List (List ℕ) → List ℕ
 unfolding pairs joined
 gapless ps = directory ps ++ joined ps
+
+-- the pairs, the bytes of the parts, and the whole, for the parts of the case b
+abbrev pub pairsOf : List ℕ → List ℕ
+pairsOf b = pairs (directoryEnd b) (partsOf b)
+
+abbrev pub joinedOf : List ℕ → List ℕ
+joinedOf b = joined (partsOf b)
+
+abbrev pub gaplessOf : List ℕ → List ℕ
+gaplessOf b = gapless (partsOf b)

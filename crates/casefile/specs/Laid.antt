@@ -1,4 +1,7 @@
 -- The gapless case of a list of parts, with any bytes after it, is read as these parts. Rests on Gapless and Placed.
+--   gapless-reading: the gapless case of 3 to 11 parts, none empty, is read as these parts
+--   LaidOne, Laid, laid, laid-part, laid-parts, laid-placed: parts that stand one after the other
+--   pairs-length, gapless-length, gapless-laid, gapless-count: of the gapless case
 use Prim.Native.Nat.{ℕ, suc, _+_, _*_, _-_, _≤_, _<_}
 use mathlib.Core.Path.{_≡_, refl, sym, ap, ap₂, _∙_}
 use mathlib.Core.Logic.{⊎-elim}

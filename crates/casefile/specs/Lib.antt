@@ -9,6 +9,7 @@ pub mod Conditions
 pub mod Placed
 pub mod Unread
 pub mod Laid
+pub mod FormulaParts
 pub mod Accepted
 pub mod Exactly
 pub mod Content

@@ -1,4 +1,8 @@
 -- What holds of a case whose size, directory and places are right. Rests on Directory and Reading.
+--   placed-reading, accepted-placed: a placed case is read part by part, and an accepted case is placed
+--   parts-apart, parts-sorted: a part ends before every later one starts
+--   part-placed, placed-part, has-directory, none-misplaced, all-placed, misplaced-none: the tests as statements
+--   part-of: part i of the list of parts
 use Prim.Native.Nat.{ℕ, zero, suc, _+_, _-_, _≤_, _<_}
 use mathlib.Core.Path.{_≡_, refl, sym, ap, _∙_}
 use mathlib.Core.Bool.{Bool, true, false, cond, not, _&&_}

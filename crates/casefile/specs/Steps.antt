@@ -1,4 +1,6 @@
 -- What the steps of the check answer, and what the steps of the writer leave in a buffer. Rests on Answer and Gapless.
+--   wellPlaced, isRead, formulasAnswer, restAnswer, secondAnswer, modelsAnswer, partsAnswer, PartsAnswered: what the steps of the check answer
+--   withWord, withPair, withPairs, withParts: what the steps of the writer leave in a buffer
 use Prim.Native.Nat.{ℕ, _+_, _*_, _-_, _/_, _%_}
 use mathlib.Core.Path.{_≡_}
 use mathlib.Core.Bool.{Bool, true, false, cond, _&&_}
@@ -12,6 +14,7 @@ use Rattle.casefile.specs.declared.CaseCheck.{CaseCheck}
 use Rattle.casefile.specs.declared.CaseCheck.the-variants.{Refused, Accepted}
 use Rattle.casefile.specs.declared.FormulasCheck.{FormulasCheck}
 use Rattle.casefile.specs.declared.FormulasCheck.the-variants.{RefusedAt, Read}
+use Rattle.theory.specs.Lists.{written}
 use Rattle.refusal.specs.declared.Refusal.the-variants.{BadModel, BadFormula}
 use Rattle.lattice.specs.Reading.{accepted, latticeReading}
 use Rattle.lattice.specs.Answer.{boundsOf, latticeAnswer}
@@ -21,7 +24,8 @@ use Rattle.model.specs.Reading.{modelAnswer}
 use Rattle.formula.specs.Bytes.{FormulaReading}
 use Rattle.formula.specs.Answer.{checked}
 use Rattle.formula.specs.declared.FormulaCheck.{FormulaCheck}
-use Rattle.casefile.specs.Directory.{partCount, partStart, partSize, partEnd, partAt, partsFrom}
+use Rattle.casefile.specs.Directory.{partCount, directoryEnd, partStart, partSize, partEnd, partAt, partsFrom}
+use Rattle.casefile.specs.Gapless.{pairsOf, joinedOf}
 use Rattle.casefile.specs.Reading.{FormulasReading, formulasReading, refusedAt, read}
 
 -- ---- the check
@@ -87,3 +91,10 @@ withWord d at x = set (set d at (x % 256)) (at + 1) (x / 256)
 
 abbrev pub withPair : List ℕ → ℕ → ℕ → ℕ → List ℕ
 withPair d i start size = withWord (withWord d (1 + 4 * i) start) (3 + 4 * i) size
+
+-- d with the pairs of the parts of b, and with the parts themselves, where they stand in the gapless case
+abbrev pub withPairs : List ℕ → List ℕ → List ℕ
+withPairs b d = written 1 (pairsOf b) d
+
+abbrev pub withParts : List ℕ → List ℕ → List ℕ
+withParts b d = written (directoryEnd b) (joinedOf b) d

@@ -1,4 +1,12 @@
 -- For loops that write bytes one after the other: what stands so far, and what is still to come. Rests on Gapless and Accepted.
+--   Appended: the first bytes of a buffer are written, and with the rest they are a whole; its laws are appended-start, -left, -length,
+--     -byte, -part, -done, -last, -word
+--   copied, pair-put: a copy byte by byte, and a pair by two words
+--   gapless-fits, directory-fits: a placed case is at least as long as its gapless form, and a buffer for that holds the directory
+--   Writing: where a loop over the parts has come to, and its two kinds, PairsWritten and PartsWritten
+--   writing-start; pairs-turn, parts-turn; writing-end, writing-done: its begin, its turns and its end
+--   Room, writing-room, pairs-kept, parts-kept: what a turn asks for, and that the buffer has its length
+--   case-written: the count, the pairs and the parts are the gapless case
 use Prim.Native.Nat.{ℕ, zero, suc, _+_, _*_, _-_, _/_, _%_, _≤_, _<_}
 use mathlib.Core.Path.{_≡_, refl, sym, subst, ap, ap₂, _∙_}
 use mathlib.Core.List.{List, [], _∷_, _++_, append-assoc, append-nil}
@@ -8,12 +16,12 @@ use native.Mathlib.Omega.{arith}
 use lib.ListN.{length, getD, take, drop, set, length-append, length-drop, take-append-drop}
 use lib.Seq.{length-take-le, take-length, take-at, drop-cons, drop-append-add, drop-drop, set-at, paste}
 use Rattle.theory.specs.Lists.{written}
-use Rattle.casefile.specs.Directory.{partCount, partStart, partSize, partAt, partsFrom, partsOf}
-use Rattle.casefile.specs.Gapless.{word, pairs, joined, gapless}
+use Rattle.casefile.specs.Directory.{partCount, directoryEnd, partStart, partSize, partAt, partsFrom, partsOf}
+use Rattle.casefile.specs.Gapless.{word, pairs, joined, gapless, pairsOf, joinedOf, gaplessOf}
 use Rattle.casefile.specs.Conditions.{Placed}
 use Rattle.casefile.specs.Laid.{pairs-length, gapless-length}
 use Rattle.casefile.specs.Accepted.{part-length, parts-length}
-use Rattle.casefile.specs.Steps.{withWord, withPair}
+use Rattle.casefile.specs.Steps.{withWord, withPair, withPairs, withParts}
 
 -- d was the buffer at first, out is it now. The first `at` bytes are written; with `rest` after them they are `whole`
 pub record Appended (d out : List ℕ) (at : ℕ) (rest whole : List ℕ) : Type 0 where
@@ -111,135 +119,132 @@ gapless-parts : (b : List ℕ) → gapless (partsOf b) ≡ partCount b ∷ pairs
 unfolding gapless
 gapless-parts b = ap (λ (n : ℕ). n ∷ pairs (1 + 4 * n) (partsOf b) ++ joined (partsOf b)) (parts-length b 0 (partCount b))
 
--- ---- a turn of each loop
+-- ---- the loops over the parts
 
--- the parts from part i on begin with part i
-parts-next : (b : List ℕ) (i : ℕ) → i < partCount b → partsFrom b i (partCount b - i) ≡ partAt b i ∷ partsFrom b (i + 1) (partCount b - (i + 1))
+-- the parts from part i on, which begin with part i
+abbrev pub partsLeft : List ℕ → ℕ → List (List ℕ)
+partsLeft b i = partsFrom b i (partCount b - i)
+
+parts-next : (b : List ℕ) (i : ℕ) → i < partCount b → partsLeft b i ≡ partAt b i ∷ partsLeft b (i + 1)
 unfolding partsFrom
 parts-next b i l =
     let e : partCount b - i ≡ suc (partCount b - (i + 1)) = omega arith in
     ap (partsFrom b i) e ∙ rw add-one refl
 
--- the parts from part i on are still to be written at `at`, in a buffer that was d
-pub record PartsWritten (b d out : List ℕ) (i at : ℕ) : Type 0 where
-  pub appended : Appended d out at (joined (partsFrom b i (partCount b - i))) (take (1 + 4 * partCount b) d ++ joined (partsOf b))
+-- where such a loop has come to, in a buffer that was d. It writes, from the place `from` on, what f makes of the parts and of the offset of
+-- the first: the pairs, or the parts themselves. What is left of it, from part i on with the offset `at`, goes to `place`
+pub record Writing (f : ℕ → List (List ℕ) → List ℕ) (from : ℕ) (b d out : List ℕ) (i at place : ℕ) : Type 0 where
+  pub placed : Placed b
+  pub fits : length (gaplessOf b) ≤ length d
+  pub front : from ≤ directoryEnd b
+  pub appended : Appended d out place (f at (partsLeft b i)) (take from d ++ f (directoryEnd b) (partsOf b))
+  pub offset : at + length (joined (partsLeft b i)) ≡ length (gaplessOf b)
 
--- the pairs from part i on are still to be written, that of part i with the offset `at`
-pub record PairsWritten (b d out : List ℕ) (i at : ℕ) : Type 0 where
-  pub appended : Appended d out (1 + 4 * i) (pairs at (partsFrom b i (partCount b - i))) (take 1 d ++ pairs (1 + 4 * partCount b) (partsOf b))
-  pub offset : at + length (joined (partsFrom b i (partCount b - i))) ≡ length (gapless (partsOf b))
+abbrev pub PairsWritten : List ℕ → List ℕ → List ℕ → ℕ → ℕ → Type 0
+PairsWritten b d out i at = Writing pairs 1 b d out i at (1 + 4 * i)
 
--- there is room for the pair of part i, and its offset is of 16 bits
-pub record PairRoom (b out : List ℕ) (i at : ℕ) : Type 0 where
-  pub offset-small : at < 65536
-  pub next-small : at + partSize b i < 65536
-  pub room : 4 + 4 * i < length out
+abbrev pub PartsWritten : List ℕ → List ℕ → List ℕ → ℕ → ℕ → Type 0
+PartsWritten b d out i at = Writing (λ n. joined) (directoryEnd b) b d out i at at
 
--- there is room for part i
-pub record PartRoom (b out : List ℕ) (i at : ℕ) : Type 0 where
-  pub room : at + length (partAt b i) ≤ length out
-  pub next-small : at + length (partAt b i) < 65536
+-- what a turn asks for: the directory and part i are within the buffer, and the part's end is of 16 bits
+pub record Room (b d : List ℕ) (i at : ℕ) : Type 0 where
+  pub directory-in : directoryEnd b ≤ length d
+  pub part-in : at + length (partAt b i) ≤ length d
+  pub end-small : at + length (partAt b i) < 65536
+  pub sized : length (partAt b i) ≡ partSize b i
 
-module _ (b d : List ℕ) (p : Placed b) (fits : length (gapless (partsOf b)) ≤ length d) where
-  -- the directory fits
-  pub directory-fits : 1 + 4 * partCount b ≤ length d
-  directory-fits = omega (arith, gapless-length (partsOf b), parts-length b 0 (partCount b))
+pub directory-fits : (b d : List ℕ) → length (gaplessOf b) ≤ length d → directoryEnd b ≤ length d
+directory-fits b d l = omega (arith, gapless-length (partsOf b), parts-length b 0 (partCount b))
 
-  pub pairs-start : PairsWritten b d d 0 (1 + 4 * partCount b)
-  pairs-start =
-      let e : partCount b - 0 ≡ partCount b = omega arith in
+pub writing-start : (f : ℕ → List (List ℕ) → List ℕ) (from : ℕ) {b d : List ℕ} → Placed b → length (gaplessOf b) ≤ length d → from ≤ directoryEnd b → Writing f from b d d 0 (directoryEnd b) from
+writing-start f from {b} {d} p l m =
+    let e : partCount b - 0 ≡ partCount b = omega arith in
+    record {
+      placed = p;
+      fits = l;
+      front = m;
+      appended = rw e (appended-start d from (f (directoryEnd b) (partsOf b)) (omega (arith, directory-fits b d l)));
+      offset = rw e (omega (arith, gapless-length (partsOf b), parts-length b 0 (partCount b)));
+    }
+
+module _ {f : ℕ → List (List ℕ) → List ℕ} {from : ℕ} {b d out : List ℕ} {i at place : ℕ} (w : Writing f from b d out i at place) where
+  offset-next : i < partCount b → at + length (partAt b i) + length (joined (partsLeft b (i + 1))) ≡ length (gaplessOf b)
+  unfolding joined
+  offset-next l = omega (arith, rw (parts-next b i l) at (w .offset), length-append (partAt b i) (joined (partsLeft b (i + 1))))
+
+  pub writing-room : i < partCount b → Room b d i at
+  writing-room l =
       record {
-        appended = rw e (appended-start d 1 (pairs (1 + 4 * partCount b) (partsOf b)) (omega (arith, directory-fits)));
-        offset = rw e (omega (arith, gapless-length (partsOf b), parts-length b 0 (partCount b)));
+        directory-in = directory-fits b d (w .fits);
+        part-in = omega (arith, offset-next l, w .fits);
+        end-small = omega (arith, offset-next l, gapless-fits b (w .placed), w .placed .directory .size-most);
+        sized = part-length b (w .placed) i l;
       }
 
-  pub pairs-turn : (out next : List ℕ) (i at size : ℕ) → PairsWritten b d out i at → i < partCount b → size ≡ partSize b i → next ≡ withPair out i at size → PairsWritten b d next (i + 1) (at + size)
-  unfolding pairs joined
-  pairs-turn out next i at size h l e f =
-      let n = parts-next b i l in
-      let m : length (partAt b i) ≡ size = part-length b p i l ∙ sym e in
+  pub writing-end : partCount b ≤ i → at ≡ length (gaplessOf b)
+  unfolding partsFrom joined
+  writing-end l = let e : partCount b - i ≡ 0 = omega arith in omega (arith, rw e at (w .offset))
+
+  pub writing-done : f at [] ≡ [] → partCount b ≤ i → out ≡ written from (f (directoryEnd b) (partsOf b)) d
+  unfolding partsFrom
+  writing-done none l =
+      let e : partCount b - i ≡ 0 = omega arith in
+      let x = f (directoryEnd b) (partsOf b) in
+      let k : length (take from d ++ x) ≡ from + length x = omega (arith, length-append (take from d) x, length-take-le from d (omega (arith, w .front, directory-fits b d (w .fits)))) in
+      appended-done (rw (e, none) at (w .appended)) ∙ rw k refl
+
+module _ {b d out : List ℕ} {i at : ℕ} where
+  -- a turn that writes the pair of part i
+  pub pairs-turn : {next : List ℕ} (size : ℕ) → PairsWritten b d out i at → i < partCount b → size ≡ partSize b i → next ≡ withPair out i at size → PairsWritten b d next (i + 1) (at + size)
+  unfolding pairs
+  pairs-turn size w l e g =
+      let r = writing-room w l in
+      let m : length (partAt b i) ≡ size = r .sized ∙ sym e in
       let k : 1 + 4 * i + 2 ≡ 3 + 4 * i = omega arith in
-      let g : 3 + 4 * i + 2 ≡ 1 + 4 * (i + 1) = omega arith in
-      let w = rw (n, m) at (h .appended) in
-      let v = rw k at (appended-word at w (omega (arith, directory-fits))) in
-      rw f
+      let z : 3 + 4 * i + 2 ≡ 1 + 4 * (i + 1) = omega arith in
+      let v = rw k at (appended-word at (rw (parts-next b i l, m) at (w .appended)) (omega (arith, r .directory-in))) in
+      rw g
       (record {
-        appended = rw g at (appended-word size v (omega (arith, directory-fits)));
-        offset = omega (arith, rw n at (h .offset), length-append (partAt b i) (joined (partsFrom b (i + 1) (partCount b - (i + 1)))));
+        placed = w .placed;
+        fits = w .fits;
+        front = w .front;
+        appended = rw z at (appended-word size v (omega (arith, r .directory-in)));
+        offset = rw m at (offset-next w l);
       })
 
-  pub pairs-kept : (out : List ℕ) (i at : ℕ) → PairsWritten b d out i at → i ≤ partCount b → length out ≡ length d
-  pairs-kept out i at h l = appended-length (h .appended) (omega (arith, directory-fits))
-
-  -- what a turn asks for
-  pub pairs-room : (out : List ℕ) (i at : ℕ) → PairsWritten b d out i at → i < partCount b → PairRoom b out i at
+  -- a turn that writes part i
+  pub parts-turn : {next q : List ℕ} → PartsWritten b d out i at → i < partCount b → q ≡ partAt b i → next ≡ written at q out → PartsWritten b d next (i + 1) (at + length q)
   unfolding joined
-  pairs-room out i at h l =
-      let k = rw (parts-next b i l) at (h .offset) in
-      let m = length-append (partAt b i) (joined (partsFrom b (i + 1) (partCount b - (i + 1)))) in
-      record {
-        offset-small = omega (arith, h .offset, gapless-fits b p, p .directory .size-most);
-        next-small = omega (arith, k, m, part-length b p i l, gapless-fits b p, p .directory .size-most);
-        room = omega (arith, pairs-kept out i at h (omega arith), directory-fits);
-      }
+  parts-turn w l e g =
+      rw (g, e)
+      (record {
+        placed = w .placed;
+        fits = w .fits;
+        front = w .front;
+        appended = appended-part (partAt b i) (rw (parts-next b i l) at (w .appended));
+        offset = offset-next w l;
+      })
 
-  pub pairs-done : (out : List ℕ) (i at : ℕ) → PairsWritten b d out i at → i ≤ partCount b → partCount b ≤ i → out ≡ written 1 (pairs (1 + 4 * partCount b) (partsOf b)) d
-  unfolding partsFrom pairs
-  pairs-done out i at h l m =
-      let e : partCount b - i ≡ 0 = omega arith in
-      let x = pairs (1 + 4 * partCount b) (partsOf b) in
-      let k : length (take 1 d ++ x) ≡ 1 + length x = omega (arith, length-append (take 1 d) x, length-take-le 1 d (omega (arith, directory-fits))) in
-      appended-done (rw e at (h .appended)) ∙ rw k refl
+  pub pairs-kept : PairsWritten b d out i at → i ≤ partCount b → length out ≡ length d
+  pairs-kept w l = appended-length (w .appended) (omega (arith, directory-fits b d (w .fits)))
 
-  pub parts-start : PartsWritten b d d 0 (1 + 4 * partCount b)
-  parts-start =
-      let e : partCount b - 0 ≡ partCount b = omega arith in
-      record { appended = rw e (appended-start d (1 + 4 * partCount b) (joined (partsOf b)) directory-fits) }
+  pub parts-kept : PartsWritten b d out i at → length out ≡ length d
+  parts-kept w = appended-length (w .appended) (omega (arith, w .offset, w .fits))
 
-  -- the length of what is written in the end
-  parts-whole : length (take (1 + 4 * partCount b) d ++ joined (partsOf b)) ≡ length (gapless (partsOf b))
-  parts-whole = omega (arith, length-append (take (1 + 4 * partCount b) d) (joined (partsOf b)), length-take-le (1 + 4 * partCount b) d directory-fits, gapless-length (partsOf b), parts-length b 0 (partCount b))
+-- ---- the whole case
 
-  pub parts-kept : (out : List ℕ) (i at : ℕ) → PartsWritten b d out i at → length out ≡ length d
-  parts-kept out i at h = appended-length (h .appended) (omega (arith, appended-left (h .appended), parts-whole))
-
-  -- what a turn asks for
-  pub parts-room : (out : List ℕ) (i at : ℕ) → PartsWritten b d out i at → i < partCount b → PartRoom b out i at
-  unfolding joined
-  parts-room out i at h l =
-      let w = rw (parts-next b i l) at (h .appended) in
-      let m = length-append (partAt b i) (joined (partsFrom b (i + 1) (partCount b - (i + 1)))) in
-      let n : at + length (partAt b i) ≤ length (gapless (partsOf b)) = omega (arith, appended-left w, parts-whole) in
-      record { room = omega (arith, parts-kept out i at h); next-small = omega (arith, gapless-fits b p, p .directory .size-most) }
-
-  pub parts-turn : (out next q : List ℕ) (i at : ℕ) → PartsWritten b d out i at → i < partCount b → q ≡ partAt b i → next ≡ written at q out → PartsWritten b d next (i + 1) (at + length q)
-  unfolding joined
-  parts-turn out next q i at h l e f = rw (f, e) (record { appended = appended-part (partAt b i) (rw (parts-next b i l) at (h .appended)) })
-
-  pub parts-end : (out : List ℕ) (i at : ℕ) → PartsWritten b d out i at → partCount b ≤ i → at ≡ length (gapless (partsOf b))
-  unfolding partsFrom joined
-  parts-end out i at h l =
-      let e : partCount b - i ≡ 0 = omega arith in
-      omega (arith, appended-left (rw e at (h .appended)), parts-whole)
-
-  pub parts-done : (out : List ℕ) (i at : ℕ) → PartsWritten b d out i at → i ≤ partCount b → partCount b ≤ i → out ≡ written (1 + 4 * partCount b) (joined (partsOf b)) d
-  unfolding partsFrom joined
-  parts-done out i at h l m =
-      let e : partCount b - i ≡ 0 = omega arith in
-      let k : length (take (1 + 4 * partCount b) d ++ joined (partsOf b)) ≡ 1 + 4 * partCount b + length (joined (partsOf b)) = omega (arith, parts-whole, gapless-length (partsOf b), parts-length b 0 (partCount b)) in
-      appended-done (rw e at (h .appended)) ∙ rw k refl
-
+module _ (b d : List ℕ) (fits : length (gaplessOf b) ≤ length d) where
   -- the count, the pairs and the parts, one after the other
-  pub gapless-written : written (1 + 4 * partCount b) (joined (partsOf b)) (written 1 (pairs (1 + 4 * partCount b) (partsOf b)) (set d 0 (partCount b))) ≡ written 0 (gapless (partsOf b)) d
+  pub gapless-written : withParts b (withPairs b (set d 0 (partCount b))) ≡ written 0 (gaplessOf b) d
   gapless-written =
-      let x = pairs (1 + 4 * partCount b) (partsOf b) in
-      let j = joined (partsOf b) in
+      let x = pairsOf b in
+      let j = joinedOf b in
       let n : 1 + length x ≡ 1 + 4 * partCount b = omega (arith, pairs-length (1 + 4 * partCount b) (partsOf b), parts-length b 0 (partCount b)) in
       let s : Appended d d 0 (partCount b ∷ x ++ j) (partCount b ∷ x ++ j) = record { front = []; front-length = refl; goes-on = refl; holds = refl } in
-      let w = appended-part x (appended-byte (partCount b) s (omega (arith, directory-fits))) in
+      let w = appended-part x (appended-byte (partCount b) s (omega (arith, directory-fits b d fits))) in
       appended-last j (subst (λ (k : ℕ). Appended d (written 1 x (set d 0 (partCount b))) k j (partCount b ∷ x ++ j)) n w)
       ∙ ap (λ (g : List ℕ). g ++ drop (length g) d) (sym (gapless-parts b))
-      ∙ ap (λ (n : ℕ). gapless (partsOf b) ++ drop n d) (sym (zero-add (length (gapless (partsOf b)))))
+      ∙ ap (λ (n : ℕ). gaplessOf b ++ drop n d) (sym (zero-add (length (gaplessOf b))))
 
-  pub case-written : (e f : List ℕ) → e ≡ written 1 (pairs (1 + 4 * partCount b) (partsOf b)) (set d 0 (partCount b)) → f ≡ written (1 + 4 * partCount b) (joined (partsOf b)) e → f ≡ written 0 (gapless (partsOf b)) d
+  pub case-written : (e f : List ℕ) → e ≡ withPairs b (set d 0 (partCount b)) → f ≡ withParts b e → f ≡ written 0 (gaplessOf b) d
   case-written e f x y = y ∙ rw x gapless-written

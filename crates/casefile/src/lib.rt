@@ -1,20 +1,22 @@
 // Cases: the directory, the check of all parts, and the gapless case of the parts.
+mod writer;
+
 use formula::FormulaCheck;
 use lattice::LatticeCheck;
 use model::ModelCheck;
 use operations::Lattice;
 use refusal::Refusal;
 ghost use mathlib.Core.Path.{_≡_};
-ghost use Prim.Native.Nat.{_+_, _*_, _-_, _≤_, _<_};
+ghost use Prim.Native.Nat.{_+_, _-_, _≤_, _<_};
 ghost use lib.ListN.{length};
 ghost use Rattle.theory.specs.Lists.{written};
 ghost use Rattle.formula.specs.Bytes.{formulaReading};
-ghost use Rattle.casefile.specs.Directory.{partCount, wordAt, partStart, partSize, partEnd, sizeTest, directoryTest, misplaced, partAt, partsFrom, partsOf};
+ghost use Rattle.casefile.specs.Directory.{partCount, wordAt, partStart, partSize, partEnd, sizeTest, directoryTest, misplaced, partAt, partsFrom};
 ghost use Rattle.casefile.specs.Reading.{formulasReading};
-ghost use Rattle.casefile.specs.Gapless.{pairs, joined, gapless};
+ghost use Rattle.casefile.specs.Gapless.{gaplessOf};
 ghost use Rattle.casefile.specs.Answer.{CaseAnswered};
 ghost use Rattle.casefile.specs.Conditions.{HasDirectory, Placed};
-ghost use Rattle.casefile.specs.Steps.{wellPlaced, isRead, formulasAnswer, restAnswer, secondAnswer, modelsAnswer, PartsAnswered, withWord, withPair};
+ghost use Rattle.casefile.specs.Steps.{wellPlaced, isRead, formulasAnswer, restAnswer, secondAnswer, modelsAnswer, PartsAnswered};
 
 // What an accepted case holds: its lattice, and the sizes of its models and formulas.
 pub struct Sizes {
@@ -235,72 +237,12 @@ pub fn check(bytes: &[u8], t: &mut [u8; 12352]) -> CaseCheck
     check_parts(bytes, t)
 }
 
-// ---- the gapless case
-
-// Writes bytes at a place of a buffer.
-fn copy(part: &[u8], out: &mut [u8], at: usize)
-    requires { ⌜ at + length (now part) ≤ length (now out) ⌝ }
-    ensures { λ _. ⌜ now (out .exit) ≡ written at (now (part .entry)) (now (out .entry)) ⌝ }
-{
-    let count = part.len();
-    for j in 0..count {
-        out[at + j] = part[j];
-    }
-}
-
-// Writes a number of 16 bits, low byte first.
-fn put_word(out: &mut [u8], at: usize, x: usize)
-    requires { ⌜ (at + 1 < length (now out)) × (x < 65536) ⌝ }
-    ensures { λ _. ⌜ now (out .exit) ≡ withWord (now (out .entry)) at x ⌝ }
-{
-    out[at] = (x % 256) as u8;
-    out[at + 1] = (x / 256) as u8;
-}
-
-// Writes the pair of part i.
-fn put_pair(out: &mut [u8], i: u8, start: usize, size: usize)
-    requires { ⌜ (4 + 4 * i < length (now out)) × (start < 65536) × (size < 65536) ⌝ }
-    ensures { λ _. ⌜ now (out .exit) ≡ withPair (now (out .entry)) i start size ⌝ }
-{
-    put_word(out, 1 + 4 * operations::index(i), start);
-    put_word(out, 3 + 4 * operations::index(i), size);
-}
-
-// Writes the pairs of offset and length, for parts without gaps.
-fn write_pairs(bytes: &[u8], out: &mut [u8])
-    requires { ⌜ Placed (now bytes) × (length (gapless (partsOf (now bytes))) ≤ length (now out)) ⌝ }
-    ensures { λ _. ⌜ now (out .exit) ≡ written 1 (pairs (1 + 4 * partCount (now (bytes .entry))) (partsOf (now (bytes .entry)))) (now (out .entry)) ⌝ }
-{
-    let count = bytes[0];
-    let mut at = 1 + 4 * operations::index(count);
-    for i in 0..count {
-        let size = part_size(bytes, i);
-        put_pair(out, i, at, size);
-        at = at + size;
-    }
-}
-
-// Writes the bytes of the parts, one after the other, after the directory.
-fn write_parts(bytes: &[u8], out: &mut [u8]) -> usize
-    requires { ⌜ Placed (now bytes) × (length (gapless (partsOf (now bytes))) ≤ length (now out)) ⌝ }
-    ensures { λ r. ⌜ (r ≡ length (gapless (partsOf (now (bytes .entry))))) × (now (out .exit) ≡ written (1 + 4 * partCount (now (bytes .entry))) (joined (partsOf (now (bytes .entry)))) (now (out .entry))) ⌝ }
-{
-    let count = bytes[0];
-    let mut at = 1 + 4 * operations::index(count);
-    for i in 0..count {
-        let p = part(bytes, i);
-        copy(p, out, at);
-        at = at + p.len();
-    }
-    at
-}
-
 // Writes the gapless case of the parts of an accepted case, and says how many bytes it has. The bytes after it are kept.
 pub fn write(bytes: &[u8], out: &mut [u8]) -> usize
-    requires { ⌜ Placed (now bytes) × (length (gapless (partsOf (now bytes))) ≤ length (now out)) ⌝ }
-    ensures { λ r. ⌜ (r ≡ length (gapless (partsOf (now (bytes .entry))))) × (now (out .exit) ≡ written 0 (gapless (partsOf (now (bytes .entry)))) (now (out .entry))) ⌝ }
+    requires { ⌜ Placed (now bytes) × (length (gaplessOf (now bytes)) ≤ length (now out)) ⌝ }
+    ensures { λ r. ⌜ (r ≡ length (gaplessOf (now (bytes .entry)))) × (now (out .exit) ≡ written 0 (gaplessOf (now (bytes .entry))) (now (out .entry))) ⌝ }
 {
     out[0] = bytes[0];
-    write_pairs(bytes, out);
-    write_parts(bytes, out)
+    writer::write_pairs(bytes, out);
+    writer::write_parts(bytes, out)
 }

@@ -1,2 +1,3 @@
 -- Laws of `formula`
+pub mod Ends
 pub mod Laws

@@ -1,5 +1,8 @@
 -- Formulas as bytes in prefix form: the bytes of a formula, the parse, and when a formula part is refused.
 -- Rests on theory's Formula.
+--   bytesOf: the bytes of a formula
+--   parse, by byCode, numbered, unary and binary: a formula and the bytes after it (Parsed), to a depth
+--   allowed: the rules on a formula; formulaReading, by whole: what a part is read as (FormulaReading), or that it is refused
 use Prim.Native.Nat.{ℕ, zero, suc}
 use mathlib.Core.Bool.{Bool, cond, _&&_}
 use mathlib.Core.List.{List, [], _∷_, _++_}

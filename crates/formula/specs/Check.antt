@@ -1,4 +1,7 @@
 -- What the checker of formula parts answers, and what it answers at each position. Rests on Bytes.
+--   allowedUnder: the rules under d binders; endOf: the end of a formula that keeps them
+--   NodeIs, numberBelow: what the code answers at a place
+--   accepted-read, refused-read: what a caller learns from the check's answer
 use Prim.Native.Nat.{ℕ, _+_, _-_, _≤_}
 use mathlib.Core.Path.{_≡_, refl}
 use mathlib.Core.Bool.{Bool, cond, _&&_}

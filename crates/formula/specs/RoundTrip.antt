@@ -1,5 +1,9 @@
 -- The parse and the bytes of a formula are inverse to one another, so that a formula part is read as φ exactly when it is the bytes
 -- of φ, at most 255 of them, and φ is allowed. Rests on Bytes.
+--   reading-exact: a part is read as φ exactly when it is the bytes of φ, at most 255, and φ is allowed
+--   parse-bytes, bytes-parse, bytes-injective: parse and bytes are inverse to one another
+--   code-refused: a code from 11 on; parse-code, parse-nil: the parse by the first byte; bytes-length: a formula has a byte
+--   FormulaPart, formula-part: what is known of a part that is read
 use Prim.Native.Nat.{ℕ, zero, suc, _+_, _-_, _≤_, _<_}
 use mathlib.Core.Path.{_≡_, refl, sym, ap, _∙_}
 use mathlib.Core.Bool.{Bool, true, false, cond, _&&_}

@@ -1,4 +1,7 @@
 -- What holds of a model part that is accepted, and which are. Rests on Reading, Places, theory's Part, Model and Test.
+--   model-exactly: a part is accepted exactly when it has its shape and every value is an element
+--   accepted-shape, accepted-valued, shape-of, sizes-pass: what holds of an accepted part
+--   answers-accepted, answers-refused: what the code answers
 use Prim.Native.Nat.{ℕ, zero, suc, _+_, _*_, _-_, _/_, _%_, _≤_, _<_}
 use mathlib.Core.Path.{_≡_, refl, sym}
 use mathlib.Core.Bool.{Bool, true, false}

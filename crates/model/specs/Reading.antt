@@ -1,4 +1,6 @@
 -- When a model part is accepted, what the check answers, and where a part's values stand. Rests on theory's Part and Test.
+--   sizesTest, elementsOnly, modelTest: whether a part is a model part; modelAnswer: what the check answers
+--   labelRow, transitionRow: where the values of a state stand
 use Prim.Native.Nat.{ℕ, _+_, _*_, _-_}
 use mathlib.Core.Bool.{Bool, cond, _&&_}
 use mathlib.Core.List.{List}

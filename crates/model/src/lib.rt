@@ -1,11 +1,10 @@
 // States and propositions, and the values of a model part.
 use operations::Element;
 ghost use mathlib.Core.Path.{_≡_};
-ghost use Prim.Native.Nat.{_+_, _≤_, _<_};
+ghost use Prim.Native.Nat.{_+_, _*_, _≤_, _<_};
 ghost use lib.ListN.{length, getD};
 ghost use Rattle.theory.specs.Part.{modelOf, ModelShape};
-ghost use Rattle.model.specs.Reading.{labelRow, transitionRow};
-ghost use Rattle.model.specs.Reading.{modelAnswer};
+ghost use Rattle.model.specs.Reading.{modelAnswer, labelRow, transitionRow};
 
 // A state of a model, by its number.
 pub struct State(pub u8);
@@ -44,15 +43,20 @@ pub fn initial(m: &[u8], q: State) -> Element
     Element(m[2 + operations::index(q.0)])
 }
 
+// Where row q begins, of rows of `width` values that begin at `start`.
+fn row_at(start: usize, q: State, width: usize) -> usize
+    requires { ⌜ (start < 65536) × (width < 256) ⌝ }
+    ensures { λ r. ⌜ r ≡ start + q .0 * width ⌝ }
+{
+    start + operations::index(q.0) * width
+}
+
 // Where the proposition values of a state begin; there are k of them.
 pub fn label_row(m: &[u8], q: State) -> usize
     requires { ⌜ ModelShape (now m) × (q .0 < getD (now m) 0 0) ⌝ }
     ensures { λ r. ⌜ (r ≡ labelRow (now (m .entry)) (q .0)) × (r + getD (now (m .entry)) 1 0 ≤ length (now (m .entry))) ⌝ }
 {
-    let n = operations::index(m[0]);
-    let k = operations::index(m[1]);
-    let s = operations::index(q.0);
-    2 + n + s * k
+    row_at(2 + states(m), q, propositions(m))
 }
 
 // The value of a proposition at a state.
@@ -70,10 +74,8 @@ pub fn transition_row(m: &[u8], q: State) -> usize
     requires { ⌜ ModelShape (now m) × (q .0 < getD (now m) 0 0) ⌝ }
     ensures { λ r. ⌜ (r ≡ transitionRow (now (m .entry)) (q .0)) × (r + getD (now (m .entry)) 0 0 ≤ length (now (m .entry))) ⌝ }
 {
-    let n = operations::index(m[0]);
-    let k = operations::index(m[1]);
-    let s = operations::index(q.0);
-    2 + n + n * k + s * n
+    let n = states(m);
+    row_at(2 + n + n * propositions(m), q, n)
 }
 
 // The value of the transition from q to r.

@@ -1,4 +1,6 @@
 -- The operations of a lattice, read from tables. Rests on theory's Lattice.
+--   cell: where the entry of two elements stands
+--   atMostIn, meetIn, joinIn, complementIn: the lookups; opsIn: all of them as operations
 use Prim.Native.Nat.{ℕ, _+_, _*_, _%_}
 use mathlib.Core.Bool.{Bool}
 use mathlib.Core.List.{List}

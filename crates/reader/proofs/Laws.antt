@@ -1,4 +1,8 @@
 -- The token at a place, by the code that stands there, and how far it reaches. Rests on Tokens.
+--   at-code, at-second, at-other, at-missing, at-end: the token by the code that stands there
+--   number-there, number-missing: a number that follows a code
+--   end-within, end-most: a token lies within the part
+--   place-step, place-none: going on by one token, and by none
 use Prim.Native.Nat.{ℕ, zero, suc, _+_, _-_, _≤_, _<_, max}
 use mathlib.Core.Path.{_≡_, refl, sym, ap, _∙_}
 use mathlib.Core.Bool.{Bool, true, false}

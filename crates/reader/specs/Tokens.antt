@@ -1,4 +1,7 @@
 -- What stands at a place of a formula part, where the next token begins, and the tokens of a formula. Rests on theory's Formula.
+--   tokenAt, tokenEnd: the token at a place, and where it ends; by tokenOf, tokenByCode, withNumber, propositionOf and tokenSize
+--   placeFrom: the place after n tokens
+--   tokensOf: the nodes of a formula in prefix order
 use Prim.Native.Nat.{ℕ, zero, suc, _+_}
 use mathlib.Core.Bool.{cond}
 use mathlib.Core.List.{List, [], _∷_, _++_}

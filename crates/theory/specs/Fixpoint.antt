@@ -1,193 +1,71 @@
--- Theorem 2: values are monotone in the environment; a fixpoint's value is the least (greatest) map that its body sends to itself;
--- the number of applications of a body does not matter from states * (n - 1) on; so values are those of the latticed mu-calculus.
--- Rests on Value, Calculus, Folds, Descent.
-use Prim.Native.Nat.{ℕ, zero, suc, _*_, _-_, _≤_, _<_}
+-- Theorem 2: a fixpoint's value is the least (greatest) map that its body sends to itself; the number of applications of a body does not
+-- matter from states * (n - 1) on; so values are those of the latticed mu-calculus. Rests on Value, Calculus, Monotone, Iterates, Descent.
+--   mu-falls, mu-rises, mu-least: the body sends a least fixpoint's value to itself, and what it does not raise lies above
+--   nu-rises, nu-falls, nu-greatest: the same of a greatest fixpoint, the other way round
+--   applications-le, applications-same: any two counts of applications that are enough give the same values
+--   eval-element, value-element: values are elements
+--   least-fixpoint, greatest-fixpoint: the values of fixpoints, as Value defines them
+--   calculus, calculus-unique, value-is: values are those of the calculus, which leaves no choice
+use Prim.Native.Nat.{ℕ, zero, suc, _≤_, _<_}
 use mathlib.Core.Path.{_≡_, refl, sym, ap₂, _∙_}
 use mathlib.Core.Bool.{true}
-use mathlib.Core.List.{List}
-use native.Mathlib.Nat.{mul-one, le-refl, le-trans, not-suc-le-zero}
-use native.Mathlib.Decide.{le-ind}
+use native.Mathlib.Nat.{le-refl, not-suc-le-zero}
 use native.Mathlib.Omega.{arith}
 use borrow.Author.Tests.{ltb-true}
-use lib.ListN.{length}
-use Rattle.theory.specs.Lattice.{Ops, Laws, AtMost, Element, Chain}
+use Rattle.theory.specs.Lattice.{Ops, Laws, Element}
 use Rattle.theory.specs.Model.{Model, Valued}
 use Rattle.theory.specs.Formula.{Formula, bottom, top, prop, negated, var, or, and, AX, EX, mu, nu, boundBy, overProps, closed}
 use Rattle.theory.specs.Value.{iterate, bind, allNext, someNext, eval, enough, valueAt, ToElements, SameMap, AtMostMap, LeastFixpoint, GreatestFixpoint}
 use Rattle.theory.specs.Calculus.{Present, Calculus}
-use Rattle.theory.specs.Folds.{meet-mono, join-mono, imp-mono, bigMeet-mono, bigJoin-mono, bigMeet-cong, bigJoin-cong, bigMeet-element, bigJoin-element}
+use Rattle.theory.specs.Folds.{meet-mono, join-mono, bigMeet-element, bigJoin-element}
 use Rattle.theory.specs.TestLaws.{and-l, and-r}
-use Rattle.theory.specs.Descent.{Preorder, Unlowered, First, first-unlowered, downwards, upwards, apart-length, apart-length-up}
-
--- ---- a value reads maps and environments only at the states, and an environment only at the variables in scope
-
-module _ {A : Type 0} (O : Ops A) (M : Model A) where
-  pub allNext-cong : (f g : ℕ → A) → SameMap O M f g → (q : ℕ) → allNext O M f q ≡ allNext O M g q
-  unfolding allNext
-  allNext-cong f g h q = bigMeet-cong O (M .states) _ _ (λ r l. rw (h r l))
-
-  pub someNext-cong : (f g : ℕ → A) → SameMap O M f g → (q : ℕ) → someNext O M f q ≡ someNext O M g q
-  unfolding someNext
-  someNext-cong f g h q = bigJoin-cong O (M .states) _ _ (λ r l. rw (h r l))
-
-  -- two environments agree at the variables below d
-  abbrev pub SameEnv : ℕ → (ℕ → ℕ → A) → (ℕ → ℕ → A) → Type 0
-  SameEnv d e e' = (v : ℕ) → v < d → SameMap O M (e v) (e' v)
-
-  bind-cong : (d : ℕ) (e e' : ℕ → ℕ → A) (x y : ℕ → A) → SameMap O M x y → SameEnv d e e' → SameEnv (suc d) (bind x e) (bind y e')
-  unfolding bind
-  bind-cong d e e' x y b h zero l = b
-  bind-cong d e e' x y b h (suc v) l = h v (omega arith)
-
-  iterate-cong : (g g' : (ℕ → A) → ℕ → A) → ((x y : ℕ → A) → SameMap O M x y → SameMap O M (g x) (g' y)) → (x : ℕ → A) (t : ℕ) → SameMap O M (iterate t g x) (iterate t g' x)
-  unfolding iterate
-  iterate-cong g g' h x zero q l = refl
-  iterate-cong g g' h x (suc t) q l = h _ _ (iterate-cong g g' h x t) q l
-
-  pub eval-cong : (K d : ℕ) (φ : Formula) → boundBy d φ ≡ true → (e e' : ℕ → ℕ → A) → SameEnv d e e' → SameMap O M (eval O M K φ e) (eval O M K φ e')
-  unfolding eval boundBy
-  eval-cong K d bottom b e e' h q l = refl
-  eval-cong K d top b e e' h q l = refl
-  eval-cong K d (prop p) b e e' h q l = refl
-  eval-cong K d (negated p) b e e' h q l = refl
-  eval-cong K d (var v) b e e' h q l = h v (ltb-true v d b) q l
-  eval-cong K d (or f g) b e e' h q l = ap₂ (O .join) (eval-cong K d f (and-l _ (boundBy d g) b) e e' h q l) (eval-cong K d g (and-r (boundBy d f) _ b) e e' h q l)
-  eval-cong K d (and f g) b e e' h q l = ap₂ (O .meet) (eval-cong K d f (and-l _ (boundBy d g) b) e e' h q l) (eval-cong K d g (and-r (boundBy d f) _ b) e e' h q l)
-  eval-cong K d (AX f) b e e' h q l = allNext-cong _ _ (eval-cong K d f b e e' h) q
-  eval-cong K d (EX f) b e e' h q l = someNext-cong _ _ (eval-cong K d f b e e' h) q
-  eval-cong K d (mu f) b e e' h q l = iterate-cong _ _ (λ x y s. eval-cong K (suc d) f b _ _ (bind-cong d e e' x y s h)) _ K q l
-  eval-cong K d (nu f) b e e' h q l = iterate-cong _ _ (λ x y s. eval-cong K (suc d) f b _ _ (bind-cong d e e' x y s h)) _ K q l
-
-  -- a body reads its own map only at the states
-  pub body-cong : (K d : ℕ) (f : Formula) → boundBy (suc d) f ≡ true → (e : ℕ → ℕ → A) (x y : ℕ → A) → SameMap O M x y → SameMap O M (eval O M K f (bind x e)) (eval O M K f (bind y e))
-  body-cong K d f b e x y h = eval-cong K (suc d) f b _ _ (bind-cong d e e x y h (λ v l q m. refl))
-
-  -- once an application of g changes nothing at the states, no later one does
-  pub iterate-stays : (g : (ℕ → A) → ℕ → A) → ((x y : ℕ → A) → SameMap O M x y → SameMap O M (g x) (g y)) → (x : ℕ → A) (r : ℕ) → SameMap O M (iterate (suc r) g x) (iterate r g x) → (t : ℕ) → r ≤ t → SameMap O M (iterate t g x) (iterate r g x)
-  unfolding iterate
-  iterate-stays g same x r still = le-ind (λ t. SameMap O M (iterate t g x) (iterate r g x)) (λ q l. refl) (λ t b h q l. same _ _ h q l ∙ still q l)
-
-module _ {A : Type 0} {O : Ops A} (L : Laws O) where
-  -- no chain has more than n elements
-  pub chain-size : (l : List A) → Chain O l → length l ≤ O .size
-  chain-size l c = L .finite l (c .elements) (c .distinct)
-
-  pub allNext-mono : (M : Model A) {f g : ℕ → A} → ((q : ℕ) → q < M .states → AtMost O (f q) (g q)) → (q : ℕ) → AtMost O (allNext O M f q) (allNext O M g q)
-  unfolding allNext
-  allNext-mono M h q = bigMeet-mono L (M .states) (λ r l. imp-mono L (L .rfl _) (h r l))
-
-  pub someNext-mono : (M : Model A) {f g : ℕ → A} → ((q : ℕ) → q < M .states → AtMost O (f q) (g q)) → (q : ℕ) → AtMost O (someNext O M f q) (someNext O M g q)
-  unfolding someNext
-  someNext-mono M h q = bigJoin-mono L (M .states) (λ r l. meet-mono L (L .rfl _) (h r l))
-
--- ---- monotone maps on functions, in either direction of the order
-
-module _ {A : Type 0} (W : Preorder A) (N : ℕ) where
-  abbrev pub Under : (ℕ → A) → (ℕ → A) → Type 0
-  Under x y = (q : ℕ) → q < N → W .test (x q) (y q) ≡ true
-
-  module _ (c : A) (c-max : (a : A) → W .test a c ≡ true) (g : (ℕ → A) → ℕ → A) (mono : (x y : ℕ → A) → Under x y → Under (g x) (g y)) where
-    descends : (t : ℕ) → Under (iterate (suc t) g (λ q. c)) (iterate t g (λ q. c))
-    unfolding iterate
-    descends zero q l = c-max _
-    descends (suc t) q l = mono _ _ (descends t) q l
-
-    -- what g does not lower lies below every iterate
-    pub iterate-greatest : (y : ℕ → A) → Under y (g y) → (t : ℕ) → Under y (iterate t g (λ q. c))
-    unfolding iterate
-    iterate-greatest y w zero q l = c-max _
-    iterate-greatest y w (suc t) q l = W .trans (w q l) (mono _ _ (iterate-greatest y w t) q l)
-
-    -- an iterate is not raised
-    pub iterate-falls : (t : ℕ) → Under (g (iterate t g (λ q. c))) (iterate t g (λ q. c))
-    unfolding iterate
-    iterate-falls t = descends t
-
-    -- enough iterates are not lowered
-    pub iterate-fixed : (h : ℕ) → ((t : ℕ) × (t ≤ N * 1 * (h - 1)) × First (Unlowered (W .test) N 1 (λ t q r. iterate t g (λ q. c) q)) t) → (K : ℕ) → N * (h - 1) ≤ K → Under (iterate K g (λ q. c)) (g (iterate K g (λ q. c)))
-    unfolding iterate
-    iterate-fixed h w K e =
-        le-ind (λ t. Under (iterate t g (λ q. c)) (iterate (suc t) g (λ q. c)))
-        (λ q l. w .2 .here q l 0 (le-refl _)) (λ t m s. mono _ _ s) K
-        (le-trans (w .1) (rw mul-one e))
-
-    pub steps-down : (t q : ℕ) → q < N → (r : ℕ) → r < 1 → W .test (iterate (suc t) g (λ q. c) q) (iterate t g (λ q. c) q) ≡ true
-    steps-down t q l r k = descends t q l
+use Rattle.theory.specs.Descent.{first-unlowered, downwards, upwards, apart-length, apart-length-up}
+use Rattle.theory.specs.Monotone.{AtMostEnv, bind-mono, body-mono, allNext-mono, someNext-mono}
+use Rattle.theory.specs.Iterates.{iterate-greatest, iterate-falls, iterate-fixed, steps-down}
+pub use Rattle.theory.specs.Monotone.{allNext-cong, someNext-cong, body-cong, iterate-stays, chain-size}
 
 module _ {A : Type 0} {O : Ops A} (L : Laws O) (M : Model A) where
-  abbrev pub AtMostEnv : (ℕ → ℕ → A) → (ℕ → ℕ → A) → Type 0
-  AtMostEnv e d = (v : ℕ) → AtMostMap O M (e v) (d v)
-
-  bind-mono : (e d : ℕ → ℕ → A) (x y : ℕ → A) → AtMostMap O M x y → AtMostEnv e d → AtMostEnv (bind x e) (bind y d)
-  unfolding bind
-  bind-mono e d x y b h zero = b
-  bind-mono e d x y b h (suc v) = h v
-
-  iterate-mono : (f g : (ℕ → A) → ℕ → A) → ((x y : ℕ → A) → AtMostMap O M x y → AtMostMap O M (f x) (g y)) → (x : ℕ → A) (t : ℕ) → AtMostMap O M (iterate t f x) (iterate t g x)
-  unfolding iterate
-  iterate-mono f g h x zero q l = L .rfl _
-  iterate-mono f g h x (suc t) q l = h _ _ (iterate-mono f g h x t) q l
-
-  -- ---- values are monotone in the environment
-
-  pub eval-mono : (K : ℕ) (φ : Formula) (e d : ℕ → ℕ → A) → AtMostEnv e d → AtMostMap O M (eval O M K φ e) (eval O M K φ d)
-  unfolding eval
-  eval-mono K bottom e d h q l = L .rfl _
-  eval-mono K top e d h q l = L .rfl _
-  eval-mono K (prop p) e d h q l = L .rfl _
-  eval-mono K (negated p) e d h q l = L .rfl _
-  eval-mono K (var v) e d h q l = h v q l
-  eval-mono K (or f g) e d h q l = join-mono L (eval-mono K f e d h q l) (eval-mono K g e d h q l)
-  eval-mono K (and f g) e d h q l = meet-mono L (eval-mono K f e d h q l) (eval-mono K g e d h q l)
-  eval-mono K (AX f) e d h q l = allNext-mono L M (eval-mono K f e d h) q
-  eval-mono K (EX f) e d h q l = someNext-mono L M (eval-mono K f e d h) q
-  eval-mono K (mu f) e d h q l = iterate-mono _ _ (λ x y b. eval-mono K f _ _ (bind-mono e d x y b h)) _ K q l
-  eval-mono K (nu f) e d h q l = iterate-mono _ _ (λ x y b. eval-mono K f _ _ (bind-mono e d x y b h)) _ K q l
-
   -- the body of a fixpoint, as a map on maps from states to values
   abbrev pub body : ℕ → Formula → (ℕ → ℕ → A) → (ℕ → A) → ℕ → A
   body K f e m = eval O M K f (bind m e)
-
-  pub body-mono : (K : ℕ) (f : Formula) (e : ℕ → ℕ → A) (x y : ℕ → A) → AtMostMap O M x y → AtMostMap O M (body K f e x) (body K f e y)
-  body-mono K f e x y b = eval-mono K f _ _ (bind-mono e e x y b (λ v q l. L .rfl _))
 
   -- ---- the value of a least fixpoint: the body sends it to itself, and whatever the body does not raise lies above it
 
   pub mu-falls : (K : ℕ) → enough O M ≤ K → (f : Formula) (e : ℕ → ℕ → A) → AtMostMap O M (body K f e (eval O M K (mu f) e)) (eval O M K (mu f) e)
   unfolding eval
   mu-falls K w f e =
-      iterate-fixed (upwards L) (M .states) (O .bot) (L .bot-min) (body K f e) (λ x y. body-mono K f e y x) (O .size)
-      (first-unlowered (upwards L) (O .size) (apart-length-up L (O .size) (chain-size L)) (M .states) 1 _ (steps-down (upwards L) (M .states) (O .bot) (L .bot-min) (body K f e) (λ x y. body-mono K f e y x)))
+      iterate-fixed (upwards L) (M .states) (O .bot) (L .bot-min) (body K f e) (λ x y. body-mono L M K f e y x) (O .size)
+      (first-unlowered (upwards L) (O .size) (apart-length-up L (O .size) (chain-size L)) (M .states) 1 _ (steps-down (upwards L) (M .states) (O .bot) (L .bot-min) (body K f e) (λ x y. body-mono L M K f e y x)))
       K w
 
   pub mu-rises : (K : ℕ) (f : Formula) (e : ℕ → ℕ → A) → AtMostMap O M (eval O M K (mu f) e) (body K f e (eval O M K (mu f) e))
   unfolding eval
-  mu-rises K f e = iterate-falls (upwards L) (M .states) (O .bot) (L .bot-min) (body K f e) (λ x y. body-mono K f e y x) K
+  mu-rises K f e = iterate-falls (upwards L) (M .states) (O .bot) (L .bot-min) (body K f e) (λ x y. body-mono L M K f e y x) K
 
   pub mu-least : (K : ℕ) (f : Formula) (e : ℕ → ℕ → A) (y : ℕ → A) → AtMostMap O M (body K f e y) y → AtMostMap O M (eval O M K (mu f) e) y
   unfolding eval
-  mu-least K f e y w = iterate-greatest (upwards L) (M .states) (O .bot) (L .bot-min) (body K f e) (λ x y. body-mono K f e y x) y w K
+  mu-least K f e y w = iterate-greatest (upwards L) (M .states) (O .bot) (L .bot-min) (body K f e) (λ x y. body-mono L M K f e y x) y w K
 
   -- ---- the value of a greatest fixpoint: likewise
 
   pub nu-rises : (K : ℕ) → enough O M ≤ K → (f : Formula) (e : ℕ → ℕ → A) → AtMostMap O M (eval O M K (nu f) e) (body K f e (eval O M K (nu f) e))
   unfolding eval
   nu-rises K w f e =
-      iterate-fixed (downwards L) (M .states) (O .top) (L .top-max) (body K f e) (body-mono K f e) (O .size)
-      (first-unlowered (downwards L) (O .size) (apart-length L (O .size) (chain-size L)) (M .states) 1 _ (steps-down (downwards L) (M .states) (O .top) (L .top-max) (body K f e) (body-mono K f e)))
+      iterate-fixed (downwards L) (M .states) (O .top) (L .top-max) (body K f e) (body-mono L M K f e) (O .size)
+      (first-unlowered (downwards L) (O .size) (apart-length L (O .size) (chain-size L)) (M .states) 1 _ (steps-down (downwards L) (M .states) (O .top) (L .top-max) (body K f e) (body-mono L M K f e)))
       K w
 
   pub nu-falls : (K : ℕ) (f : Formula) (e : ℕ → ℕ → A) → AtMostMap O M (body K f e (eval O M K (nu f) e)) (eval O M K (nu f) e)
   unfolding eval
-  nu-falls K f e = iterate-falls (downwards L) (M .states) (O .top) (L .top-max) (body K f e) (body-mono K f e) K
+  nu-falls K f e = iterate-falls (downwards L) (M .states) (O .top) (L .top-max) (body K f e) (body-mono L M K f e) K
 
   pub nu-greatest : (K : ℕ) (f : Formula) (e : ℕ → ℕ → A) (y : ℕ → A) → AtMostMap O M y (body K f e y) → AtMostMap O M y (eval O M K (nu f) e)
   unfolding eval
-  nu-greatest K f e y w = iterate-greatest (downwards L) (M .states) (O .top) (L .top-max) (body K f e) (body-mono K f e) y w K
+  nu-greatest K f e y w = iterate-greatest (downwards L) (M .states) (O .top) (L .top-max) (body K f e) (body-mono L M K f e) y w K
 
   -- ---- the count of applications does not matter, where it is enough; J and K may come from models of different sizes
 
-  pub applications-le : (K J : ℕ) → enough O M ≤ K → enough O M ≤ J → (φ : Formula) (e d : ℕ → ℕ → A) → AtMostEnv e d → AtMostMap O M (eval O M K φ e) (eval O M J φ d)
+  pub applications-le : (K J : ℕ) → enough O M ≤ K → enough O M ≤ J → (φ : Formula) (e d : ℕ → ℕ → A) → AtMostEnv L M e d → AtMostMap O M (eval O M K φ e) (eval O M J φ d)
   unfolding eval
   applications-le K J u w bottom e d b q l = L .rfl _
   applications-le K J u w top e d b q l = L .rfl _
@@ -198,8 +76,8 @@ module _ {A : Type 0} {O : Ops A} (L : Laws O) (M : Model A) where
   applications-le K J u w (and f g) e d b q l = meet-mono L (applications-le K J u w f e d b q l) (applications-le K J u w g e d b q l)
   applications-le K J u w (AX f) e d b q l = allNext-mono L M (applications-le K J u w f e d b) q
   applications-le K J u w (EX f) e d b q l = someNext-mono L M (applications-le K J u w f e d b) q
-  applications-le K J u w (mu f) e d b q l = mu-least K f e _ (λ r m. L .trans (applications-le K J u w f _ _ (bind-mono e d _ _ (λ x y. L .rfl _) b) r m) (mu-falls J w f d r m)) q l
-  applications-le K J u w (nu f) e d b q l = nu-greatest J f d _ (λ r m. L .trans (nu-rises K u f e r m) (applications-le K J u w f _ _ (bind-mono e d _ _ (λ x y. L .rfl _) b) r m)) q l
+  applications-le K J u w (mu f) e d b q l = mu-least K f e _ (λ r m. L .trans (applications-le K J u w f _ _ (bind-mono L M e d _ _ (λ x y. L .rfl _) b) r m) (mu-falls J w f d r m)) q l
+  applications-le K J u w (nu f) e d b q l = nu-greatest J f d _ (λ r m. L .trans (nu-rises K u f e r m) (applications-le K J u w f _ _ (bind-mono L M e d _ _ (λ x y. L .rfl _) b) r m)) q l
 
   -- ---- values are elements, so that all of this is equality
 

@@ -1,5 +1,10 @@
 -- Theorem 1: bounds, monotonicity and distribution of finite meets and joins, the De Morgan laws, and the laws of → and ↔.
 -- Rests on Lattice, Test.
+--   bigMeet-cong, bigJoin-cong: equal entries, equal results
+--   meet-mono, join-mono, meet-swap, dist-join, de-morgan-join, de-morgan-meet, neg-top, neg-bot: of two elements
+--   bigMeet-le, bigMeet-glb, bigJoin-ge, bigJoin-lub: the bounds; bigMeet-element, bigJoin-element; bigMeet-mono, bigJoin-mono
+--   join-bigMeet, meet-bigJoin: distribution; neg-bigMeet, neg-bigJoin: De Morgan
+--   imp-mono, imp-bot, imp-top, imp-neg, imp-meet, imp-join, iff-l, iff-r: of → and ↔
 use Prim.Native.Nat.{ℕ, zero, suc, _<_}
 use mathlib.Core.Path.{_≡_, refl}
 use native.Mathlib.Nat.{le-refl, not-suc-le-zero}

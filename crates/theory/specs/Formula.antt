@@ -1,4 +1,8 @@
 -- Formulas of the latticed mu-calculus, and the tests on them that the demands name. Rests on nothing.
+--   Formula: the eleven codes
+--   boundBy, closed: no variable without its binder; universal: no EX; fixpointFree; overProps: the propositions are below k
+--   nestedAX, nestedBinders: the most AX, and the most binders, that stand one within another
+--   UniversalSentence: closed, universal and over the propositions below k
 use Prim.Native.Nat.{ℕ, suc, max}
 use mathlib.Core.Path.{_≡_}
 use mathlib.Core.Bool.{Bool, true, false, _&&_}

@@ -1,5 +1,5 @@
 -- The rest of theorem 4: in a lattice on the numbers below n there is a longest chain, of at most n elements.
--- Rests on Lattice, Simulation (one), Test, Descent.
+-- Rests on Lattice, Simulation (one), Test, Finite.
 use Prim.Native.Nat.{ℕ, zero, suc, _+_, _≤_, _<_, zero-le}
 use mathlib.Core.Path.{_≡_, refl, sym, ap, _∙_}
 use mathlib.Core.Bool.{Bool, true, false}
@@ -13,7 +13,7 @@ use lib.ListN.{length}
 use Rattle.theory.specs.Lattice.{Ops, AtMost, Element, All, Pairwise, Chain, LongestChain}
 use Rattle.theory.specs.Simulation.{one}
 use Rattle.theory.specs.TestLaws.{decide}
-use Rattle.theory.specs.Descent.{sum, sum-le, sum-strict, scan, all-map}
+use Rattle.theory.specs.Finite.{sum, sum-le, sum-strict, scan, all-map}
 
 -- ---- a list of distinct numbers below n has at most n of them
 

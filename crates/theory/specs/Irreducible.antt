@@ -10,7 +10,7 @@ use native.Mathlib.Omega.{arith}
 use lib.ListN.{length}
 use Rattle.theory.specs.Lattice.{Ops, Laws, AtMost, Element, All, Pairwise, bigJoin}
 use Rattle.theory.specs.TestLaws.{decide}
-use Rattle.theory.specs.Descent.{all-map}
+use Rattle.theory.specs.Finite.{all-map}
 
 -- request 108: 'a join-irreducible element l, that is, one that isn't bottom and is no join of two elements both unlike it'
 pub record JoinIrreducible {A : Type 0} (O : Ops A) (l : A) : Type 0 where

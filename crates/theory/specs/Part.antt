@@ -1,4 +1,8 @@
 -- Lattices given by an order and a complement, and the reading of lattice and model parts from bytes. Rests on Lattice, Model, Test.
+--   LatticePart, opsOf: what a lattice part says, and the operations that it gives
+--   isMeet, isJoin, meetOf, joinOf, topOf, botOf: meets, joins and bounds, found from the order; element: any number read as an element
+--   explicitPart, modelOf: the lattice and the model of a part's bytes
+--   modelLength, ModelShape: how many bytes a model part has, and that its sizes and its length are as they must be
 use Prim.Native.Nat.{ℕ, _+_, _*_, _%_, _≤_, _<_}
 use mathlib.Core.Path.{_≡_}
 use mathlib.Core.Bool.{Bool, cond, _&&_}

@@ -1,5 +1,8 @@
 -- Theorems 6 and 7: what a table bounds. Theorem 3 of 000 by rounds and for every table at or below its F, and theorem 6.1 of 000.
 -- Rests on Value, Simulation, Folds, Fixpoint, Rounds.
+--   bounded-by-round, bounded-table, bounded-at-T: theorem 6, for a round, for every S ≤ F S, and at T
+--   score-by-round, score-at-T: theorem 7, over score-bounds
+--   bounds-moves: the step from states to their successors
 use Prim.Native.Nat.{ℕ, zero, suc, _<_, max}
 use mathlib.Core.Path.{_≡_, refl}
 use mathlib.Core.Bool.{true}

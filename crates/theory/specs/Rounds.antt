@@ -1,6 +1,11 @@
 -- Theorems 3 to 5: F is monotone, rounds descend, the first unchanged round T exists within its bound, and round T is the greatest
 -- simulation. Stated for any operator on tables that is monotone, reads its table only at pairs of states and gives elements.
 -- Rests on Simulation, Folds, Descent, Fixpoint.
+--   F-cong, F-mono, F-element, score-cong, round-next: F and score read a table only at the pairs of states; F is monotone, into elements
+--   rounds-descend, below-rounds, round-element: theorem 3
+--   T-exists, T-unique, T-at-most, T-at-most-size, rounds-lower, T-of-one-element: theorem 4
+--   settled-greatest, settled-below, above-settled: theorem 5
+--   stays, fixed-at-T, descend, below-every, fixed-below, rounds-element, exists-T, T-within: the same of any operator like F
 use Prim.Native.Nat.{ℕ, zero, suc, _+_, _*_, _-_, _≤_, _<_}
 use mathlib.Core.Path.{_≡_, refl, sym, ap, _∙_, subst}
 use mathlib.Core.List.{List}
@@ -14,8 +19,9 @@ use Rattle.theory.specs.Model.{Model}
 use Rattle.theory.specs.Value.{someNext}
 use Rattle.theory.specs.Simulation.{successorPart, F, round, roundOf, SameTable, AtMostTable, FixedBy, FirstUnchangedOf, FirstUnchanged, GreatestSimulation, score}
 use Rattle.theory.specs.Folds.{meet-mono, bigMeet-cong, bigJoin-cong}
-use Rattle.theory.specs.Descent.{First, Unlowered, lowerings, first-unlowered, lowerings-le, downwards, apart-length}
-use Rattle.theory.specs.Fixpoint.{allNext-cong, someNext-cong, allNext-mono, someNext-mono, chain-size}
+use Rattle.theory.specs.Finite.{First}
+use Rattle.theory.specs.Descent.{Unlowered, lowerings, first-unlowered, lowerings-le, downwards, apart-length}
+use Rattle.theory.specs.Monotone.{allNext-cong, someNext-cong, allNext-mono, someNext-mono, chain-size}
 
 -- ---- F and score read a table only at the pairs of states
 

@@ -1,6 +1,9 @@
 -- T is at most N1·N2 + 1, whatever the lattice's longest chain: which entries of round r + 1 a join-irreducible element is at or below depends
 -- only on which entries of round r it is at or below, and each round has these among the ones before. For F, and for any operator like it.
 -- Rests on Irreducible, Simulation, Descent, Height, Rounds; that the bound is attained, on Examples.
+--   T-sharp: T is at most N1·N2 + 1; sharp-attained: worked example 2 has that T; T-within-sharp: the bound for any operator like F
+--   Kept, KeptTable, Keeps: l at or below an entry of one table is at or below that of another, and an operator that keeps this
+--   meet-kept, join-kept, allNext-kept, someNext-kept, F-keeps, keeps-mono, rounds-same: that F is such an operator, and its rounds
 use Prim.Native.Nat.{ℕ, suc, _+_, _*_, _-_, _≤_, _<_}
 use mathlib.Core.Path.{_≡_, refl, sym, subst}
 use mathlib.Core.Bool.{Bool, true, false}
@@ -19,11 +22,13 @@ use Rattle.theory.specs.Test.{_⇒_, allBelow, firstBelow}
 use Rattle.theory.specs.TestLaws.{⇒-in, ⇒-elim}
 use Rattle.theory.specs.Part.{isMeet, isJoin, meetOf, joinOf, topOf, botOf, element, opsOf, explicitPart, modelOf}
 use Rattle.theory.specs.Folds.{bigMeet-le, bigMeet-glb, bigJoin-ge}
-use Rattle.theory.specs.Descent.{Preorder, Apart, First, Unlowered, first-unlowered, all-image, pairwise-under}
+use Rattle.theory.specs.Finite.{First, all-image, pairwise-under}
+use Rattle.theory.specs.Descent.{Preorder, Apart, Unlowered, first-unlowered}
 use Rattle.theory.specs.Height.{distinct-le}
 use Rattle.theory.specs.Rounds.{F-element, descend, rounds-element}
 use Rattle.theory.specs.Irreducible.{JoinIrreducible, below-join, below-bigJoin, dense}
-use Rattle.theory.specs.Examples.{L2, loop2, still2, unchangedTest, settles-by-test}
+use Rattle.theory.specs.Examples.{L2, loop2, still2}
+use Rattle.theory.specs.ExamplesHold.{unchangedTest, settles-by-test}
 
 -- if l is at or below a, it is at or below b
 abbrev pub Kept : {A : Type 0} → Ops A → A → A → A → Type 0

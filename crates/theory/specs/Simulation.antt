@@ -1,4 +1,9 @@
 -- The simulation operator F, its rounds, the first round that changes nothing, score and share. Rests on Lattice, Model, Value.
+--   propositionPart, successorPart, F: the operator on tables, and its two parts
+--   AllPairs, SameTable, AtMostTable, Bounds: tables at the pairs of states
+--   round, FirstUnchanged, Simulation, GreatestSimulation: the rounds, T, and the simulations; of any operator roundOf, FirstUnchangedOf,
+--     FixedBy, GreatestFixedBy
+--   score; share, by one, count and perCent
 use Prim.Native.Nat.{ℕ, zero, suc, _+_, _*_, _-_, _/_, _<_}
 use mathlib.Core.Path.{_≡_}
 use mathlib.Core.Bool.{Bool, true, false}

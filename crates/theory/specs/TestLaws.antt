@@ -1,4 +1,9 @@
 -- Laws of tests: of truth values, and of tests over the numbers below a bound, as loops and theorems use them. Rests on Test.
+--   below-suc: the numbers below suc n are those below n, and n; decide: a test is passed or not
+--   and-l, and-r, and-in, and-false, all-four, or-l, or-r, cond-true, cond-false, ⇒-elim, ⇒-in: of the truth values
+--   bool-same: tests that imply each other are the same; not-passed, not-failed, false-true: a test that cannot be passed, or fail
+--   all-at, all-in, all-cong, all-none, all-more, all-fails, all-done: of allBelow
+--   FirstAt, first-is, first-unique: of firstBelow
 use Prim.Native.Nat.{ℕ, zero, suc, _+_, _≤_, _<_}
 use mathlib.Core.Path.{_≡_, refl, sym, ap₂, subst}
 use mathlib.Core.Bool.{Bool, true, false, cond, _&&_, _||_}

@@ -1,4 +1,8 @@
 -- The value of a formula at a state and on a whole model. Rests on Lattice, Model, Formula.
+--   ToElements, SameMap, AtMostMap: maps from states to elements, and two maps at the states
+--   LeastFixpoint, GreatestFixpoint: the least and the greatest map that a body sends to itself
+--   allNext, someNext: AX and EX; eval: the value at a state, with a count of applications (iterate, bind, enough)
+--   valueAt, wholeValue: the value of a closed formula at a state, and on a whole model
 use Prim.Native.Nat.{ℕ, zero, suc, _*_, _-_, _<_}
 use mathlib.Core.Path.{_≡_}
 use Rattle.theory.specs.Lattice.{Ops, AtMost, Element, imp, bigMeet, bigJoin}

@@ -1,4 +1,7 @@
 -- Bytes that are written at a place of a buffer, and the laws of it. Rests on Loop.
+--   written-none, written-byte, written-turn: nothing, one byte more, and one turn more of a loop that writes f 0, f 1, ..
+--   written-length, written-at, written-before, written-after: the length, what is written, and what is kept
+--   written-all: what holds of every byte written and of every byte before, holds of every byte
 use Prim.Native.Nat.{ℕ, suc, _+_, _-_, _≤_, _<_}
 use mathlib.Core.Path.{_≡_, refl, sym, ap, ap₂, _∙_}
 use mathlib.Core.Bool.{Bool, true, false}

@@ -26,9 +26,6 @@ directed c = has-directory _ (sized (c .before .before)) (with-directory c)
 placed : (c : tie.Else3) → Placed (c .before .before .before .before .before .before .before .before .args .bytes .now)
 placed c = all-placed _ _ (directed (c .before .before .before)) (c .before .before .first-misplaced .ensures) (c .if3 .left)
 
-right-size-requires : tie.Need-right-size-requires
-right-size-requires c κs = search needs
-
 returns : tie.Need-returns
 returns c = size-answered _ _ (sym (c .before .right-size .ensures) ∙ not-true _ (c .if1 .taken))
 
@@ -57,14 +54,5 @@ returns-4 c = parts-answered _ _ _ (placed (c .before .before)) (c .check-parts 
 
 pub check-spec : {M : Type 1} → statement M
 check-spec =
-    tie.close
-    (tie.spec
-    right-size-requires
-    returns
-    right-directory-requires
-    returns-2
-    first-misplaced-requires
-    shared-slice-read-if3
-    returns-3
-    check-parts-requires
-    returns-4)
+    tie.close (tie.spec (λ c κs. search needs) returns right-directory-requires returns-2 first-misplaced-requires
+    shared-slice-read-if3 returns-3 check-parts-requires returns-4)

@@ -13,29 +13,14 @@ Inv-loop bytes k count f₀ f = (f ≤ count) × FormulasUpto bytes k count f
 abbrev μ-loop : tie.MeasureT-loop
 μ-loop bytes k count f₀ f = count - f
 
-shared-slice-read-count : tie.Need-shared-slice-read-count Inv-loop μ-loop
-shared-slice-read-count c = omega arith
-
-sub-count : tie.Need-sub-count Inv-loop μ-loop
-sub-count c = omega arith
-
 loop-holds : tie.Need-loop-holds Inv-loop μ-loop
 loop-holds c = (omega arith, formulas-none _ _ _)
-
-add-i : tie.Need-add-i Inv-loop μ-loop
-add-i c = omega arith
 
 is-formula-requires : tie.Need-is-formula-requires Inv-loop μ-loop
 is-formula-requires c κs = (c .before .before .before .before .pre, omega arith)
 
 returns : tie.Need-returns Inv-loop μ-loop
 returns c = formulas-stop _ _ _ _ (c .before .before .before .loop .inv .1) (c .before .before .loop-test .taken) (sym (c .before .is-formula .ensures) ∙ not-true _ (c .if1 .taken))
-
-add-f : tie.Need-add-f Inv-loop μ-loop
-add-f c = omega arith
-
-loop-less : tie.Need-loop-less Inv-loop μ-loop
-loop-less c = omega arith
 
 loop-again : tie.Need-loop-again Inv-loop μ-loop
 loop-again c = (omega arith, formulas-more _ _ _ _ (c .before .before .before .loop .inv .1) (c .before .before .loop-test .taken) (sym (c .before .is-formula .ensures) ∙ not-false _ (c .if1 .left)))
@@ -45,17 +30,5 @@ returns-2 c = formulas-done _ _ _ _ (c .before .loop .inv .1) (c .loop-test .lef
 
 pub check-formulas-spec : {M : Type 1} → statement M
 check-formulas-spec =
-    tie.close
-    (tie.spec
-    Inv-loop
-    μ-loop
-    shared-slice-read-count
-    sub-count
-    loop-holds
-    add-i
-    is-formula-requires
-    returns
-    add-f
-    loop-less
-    loop-again
-    returns-2)
+    tie.close (tie.spec Inv-loop μ-loop (λ c. omega arith) (λ c. omega arith) loop-holds (λ c. omega arith)
+    is-formula-requires returns (λ c. omega arith) (λ c. omega arith) loop-again returns-2)

@@ -6,21 +6,6 @@ use Rattle.casefile.specs.Steps.{afterFirst}
 use Rattle.casefile.proofs.check_models.Statement.{statement}
 use Rattle.casefile.proofs.check_models.Tie as tie
 
-part-requires : tie.Need-part-requires
-part-requires c κs = search needs
-
-check-requires : tie.Need-check-requires
-check-requires c κs = search needs
-
-enum-told : tie.Need-enum-told
-enum-told c = search needs
-
-enum-known-states1 : tie.Need-enum-known-states1
-enum-known-states1 c = search needs
-
-check-second-requires : tie.Need-check-second-requires
-check-second-requires c κs = search needs
-
 returns : tie.Need-returns
 returns c =
     let a = c .before .before .before .before .before .args in
@@ -34,12 +19,5 @@ returns-2 c =
 
 pub check-models-spec : {M : Type 1} → statement M
 check-models-spec =
-    tie.close
-    (tie.spec
-    part-requires
-    check-requires
-    enum-told
-    enum-known-states1
-    check-second-requires
-    returns
-    returns-2)
+    tie.close (tie.spec (λ c κs. search needs) (λ c κs. search needs) (λ c. search needs) (λ c. search needs)
+    (λ c κs. search needs) returns returns-2)

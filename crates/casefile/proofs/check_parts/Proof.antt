@@ -9,21 +9,6 @@ use Rattle.casefile.specs.Steps.{afterChecked}
 use Rattle.casefile.proofs.check_parts.Statement.{statement}
 use Rattle.casefile.proofs.check_parts.Tie as tie
 
-part-requires : tie.Need-part-requires
-part-requires c κs = search needs
-
-check-requires : tie.Need-check-requires
-check-requires c κs = search needs
-
-enum-known-f : tie.Need-enum-known-f
-enum-known-f c = search needs
-
-enum-known-l : tie.Need-enum-known-l
-enum-known-l c = search needs
-
-check-models-requires : tie.Need-check-models-requires
-check-models-requires c κs = search needs
-
 returns : tie.Need-returns
 returns c =
     let a = c .before .before .before .before .before .before .before .args in
@@ -46,12 +31,5 @@ returns-2 c =
 
 pub check-parts-spec : {M : Type 1} → statement M
 check-parts-spec =
-    tie.close
-    (tie.spec
-    part-requires
-    check-requires
-    enum-known-f
-    enum-known-l
-    check-models-requires
-    returns
-    returns-2)
+    tie.close (tie.spec (λ c κs. search needs) (λ c κs. search needs) (λ c. search needs) (λ c. search needs)
+    (λ c κs. search needs) returns returns-2)

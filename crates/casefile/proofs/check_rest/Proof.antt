@@ -5,21 +5,6 @@ use Rattle.casefile.specs.Steps.{restOf}
 use Rattle.casefile.proofs.check_rest.Statement.{statement}
 use Rattle.casefile.proofs.check_rest.Tie as tie
 
-check-formulas-requires : tie.Need-check-formulas-requires
-check-formulas-requires c κs = search needs
-
-enum-known-i : tie.Need-enum-known-i
-enum-known-i c = search needs
-
-enum-told : tie.Need-enum-told
-enum-told c = search needs
-
-shared-slice-read-t11 : tie.Need-shared-slice-read-t11
-shared-slice-read-t11 c = search needs
-
-sub-t12 : tie.Need-sub-t12
-sub-t12 c = search needs
-
 returns : tie.Need-returns
 returns c =
     let a = c .before .before .before .before .before .args in
@@ -32,12 +17,5 @@ returns-2 c =
 
 pub check-rest-spec : {M : Type 1} → statement M
 check-rest-spec =
-    tie.close
-    (tie.spec
-    check-formulas-requires
-    enum-known-i
-    enum-told
-    shared-slice-read-t11
-    sub-t12
-    returns
-    returns-2)
+    tie.close (tie.spec (λ c κs. search needs) (λ c. search needs) (λ c. search needs) (λ c. search needs)
+    (λ c. search needs) returns returns-2)

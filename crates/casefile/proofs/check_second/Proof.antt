@@ -7,21 +7,6 @@ use Rattle.casefile.specs.Answered.{second-equal, second-differs}
 use Rattle.casefile.proofs.check_second.Statement.{statement}
 use Rattle.casefile.proofs.check_second.Tie as tie
 
-part-requires : tie.Need-part-requires
-part-requires c κs = search needs
-
-check-requires : tie.Need-check-requires
-check-requires c κs = search needs
-
-enum-told : tie.Need-enum-told
-enum-told c = search needs
-
-enum-known-states2 : tie.Need-enum-known-states2
-enum-known-states2 c = search needs
-
-check-rest-requires : tie.Need-check-rest-requires
-check-rest-requires c κs = search needs
-
 returns : tie.Need-returns
 returns c =
     let a = c .before .before .before .before .before .args in
@@ -44,13 +29,5 @@ returns-3 c =
 
 pub check-second-spec : {M : Type 1} → statement M
 check-second-spec =
-    tie.close
-    (tie.spec
-    part-requires
-    check-requires
-    enum-told
-    enum-known-states2
-    check-rest-requires
-    returns
-    returns-2
-    returns-3)
+    tie.close (tie.spec (λ c κs. search needs) (λ c κs. search needs) (λ c. search needs) (λ c. search needs)
+    (λ c κs. search needs) returns returns-2 returns-3)

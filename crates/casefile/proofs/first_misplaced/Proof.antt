@@ -14,18 +14,6 @@ Inv-loop bytes count from₀ i₀ from i = (i ≤ partCount bytes) × PlacedUpto
 abbrev μ-loop : tie.MeasureT-loop
 μ-loop bytes count from₀ i₀ from i = partCount bytes - i
 
-shared-slice-read-count : tie.Need-shared-slice-read-count Inv-loop μ-loop
-shared-slice-read-count c = omega arith
-
-index-requires : tie.Need-index-requires Inv-loop μ-loop
-index-requires c κs = tt
-
-mul-from : tie.Need-mul-from Inv-loop μ-loop
-mul-from c = omega arith
-
-add-from : tie.Need-add-from Inv-loop μ-loop
-add-from c = omega arith
-
 loop-holds : tie.Need-loop-holds Inv-loop μ-loop
 loop-holds c = (omega arith, upto-none _ _ (omega arith))
 
@@ -38,12 +26,6 @@ returns c = upto-stop _ _ _ (c .before .before .before .loop .inv .1) (c .before
 part-end-requires : tie.Need-part-end-requires Inv-loop μ-loop
 part-end-requires c κs = (c .before .before .before .before .before .before .before .pre, c .before .before .loop-test .taken)
 
-add-i : tie.Need-add-i Inv-loop μ-loop
-add-i c = omega arith
-
-loop-less : tie.Need-loop-less Inv-loop μ-loop
-loop-less c = omega arith
-
 loop-again : tie.Need-loop-again Inv-loop μ-loop
 loop-again c =
     let i = c .before .before .before .before .loop in
@@ -54,19 +36,5 @@ returns-2 c = let i = c .before .loop in upto-done _ _ _ (i .inv .1) (i .inv .0)
 
 pub first-misplaced-spec : {M : Type 1} → statement M
 first-misplaced-spec =
-    tie.close
-    (tie.spec
-    Inv-loop
-    μ-loop
-    shared-slice-read-count
-    index-requires
-    mul-from
-    add-from
-    loop-holds
-    well-placed-requires
-    returns
-    part-end-requires
-    add-i
-    loop-less
-    loop-again
-    returns-2)
+    tie.close (tie.spec Inv-loop μ-loop (λ c. omega arith) (λ c κs. tt) (λ c. omega arith) (λ c. omega arith) loop-holds
+    well-placed-requires returns part-end-requires (λ c. omega arith) (λ c. omega arith) loop-again returns-2)

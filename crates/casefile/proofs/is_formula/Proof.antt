@@ -9,18 +9,6 @@ use Rattle.casefile.specs.Steps.{isAccepted}
 use Rattle.casefile.proofs.is_formula.Statement.{statement}
 use Rattle.casefile.proofs.is_formula.Tie as tie
 
-part-requires : tie.Need-part-requires
-part-requires c κs = search needs
-
-check-requires : tie.Need-check-requires
-check-requires c κs = search needs
-
-enum-told : tie.Need-enum-told
-enum-told c = search needs
-
-enum-told-2 : tie.Need-enum-told-2
-enum-told-2 c = search needs
-
 returns : tie.Need-returns
 returns c =
     let k = c .before .before .before .before .before .args .k in
@@ -33,4 +21,5 @@ returns-2 c =
 
 pub is-formula-spec : {M : Type 1} → statement M
 is-formula-spec =
-    tie.close (tie.spec part-requires check-requires enum-told enum-told-2 returns returns-2)
+    tie.close (tie.spec (λ c κs. search needs) (λ c κs. search needs) (λ c. search needs) (λ c. search needs) returns
+    returns-2)

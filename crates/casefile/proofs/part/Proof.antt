@@ -7,18 +7,6 @@ use Rattle.casefile.specs.Directory.{partSize}
 use Rattle.casefile.proofs.part.Statement.{statement}
 use Rattle.casefile.proofs.part.Tie as tie
 
-part-start-requires : tie.Need-part-start-requires
-part-start-requires c κs = search needs
-
-part-end-requires : tie.Need-part-end-requires
-part-end-requires c κs = search needs
-
-sub-result : tie.Need-sub-result
-sub-result c = search needs
-
-part-result-start : tie.Need-part-result-start
-part-result-start c = search needs
-
 part-result-end : tie.Need-part-result-end
 part-result-end c =
     let a = c .before .before .before in
@@ -32,11 +20,5 @@ returns c =
 
 pub part-spec : {M : Type 1} → statement M
 part-spec =
-    tie.close
-    (tie.spec
-    part-start-requires
-    part-end-requires
-    sub-result
-    part-result-start
-    part-result-end
-    returns)
+    tie.close (tie.spec (λ c κs. search needs) (λ c κs. search needs) (λ c. search needs) (λ c. search needs)
+    part-result-end returns)

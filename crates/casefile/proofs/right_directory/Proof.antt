@@ -6,23 +6,11 @@ use Rattle.casefile.specs.Directory.{partCount}
 use Rattle.casefile.proofs.right_directory.Statement.{statement}
 use Rattle.casefile.proofs.right_directory.Tie as tie
 
-shared-slice-read-count : tie.Need-shared-slice-read-count
-shared-slice-read-count c = search needs
-
 returns : tie.Need-returns
 returns c = simp (lt-leb 3 (partCount (c .before .before .before .args .bytes .now)) (c .if1 .taken))
 
 returns-2 : tie.Need-returns-2
 returns-2 c = simp (lt-leb (partCount (c .before .before .before .before .args .bytes .now)) 11 (c .if2 .taken), and-false)
-
-index-requires : tie.Need-index-requires
-index-requires c κs = search needs
-
-mul-result : tie.Need-mul-result
-mul-result c = search needs
-
-add-result : tie.Need-add-result
-add-result c = search needs
 
 returns-3 : tie.Need-returns-3
 returns-3 c =
@@ -31,12 +19,5 @@ returns-3 c =
 
 pub right-directory-spec : {M : Type 1} → statement M
 right-directory-spec =
-    tie.close
-    (tie.spec
-    shared-slice-read-count
-    returns
-    returns-2
-    index-requires
-    mul-result
-    add-result
-    returns-3)
+    tie.close (tie.spec (λ c. search needs) returns returns-2 (λ c κs. search needs) (λ c. search needs)
+    (λ c. search needs) returns-3)

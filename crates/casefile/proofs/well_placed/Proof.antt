@@ -7,24 +7,15 @@ use Rattle.casefile.specs.Directory.{partStart, partSize}
 use Rattle.casefile.proofs.well_placed.Statement.{statement}
 use Rattle.casefile.proofs.well_placed.Tie as tie
 
-part-size-requires : tie.Need-part-size-requires
-part-size-requires c κs = search needs
-
 returns : tie.Need-returns
 returns c =
     let a = c .before .before .before .args in
     simp (le-ltb 0 (partSize (a .bytes .now) (a .i)) (omega arith))
 
-part-start-requires : tie.Need-part-start-requires
-part-start-requires c κs = search needs
-
 returns-2 : tie.Need-returns-2
 returns-2 c =
     let a = c .before .before .before .before .before .args in
     simp (lt-leb (a .from) (partStart (a .bytes .now) (a .i)) (omega arith), and-false)
-
-part-end-requires : tie.Need-part-end-requires
-part-end-requires c κs = search needs
 
 returns-3 : tie.Need-returns-3
 returns-3 c =
@@ -33,5 +24,5 @@ returns-3 c =
 
 pub well-placed-spec : {M : Type 1} → statement M
 well-placed-spec =
-    tie.close
-    (tie.spec part-size-requires returns part-start-requires returns-2 part-end-requires returns-3)
+    tie.close (tie.spec (λ c κs. search needs) returns (λ c κs. search needs) returns-2 (λ c κs. search needs)
+    returns-3)

@@ -8,16 +8,10 @@ use Rattle.casefile.specs.Writer.{directory-fits, case-written}
 use Rattle.casefile.proofs.write.Statement.{statement}
 use Rattle.casefile.proofs.write.Tie as tie
 
-shared-slice-read-out : tie.Need-shared-slice-read-out
-shared-slice-read-out c = search needs
-
 slice-write-out : tie.Need-slice-write-out
 slice-write-out c =
     let s = c .before .before .before in
-    omega (arith, directory-fits (s .args .bytes .now) (s .args .out .now) (s .pre .0) (s .pre .1))
-
-write-pairs-requires : tie.Need-write-pairs-requires
-write-pairs-requires c κs = search needs
+    omega (arith, directory-fits (s .args .bytes .now) (s .args .out .now) (s .pre .1))
 
 write-parts-requires : tie.Need-write-parts-requires
 write-parts-requires c κs =
@@ -36,16 +30,10 @@ returns c =
     let s = c .before .before .before .before .before .before .before .before .before .before .before in
     let w = c .before .before .write-parts .ensures in (
       w .0,
-      case-written (s .args .bytes .now) (s .args .out .now) (s .pre .0) (s .pre .1) _ _ (c .before .before .before .before .before .before .write-pairs .ensures) (w .1),
+      case-written (s .args .bytes .now) (s .args .out .now) (s .pre .1) _ _ (c .before .before .before .before .before .before .write-pairs .ensures) (w .1),
     )
 
 pub write-spec : {M : Type 1} → statement M
 write-spec =
-    tie.close
-    (tie.spec
-    shared-slice-read-out
-    slice-write-out
-    write-pairs-requires
-    write-parts-requires
-    same-length
+    tie.close (tie.spec (λ c. search needs) slice-write-out (λ c κs. search needs) write-parts-requires same-length
     returns)

@@ -26,39 +26,9 @@ node-below t = and 1 node-kinds.ps (falls 1 node-kinds.ps _<_ μ-node t) node.Pr
 abbrev claims : ℕ → node-lts.Claims
 claims t = (number-below-reads.Asked, number-below-reads.Learnt, node-below t, node.Post)
 
-node-shared-slice-read-code : (t : ℕ) → node-lts.Need-shared-slice-read-code (claims t) (node-at t) node.Post
-node-shared-slice-read-code t c = search needs
-
-node-add-next : (t : ℕ) → node-lts.Need-add-next (claims t) (node-at t) node.Post
-node-add-next t c = search needs
-
-node-number-below-requires : (t : ℕ) → node-lts.Need-number-below-requires (claims t) (node-at t) node.Post
-node-number-below-requires t c κs = search needs
-
-node-number-below-requires-2 : (t : ℕ) → node-lts.Need-number-below-requires-2 (claims t) (node-at t) node.Post
-node-number-below-requires-2 t c κs = search needs
-
-node-node-requires : (t : ℕ) → node-lts.Need-node-requires (claims t) (node-at t) node.Post
-node-node-requires t c κs = search needs
-
-node-enum-known-left : (t : ℕ) → node-lts.Need-enum-known-left (claims t) (node-at t) node.Post
-node-enum-known-left t c = search needs
-
 node-node-requires-2 : (t : ℕ) → node-lts.Need-node-requires-2 (claims t) (node-at t) node.Post
 node-node-requires-2 t c κs =
     let h = forward _ (told (c .before .before .before .node .ensures) (c .before .left .given .1)) in (omega arith, c .before .before .before .before .before .before .before .before .before .before .pre .1)
-
-node-enum-told : (t : ℕ) → node-lts.Need-enum-told (claims t) (node-at t) node.Post
-node-enum-told t c = search needs
-
-node-node-requires-3 : (t : ℕ) → node-lts.Need-node-requires-3 (claims t) (node-at t) node.Post
-node-node-requires-3 t c κs = search needs
-
-node-add-node : (t : ℕ) → node-lts.Need-add-node (claims t) (node-at t) node.Post
-node-add-node t c = search needs
-
-node-node-requires-4 : (t : ℕ) → node-lts.Need-node-requires-4 (claims t) (node-at t) node.Post
-node-node-requires-4 t c κs = search needs
 
 node-returns : (t : ℕ) → node-lts.Need-returns (claims t) (node-at t) node.Post
 node-returns t c = at-bottom (c .before .before .if1 .taken) (c .before .before .before .before .pre .1) (c .match .keys1)
@@ -97,28 +67,8 @@ node-returns-11 : (t : ℕ) → node-lts.Need-returns-11 (claims t) (node-at t) 
 node-returns-11 t c = ended (c .if1 .left)
 
 pub +node-spec : {M : Type 1} → statement M
-+node-spec = close μ-node λ t. node-lts.spec (claims t)
-    (node-at t)
-    node.Post
-    (node-shared-slice-read-code t)
-    (node-add-next t)
-    (node-number-below-requires t)
-    (node-number-below-requires-2 t)
-    (node-node-requires t)
-    (node-enum-known-left t)
-    (node-node-requires-2 t)
-    (node-enum-told t)
-    (node-node-requires-3 t)
-    (node-add-node t)
-    (node-node-requires-4 t)
-    (node-returns t)
-    (node-returns-2 t)
-    (node-returns-3 t)
-    (node-returns-4 t)
-    (node-returns-5 t)
-    (node-returns-6 t)
-    (node-returns-7 t)
-    (node-returns-8 t)
-    (node-returns-9 t)
-    (node-returns-10 t)
-    (node-returns-11 t)
++node-spec = close μ-node λ t. node-lts.spec (claims t) (node-at t) node.Post (λ c. search needs) (λ c. search needs)
+    (λ c κs. search needs) (λ c κs. search needs) (λ c κs. search needs) (λ c. search needs) (node-node-requires-2 t)
+    (λ c. search needs) (λ c κs. search needs) (λ c. search needs) (λ c κs. search needs) (node-returns t)
+    (node-returns-2 t) (node-returns-3 t) (node-returns-4 t) (node-returns-5 t) (node-returns-6 t) (node-returns-7 t)
+    (node-returns-8 t) (node-returns-9 t) (node-returns-10 t) (node-returns-11 t)

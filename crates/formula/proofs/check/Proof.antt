@@ -4,15 +4,6 @@ use Rattle.formula.proofs.Laws.{told, used-up, left-over, broken, too-l
 use Rattle.formula.proofs.check.Statement.{statement}
 use Rattle.formula.proofs.check.Tie as tie
 
-node-requires : tie.Need-node-requires
-node-requires c κs = search needs
-
-enum-known-whole : tie.Need-enum-known-whole
-enum-known-whole c = search needs
-
-enum-told : tie.Need-enum-told
-enum-told c = search needs
-
 returns : tie.Need-returns
 returns c = used-up _ _ (c .before .before .before .before .before .if1 .taken) _ (told (c .before .before .before .before .node .ensures) (c .before .before .whole .given .1)) (c .if2 .taken)
 
@@ -27,5 +18,5 @@ returns-4 c = too-long _ _ (c .if1 .left)
 
 pub check-spec : {M : Type 1} → statement M
 check-spec =
-    tie.close
-    (tie.spec node-requires enum-known-whole enum-told returns returns-2 returns-3 returns-4)
+    tie.close (tie.spec (λ c κs. search needs) (λ c. search needs) (λ c. search needs) returns returns-2 returns-3
+    returns-4)

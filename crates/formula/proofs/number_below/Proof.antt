@@ -5,12 +5,6 @@ use Rattle.formula.specs.Check.{numberBelow}
 use Rattle.formula.proofs.number_below.Statement.{statement}
 use Rattle.formula.proofs.number_below.Tie as tie
 
-shared-slice-read-if2 : tie.Need-shared-slice-read-if2
-shared-slice-read-if2 c = search needs
-
-add-t11 : tie.Need-add-t11
-add-t11 c = search needs
-
 returns : tie.Need-returns
 unfolding numberBelow
 returns c = simp (lt-ltb _ _ (c .before .before .if1 .taken), lt-ltb _ _ (c .if2 .taken))
@@ -24,4 +18,4 @@ unfolding numberBelow
 returns-3 c = simp (le-ltb _ _ (c .if1 .left))
 
 pub number-below-spec : {M : Type 1} → statement M
-number-below-spec = tie.close (tie.spec shared-slice-read-if2 add-t11 returns returns-2 returns-3)
+number-below-spec = tie.close (tie.spec (λ c. search needs) (λ c. search needs) returns returns-2 returns-3)

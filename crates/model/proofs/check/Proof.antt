@@ -21,12 +21,6 @@ products c = (
 returns : tie.Need-returns
 returns c = answers-refused _ _ (λ s v. omega (arith, s .exact, s .some, s .states-most, s .propositions-most))
 
-shared-slice-read-states : tie.Need-shared-slice-read-states
-shared-slice-read-states c = search needs
-
-shared-slice-read-propositions : tie.Need-shared-slice-read-propositions
-shared-slice-read-propositions c = search needs
-
 returns-2 : tie.Need-returns-2
 returns-2 c = answers-refused _ _ (λ s v. omega (arith, s .exact, s .some, s .states-most, s .propositions-most))
 
@@ -35,15 +29,6 @@ returns-3 c = answers-refused _ _ (λ s v. omega (arith, s .exact, s .some, s .s
 
 returns-4 : tie.Need-returns-4
 returns-4 c = answers-refused _ _ (λ s v. omega (arith, s .exact, s .some, s .states-most, s .propositions-most))
-
-index-requires : tie.Need-index-requires
-index-requires c κs = search needs
-
-index-requires-2 : tie.Need-index-requires-2
-index-requires-2 c κs = search needs
-
-add-if5 : tie.Need-add-if5
-add-if5 c = search needs
 
 mul-if5 : tie.Need-mul-if5
 mul-if5 c = omega (arith, products c)
@@ -60,12 +45,6 @@ add-if5-3 c = omega (arith, products c)
 returns-5 : tie.Need-returns-5
 returns-5 c = answers-refused _ _ (λ s v. c .if5 .taken (cc (s .exact)))
 
-sub-below : tie.Need-sub-below
-sub-below c = search needs
-
-below-requires : tie.Need-below-requires
-below-requires c κs = search needs
-
 -- the test of the bytes is that of 'every value is an element'
 every-value : (c : tie.After-below) → c .below .result ≡ elementsOnly (c .before .before .before .before .before .before .before .before .before .before .before .args .n) (c .before .before .before .before .before .before .before .before .before .before .before .args .part .now)
 unfolding elementsOnly
@@ -79,23 +58,6 @@ returns-7 c = answers-accepted _ _ (record { some = omega arith; states-most = o
 
 pub check-spec : {M : Type 1} → statement M
 check-spec =
-    tie.close
-    (tie.spec
-    returns
-    shared-slice-read-states
-    shared-slice-read-propositions
-    returns-2
-    returns-3
-    returns-4
-    index-requires
-    index-requires-2
-    add-if5
-    mul-if5
-    add-if5-2
-    mul-if5-2
-    add-if5-3
-    returns-5
-    sub-below
-    below-requires
-    returns-6
-    returns-7)
+    tie.close (tie.spec returns (λ c. search needs) (λ c. search needs) returns-2 returns-3 returns-4
+    (λ c κs. search needs) (λ c κs. search needs) (λ c. search needs) mul-if5 add-if5-2 mul-if5-2 add-if5-3 returns-5
+    (λ c. search needs) (λ c κs. search needs) returns-6 returns-7)

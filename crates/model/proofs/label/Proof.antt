@@ -4,18 +4,6 @@ use Rattle.model.specs.Places.{label-at}
 use Rattle.model.proofs.label.Statement.{statement}
 use Rattle.model.proofs.label.Tie as tie
 
-label-row-requires : tie.Need-label-row-requires
-label-row-requires c κs = search needs
-
-index-requires : tie.Need-index-requires
-index-requires c κs = search needs
-
-add-t6 : tie.Need-add-t6
-add-t6 c = search needs
-
-shared-slice-read-t8 : tie.Need-shared-slice-read-t8
-shared-slice-read-t8 c = search needs
-
 returns : tie.Need-returns
 returns c =
     let a = c .before .before .before .before .args in
@@ -23,4 +11,4 @@ returns c =
 
 pub label-spec : {M : Type 1} → statement M
 label-spec =
-    tie.close (tie.spec label-row-requires index-requires add-t6 shared-slice-read-t8 returns)
+    tie.close (tie.spec (λ c κs. search needs) (λ c κs. search needs) (λ c. search needs) (λ c. search needs) returns)

@@ -4,18 +4,6 @@ use Rattle.model.specs.Places.{transition-at}
 use Rattle.model.proofs.transition.Statement.{statement}
 use Rattle.model.proofs.transition.Tie as tie
 
-transition-row-requires : tie.Need-transition-row-requires
-transition-row-requires c κs = search needs
-
-index-requires : tie.Need-index-requires
-index-requires c κs = search needs
-
-add-t6 : tie.Need-add-t6
-add-t6 c = search needs
-
-shared-slice-read-t8 : tie.Need-shared-slice-read-t8
-shared-slice-read-t8 c = search needs
-
 returns : tie.Need-returns
 returns c =
     let a = c .before .before .before .before .args in
@@ -23,4 +11,4 @@ returns c =
 
 pub transition-spec : {M : Type 1} → statement M
 transition-spec =
-    tie.close (tie.spec transition-row-requires index-requires add-t6 shared-slice-read-t8 returns)
+    tie.close (tie.spec (λ c κs. search needs) (λ c κs. search needs) (λ c. search needs) (λ c. search needs) returns)

@@ -13,24 +13,9 @@ Inv-loop f n at₀ left₀ at left = placeFrom left f at ≡ placeFrom n f 0
 abbrev μ-loop : tie.MeasureT-loop
 μ-loop f n at₀ left₀ at left = left
 
-loop-holds : tie.Need-loop-holds Inv-loop μ-loop
-loop-holds c = refl
-
-token-end-requires : tie.Need-token-end-requires Inv-loop μ-loop
-token-end-requires c κs = search needs
-
-sub-left : tie.Need-sub-left Inv-loop μ-loop
-sub-left c = omega arith
-
-loop-less : tie.Need-loop-less Inv-loop μ-loop
-loop-less c = omega arith
-
 loop-again : tie.Need-loop-again Inv-loop μ-loop
 loop-again c =
     rw (c .token-end .ensures) (sym (place-step (c .before .before .loop .left) _ (c .before .before .loop .at) (c .before .loop-test .taken)) ∙ c .before .before .loop .inv)
-
-token-at-requires : tie.Need-token-at-requires Inv-loop μ-loop
-token-at-requires c κs = search needs
 
 returns : tie.Need-returns Inv-loop μ-loop
 returns c =
@@ -38,14 +23,5 @@ returns c =
 
 pub nth-spec : {M : Type 1} → statement M
 nth-spec =
-    tie.close
-    (tie.spec
-    Inv-loop
-    μ-loop
-    loop-holds
-    token-end-requires
-    sub-left
-    loop-less
-    loop-again
-    token-at-requires
-    returns)
+    tie.close (tie.spec Inv-loop μ-loop (λ c. refl) (λ c κs. search needs) (λ c. omega arith) (λ c. omega arith)
+    loop-again (λ c κs. search needs) returns)

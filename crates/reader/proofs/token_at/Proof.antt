@@ -8,18 +8,6 @@ use Rattle.reader.proofs.Laws.{at-code, at-second, at-end, number-there
 use Rattle.reader.proofs.token_at.Statement.{statement}
 use Rattle.reader.proofs.token_at.Tie as tie
 
-shared-slice-read-code : tie.Need-shared-slice-read-code
-shared-slice-read-code c = search needs
-
-add-next : tie.Need-add-next
-add-next c = search needs
-
-shared-slice-read-t16 : tie.Need-shared-slice-read-t16
-shared-slice-read-t16 c = search needs
-
-shared-slice-read-t22 : tie.Need-shared-slice-read-t22
-shared-slice-read-t22 c = search needs
-
 returns : tie.Need-returns
 unfolding tokenByCode
 returns c = sym (at-code _ _ 0 (c .before .before .if1 .taken) (c .match .keys1))
@@ -82,24 +70,6 @@ returns-15 c = at-end _ _ (c .if1 .left)
 
 pub token-at-spec : {M : Type 1} → statement M
 token-at-spec =
-    tie.close
-    (tie.spec
-    shared-slice-read-code
-    add-next
-    shared-slice-read-t16
-    shared-slice-read-t22
-    returns
-    returns-2
-    returns-3
-    returns-4
-    returns-5
-    returns-6
-    returns-7
-    returns-8
-    returns-9
-    returns-10
-    returns-11
-    returns-12
-    returns-13
-    returns-14
-    returns-15)
+    tie.close (tie.spec (λ c. search needs) (λ c. search needs) (λ c. search needs) (λ c. search needs) returns
+    returns-2 returns-3 returns-4 returns-5 returns-6 returns-7 returns-8 returns-9 returns-10 returns-11 returns-12
+    returns-13 returns-14 returns-15)

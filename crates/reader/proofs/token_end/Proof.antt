@@ -7,12 +7,6 @@ use Rattle.reader.proofs.Laws.{end-most}
 use Rattle.reader.proofs.token_end.Statement.{statement}
 use Rattle.reader.proofs.token_end.Tie as tie
 
-token-at-requires : tie.Need-token-at-requires
-token-at-requires c κs = search needs
-
-size-requires : tie.Need-size-requires
-size-requires c κs = search needs
-
 add-result : tie.Need-add-result
 add-result c =
     let e = c .size .ensures ∙ ap tokenSize (c .before .token-at .ensures) in
@@ -22,4 +16,4 @@ returns : tie.Need-returns
 returns c = rw (c .size .ensures, c .before .token-at .ensures)
 
 pub token-end-spec : {M : Type 1} → statement M
-token-end-spec = tie.close (tie.spec token-at-requires size-requires add-result returns)
+token-end-spec = tie.close (tie.spec (λ c κs. search needs) (λ c κs. search needs) add-result returns)

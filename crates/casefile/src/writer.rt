@@ -1,0 +1,68 @@
+// The writing of the gapless case: a number, a pair, the pairs of all parts, and the parts.
+use crate::part;
+use crate::part_size;
+ghost use mathlib.Core.Path.{_≡_};
+ghost use Prim.Native.Nat.{_+_, _*_, _≤_, _<_};
+ghost use lib.ListN.{length};
+ghost use Rattle.theory.specs.Lists.{written};
+ghost use Rattle.casefile.specs.Gapless.{gaplessOf};
+ghost use Rattle.casefile.specs.Conditions.{Placed};
+ghost use Rattle.casefile.specs.Steps.{withWord, withPair, withPairs, withParts};
+
+// Writes bytes at a place of a buffer.
+fn copy(part: &[u8], out: &mut [u8], at: usize)
+    requires { ⌜ at + length (now part) ≤ length (now out) ⌝ }
+    ensures { λ _. ⌜ now (out .exit) ≡ written at (now (part .entry)) (now (out .entry)) ⌝ }
+{
+    let count = part.len();
+    for j in 0..count {
+        out[at + j] = part[j];
+    }
+}
+
+// Writes a number of 16 bits, low byte first.
+fn put_word(out: &mut [u8], at: usize, x: usize)
+    requires { ⌜ (at + 1 < length (now out)) × (x < 65536) ⌝ }
+    ensures { λ _. ⌜ now (out .exit) ≡ withWord (now (out .entry)) at x ⌝ }
+{
+    out[at] = (x % 256) as u8;
+    out[at + 1] = (x / 256) as u8;
+}
+
+// Writes the pair of part i.
+fn put_pair(out: &mut [u8], i: u8, start: usize, size: usize)
+    requires { ⌜ (4 + 4 * i < length (now out)) × (start < 65536) × (size < 65536) ⌝ }
+    ensures { λ _. ⌜ now (out .exit) ≡ withPair (now (out .entry)) i start size ⌝ }
+{
+    put_word(out, 1 + 4 * operations::index(i), start);
+    put_word(out, 3 + 4 * operations::index(i), size);
+}
+
+// Writes the pairs of offset and length, for parts without gaps.
+pub fn write_pairs(bytes: &[u8], out: &mut [u8])
+    requires { ⌜ Placed (now bytes) × (length (gaplessOf (now bytes)) ≤ length (now out)) ⌝ }
+    ensures { λ _. ⌜ now (out .exit) ≡ withPairs (now (bytes .entry)) (now (out .entry)) ⌝ }
+{
+    let count = bytes[0];
+    let mut at = 1 + 4 * operations::index(count);
+    for i in 0..count {
+        let size = part_size(bytes, i);
+        put_pair(out, i, at, size);
+        at = at + size;
+    }
+}
+
+// Writes the bytes of the parts, one after the other, after the directory.
+pub fn write_parts(bytes: &[u8], out: &mut [u8]) -> usize
+    requires { ⌜ Placed (now bytes) × (length (gaplessOf (now bytes)) ≤ length (now out)) ⌝ }
+    ensures { λ r. ⌜ (r ≡ length (gaplessOf (now (bytes .entry)))) × (now (out .exit) ≡ withParts (now (bytes .entry)) (now (out .entry))) ⌝ }
+{
+    let count = bytes[0];
+    let mut at = 1 + 4 * operations::index(count);
+    for i in 0..count {
+        let p = part(bytes, i);
+        copy(p, out, at);
+        at = at + p.len();
+    }
+    at
+}

@@ -1,0 +1,170 @@
+-- Where a formula ends, from where its parts end, and the rules under binders by the formula's shape. Rests on RoundTrip and Check.
+--   under-or .. under-four: the rules for a formula, from those for its parts; under four binders nothing is allowed
+--   unary-end, binary-end, binary-broken, numbered-end: where a formula of one part, of two, or of a number ends
+--   never-at, cond-at, cond-broken: an answer that is given under a test
+--   length-before: how many bytes stand before a place; pair: a paired code is one of the two
+use Prim.Native.Nat.{ℕ, suc, max, _+_, _-_, _≤_, _<_}
+use mathlib.Core.Path.{_≡_, refl, sym, ap, _∙_}
+use mathlib.Core.Bool.{Bool, true, false, cond, _&&_, and-true}
+use mathlib.Core.Logic.{_⊎_, inl, inr, ⊎-elim}
+use mathlib.Core.List.{List, _++_}
+use native.Mathlib.Nat.{eq-or-lt-of-le}
+use native.Mathlib.Numerals.{add-one}
+use native.Mathlib.Omega.{arith}
+use lib.Dec.{ltb, leb}
+use lib.ListN.{length, getD, drop, length-append, length-drop, drop-of-length-le}
+use lib.Seq.{drop-cons, drop-drop, drop-at}
+use borrow.Author.Tests.{lt-ltb, le-ltb, le-leb, lt-leb, leb-true, ltb-true, ltb-false}
+use Rattle.theory.specs.Formula.{Formula, bottom, top, prop, negated, var, or, and, AX, EX, mu, nu, boundBy, overProps, nestedBinders}
+use Rattle.theory.specs.TestLaws.{and-l, and-r, and-in, and-false, bool-same}
+use Rattle.formula.specs.Bytes.{bytesOf, Parsed, parsed, unparsed, numbered, unary, binary, parse}
+use Rattle.formula.specs.RoundTrip.{bytes-parse}
+use Rattle.formula.specs.Check.{allowedUnder, endOf, numberBelow}
+use Rattle.formula.specs.declared.NodeEnd.{NodeEnd}
+use Rattle.formula.specs.declared.NodeEnd.the-variants.{At, Broken}
+
+-- ---- the rules under binders, by the formula's shape
+
+-- three rules for each of two parts, sorted by the part
+shuffled : (a b c d e f : Bool) → (a && b && (c && d) && (e && f)) ≡ (a && c && e && (b && d && f))
+shuffled true b true d true f = refl
+shuffled true b true d false f = and-false (b && d)
+shuffled true true false d e f = refl
+shuffled true false false d e f = refl
+shuffled false b c d e f = refl
+
+-- the deeper of two parts decides
+deepest : (d x y : ℕ) → leb (d + max x y) 3 ≡ (leb (d + x) 3 && leb (d + y) 3)
+deepest d x y =
+    bool-same _ (leb (d + x) 3 && leb (d + y) 3)
+    (λ e. let h = leb-true (d + max x y) 3 e in and-in (leb (d + x) 3) (leb (d + y) 3) (le-leb (d + x) 3 (omega arith)) (le-leb (d + y) 3 (omega arith)))
+    (λ e. let h = leb-true (d + x) 3 (and-l _ (leb (d + y) 3) e) in let g = leb-true (d + y) 3 (and-r (leb (d + x) 3) _ e) in le-leb (d + max x y) 3 (omega arith))
+
+one-more : (d n : ℕ) → d + suc n ≡ d + 1 + n
+one-more d n = omega arith
+
+-- the rules for a formula of two parts are those for both
+joined : (k d : ℕ) (f g : Formula) → (boundBy d f && boundBy d g && (overProps k f && overProps k g) && leb (d + max (nestedBinders f) (nestedBinders g)) 3) ≡ (allowedUnder k d f && allowedUnder k d g)
+unfolding allowedUnder
+joined k d f g =
+    rw (deepest d (nestedBinders f) (nestedBinders g))
+    (shuffled (boundBy d f) (boundBy d g) (overProps k f) (overProps k g) (leb (d + nestedBinders f) 3) (leb (d + nestedBinders g) 3))
+
+module _ (k d : ℕ) where
+  pub under-or : (f g : Formula) → allowedUnder k d (or f g) ≡ (allowedUnder k d f && allowedUnder k d g)
+  unfolding allowedUnder boundBy overProps nestedBinders
+  under-or f g = joined k d f g
+
+  pub under-and : (f g : Formula) → allowedUnder k d (and f g) ≡ (allowedUnder k d f && allowedUnder k d g)
+  unfolding allowedUnder boundBy overProps nestedBinders
+  under-and f g = joined k d f g
+
+  pub under-bottom : d ≤ 3 → allowedUnder k d bottom ≡ true
+  unfolding allowedUnder boundBy overProps nestedBinders
+  under-bottom l = le-leb (d + 0) 3 (omega arith)
+
+  pub under-top : d ≤ 3 → allowedUnder k d top ≡ true
+  unfolding allowedUnder boundBy overProps nestedBinders
+  under-top l = le-leb (d + 0) 3 (omega arith)
+
+  pub under-prop : d ≤ 3 → (p : ℕ) → allowedUnder k d (prop p) ≡ ltb p k
+  unfolding allowedUnder boundBy overProps nestedBinders
+  under-prop l p = rw (le-leb (d + 0) 3 (omega arith)) (and-true (ltb p k))
+
+  pub under-negated : d ≤ 3 → (p : ℕ) → allowedUnder k d (negated p) ≡ ltb p k
+  unfolding allowedUnder boundBy overProps nestedBinders
+  under-negated l p = rw (le-leb (d + 0) 3 (omega arith)) (and-true (ltb p k))
+
+  pub under-var : d ≤ 3 → (v : ℕ) → allowedUnder k d (var v) ≡ ltb v d
+  unfolding allowedUnder boundBy overProps nestedBinders
+  under-var l v = rw (le-leb (d + 0) 3 (omega arith)) (and-true (ltb v d && true) ∙ and-true (ltb v d))
+
+  pub under-AX : (f : Formula) → allowedUnder k d (AX f) ≡ allowedUnder k d f
+  unfolding allowedUnder boundBy overProps nestedBinders
+  under-AX f = refl
+
+  pub under-EX : (f : Formula) → allowedUnder k d (EX f) ≡ allowedUnder k d f
+  unfolding allowedUnder boundBy overProps nestedBinders
+  under-EX f = refl
+
+  pub under-mu : (f : Formula) → allowedUnder k d (mu f) ≡ allowedUnder k (d + 1) f
+  unfolding allowedUnder boundBy overProps nestedBinders
+  under-mu f = rw (one-more d (nestedBinders f), add-one)
+
+  pub under-nu : (f : Formula) → allowedUnder k d (nu f) ≡ allowedUnder k (d + 1) f
+  unfolding allowedUnder boundBy overProps nestedBinders
+  under-nu f = rw (one-more d (nestedBinders f), add-one)
+
+  -- nothing is allowed under four binders
+  pub under-four : 4 ≤ d → (f : Formula) → allowedUnder k d f ≡ false
+  unfolding allowedUnder
+  under-four l f = rw (lt-leb (d + nestedBinders f) 3 (omega arith)) (and-false (boundBy d f && overProps k f))
+
+  -- ---- the end of a formula, from the ends of its parts
+
+  -- a formula of one part ends where its part does
+  pub unary-end : (g : Formula → Formula) (d' n : ℕ) → ((a : Formula) → allowedUnder k d (g a) ≡ allowedUnder k d' a) → (p : Parsed) → endOf k d n (unary g p) ≡ endOf k d' n p
+  unary-end g d' n w unparsed = refl
+  unary-end g d' n w (parsed a t) = rw (w a)
+
+  unary-broken : (g : Formula → Formula) (n : ℕ) → ((a : Formula) → allowedUnder k d (g a) ≡ false) → (p : Parsed) → Broken ≡ endOf k d n (unary g p)
+  unary-broken g n w unparsed = refl
+  unary-broken g n w (parsed a t) = rw (w a)
+
+pub never-at : (i : ℕ) → At i ≡ Broken → ⊥
+never-at i e = let z : _≡_ {A = ℕ} 0 1 = cc in omega arith
+
+-- an answer that is given under a test
+pub cond-at : (t : Bool) (i j : ℕ) → At i ≡ cond t (At j) Broken → (t ≡ true) × (i ≡ j)
+cond-at true i j e = (refl, (cc))
+cond-at false i j e = absurd (never-at i e)
+
+pub cond-broken : (t : Bool) (j : ℕ) → Broken ≡ cond t (At j) Broken → t ≡ false
+cond-broken true j e = absurd (never-at j (sym e))
+cond-broken false j e = refl
+
+-- what comes after a front that begins at j is the end of b
+rest-at : (b : List ℕ) (j : ℕ) (front t : List ℕ) → j ≤ length b → drop j b ≡ front ++ t → drop (length b - length t) b ≡ t
+rest-at b j front t l e =
+    let h = length-drop j b in
+    let g = length-append front t in
+    let s : length b - length t ≡ j + length front = omega (arith, ap length e) in
+    rw s (sym (drop-drop (length front) j b) ∙ rw e (drop-at front t (length front) refl))
+
+-- how many bytes stand before j
+pub length-before : (b : List ℕ) (j : ℕ) → j ≤ length b → length b - length (drop j b) ≡ j
+length-before b j l = omega (arith, length-drop j b)
+
+module _ (b : List ℕ) (k d n j : ℕ) (l : j ≤ length b) (g : Formula → Formula → Formula) (w : (a c : Formula) → allowedUnder k d (g a c) ≡ (allowedUnder k d a && allowedUnder k d c)) where
+  -- a formula of two parts ends where its second part does, which begins where the first ends
+  pub binary-end : (i : ℕ) (r : NodeEnd) (p : Parsed) → parse n (drop j b) ≡ p → At i ≡ endOf k d (length b) p → r ≡ endOf k d (length b) (parse n (drop i b))
+      → r ≡ endOf k d (length b) (binary g (parse n) p)
+  binary-end i r unparsed q e h = absurd (never-at i e)
+  binary-end i r (parsed a t) q e h =
+      let s = cond-at (allowedUnder k d a) i (length b - length t) e in
+      let u : drop i b ≡ t = rw (s .1) (rest-at b j (bytesOf a) t l (bytes-parse n (drop j b) a t q)) in
+      h ∙ rw u (sym (unary-end k d (g a) d (length b) (λ c. w a c ∙ rw (s .0)) (parse n t)))
+
+  pub binary-broken : (p : Parsed) → Broken ≡ endOf k d (length b) p → Broken ≡ endOf k d (length b) (binary g (parse n) p)
+  binary-broken unparsed e = refl
+  binary-broken (parsed a t) e = unary-broken k d (g a) (length b) (λ c. w a c ∙ rw (cond-broken (allowedUnder k d a) (length b - length t) e)) (parse n t)
+
+lt-or-le : (i n : ℕ) → (i < n) ⊎ (n ≤ i)
+lt-or-le i n = go (ltb i n) refl
+  where
+    go : (t : Bool) → ltb i n ≡ t → (i < n) ⊎ (n ≤ i)
+    go true e = inl (ltb-true i n e)
+    go false e = inr (ltb-false i n e)
+
+-- a paired code is one of the two
+pub pair : (c x : ℕ) → c ≤ x → x ≤ suc c → (x ≡ c) ⊎ (x ≡ suc c)
+pair c x l m = ⊎-elim (λ e. inr e) (λ h. inl (omega arith)) (eq-or-lt-of-le m)
+
+-- a formula that is one number ends after it
+pub numbered-end : (b : List ℕ) (k d j bound : ℕ) (g : ℕ → Formula) → ((p : ℕ) → allowedUnder k d (g p) ≡ ltb p bound) → numberBelow b j bound ≡ endOf k d (length b) (numbered g (drop j b))
+unfolding numberBelow
+numbered-end b k d j bound g w = go (lt-or-le j (length b))
+  where
+    go : (j < length b) ⊎ (length b ≤ j) → cond (ltb j (length b)) (cond (ltb (getD b j 0) bound) (At (j + 1)) Broken) Broken ≡ endOf k d (length b) (numbered g (drop j b))
+    go (inl l) = rw (lt-ltb j (length b) l, drop-cons b j 0 l, w (getD b j 0), length-before b (suc j) l, add-one)
+    go (inr l) = rw (le-ltb j (length b) l, drop-of-length-le b l)
