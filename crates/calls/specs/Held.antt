@@ -20,7 +20,8 @@ use Rattle.casefile.specs.Caller.{AcceptedCase, accepted-as}
 use Rattle.desk.specs.Desk.{Desk, Question, Call, isOpen}
 use Rattle.desk.specs.Refused.{short, tableKept, rulesKept, keptFor, spoiled, inRange, examined, refusedReply}
 use Rattle.desk.specs.Perform.{answerTo, answer, moved}
-use Rattle.desk.specs.RefusedLaws.{Long, long-enough, Unspoiled, is-short, is-spoiled, in-store, rules-out, outcome, Outcome, too-short, broken, outside, inside, other-accepted, perform-refused, perform-accepted}
+use Rattle.desk.specs.RefusedLaws.{Unspoiled, is-short, is-spoiled, in-store, outcome, Outcome, too-short, broken, outside, inside, other-accepted, perform-refused, perform-accepted}
+use Rattle.desk.specs.RulesLaws.{Long, long-enough, rules-out}
 use Rattle.calls.specs.declared.Examined.{Examined}
 use Rattle.calls.specs.declared.Examined.the-variants.{Refused, Held}
 use Rattle.calls.specs.Answer.{examinedAnswer, DeskExamined, Does}

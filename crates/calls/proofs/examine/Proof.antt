@@ -8,7 +8,7 @@ use Rattle.casefile.specs.Caller.{when-accepted, when-refused}
 use Rattle.desk.specs.Desk.{Desk}
 use Rattle.desk.specs.Refused.{short, rulesKept}
 use Rattle.calls.specs.Read.{deskOf}
-use Rattle.desk.specs.RefusedLaws.{Long, long-enough}
+use Rattle.desk.specs.RulesLaws.{Long, long-enough}
 use Rattle.calls.specs.Held.{short-examined, unread-examined, spoiled-examined, held-examined}
 use borrow.Author.Needs.{needs}
 use Rattle.calls.proofs.examine.Statement.{statement}

@@ -5,7 +5,7 @@ use native.Mathlib.Omega.{arith}
 use Rattle.casefile.specs.Caller.{when-accepted, when-refused}
 use Rattle.desk.specs.Desk.{Desk}
 use Rattle.desk.specs.Refused.{short}
-use Rattle.desk.specs.RefusedLaws.{Long, long-enough}
+use Rattle.desk.specs.RulesLaws.{Long, long-enough}
 use Rattle.calls.specs.Read.{deskOf}
 use Rattle.calls.specs.Held.{case-few}
 use Rattle.calls.specs.Opened.{short-open, refused-open, accepted-open}

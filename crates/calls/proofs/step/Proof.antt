@@ -3,7 +3,7 @@ use mathlib.Core.Path.{refl, sym}
 use lib.Seq.{length-take-le}
 use Rattle.desk.specs.Desk.{Desk, Call}
 use Rattle.calls.specs.Read.{deskOf}
-use Rattle.desk.specs.RefusedLaws.{Long}
+use Rattle.desk.specs.RulesLaws.{Long}
 use Rattle.calls.specs.Held.{when-held}
 use Rattle.calls.specs.Held.{refused-call}
 use Rattle.calls.specs.Stepped.{workable, round-fits, row-in, settled-step, into-first, into-second}
