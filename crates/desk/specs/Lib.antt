@@ -10,6 +10,7 @@ pub mod Demand1
 pub mod Demand2
 pub mod Demand3
 -- ---- theorems
+pub mod CaseParts
 pub mod RulesLaws
 pub mod RefusedLaws
 pub mod CaseNumbers
