@@ -24,6 +24,7 @@ use Rattle.desk.specs.Refused.{isModel}
 use Rattle.desk.specs.Case.{ops, model1, model2, modelIn, formulaIn, roundIn}
 use Rattle.listing.specs.Text.{each, formulaLine, formulasText, tableText, refusedText, settledRound, acceptedText, listingText, Lists}
 use Rattle.listing.specs.Writing.{Wrote, wrote-then, wrote-within, fits-then}
+use Rattle.listing.specs.Settling.{WroteSettled}
 use Rattle.listing.specs.Most.{table-most, text-most}
 use Rattle.listing.specs.Settled.{settled-isT, listing-is}
 
@@ -96,7 +97,7 @@ module _ {b : List ℕ} {z : Sizes} {t : List ℕ} (a : AcceptedCase b z t) wher
       })
 
   pub settled-part : (d e m₁ m₂ : List ℕ) (n : ℕ) → m₁ ≡ partAt b 1 → m₂ ≡ partAt b 2
-      → ((T : ℕ) → FirstUnchanged (opsIn t (z .lattice)) (modelOf m₁) (modelOf m₂) T → Wrote d 0 (tableText (opsIn t (z .lattice)) (modelOf m₁) (modelOf m₂) T (round (opsIn t (z .lattice)) (modelOf m₁) (modelOf m₂) T)) e n)
+      → WroteSettled t (z .lattice) m₁ m₂ d e n
       → Wrote d 0 settledPart e n
   settled-part d e m₁ m₂ n p q h = (rw (p ∙ a .parts .model1, q ∙ a .parts .model2, a .tables) at h) (settledRound (a .holds)) (settled-isT (a .holds) (a .sound))
 

@@ -5,12 +5,12 @@ use borrow.Author.Needs.{needs}
 use Rattle.listing.specs.Writing.{few-room, few-written, more-room, more-written, wrote-length}
 use borrow.Fn.Kinds.{In}
 use borrow.Fn.PlainCycle.{Measures, is, falls, and}
-use Rattle.listing.proofs.put_number.Reads as put-number
-use Rattle.listing.proofs.put_number.Kinds as put-number-kinds
-use Rattle.listing.proofs.+put_number.Lts-put_number as put-number-lts
-use Rattle.listing.proofs.digit.Reads as digit-reads
-use Rattle.listing.proofs.+put_number.{statement}
-use Rattle.listing.proofs.+put_number.Tie.{close}
+use Rattle.listing.proofs.writing.put_number.Reads as put-number
+use Rattle.listing.proofs.writing.put_number.Kinds as put-number-kinds
+use Rattle.listing.proofs.writing.+put_number.Lts-put_number as put-number-lts
+use Rattle.listing.proofs.writing.digit.Reads as digit-reads
+use Rattle.listing.proofs.writing.+put_number.{statement}
+use Rattle.listing.proofs.writing.+put_number.Tie.{close}
 
 abbrev μ-put-number : Measures 1 put-number-kinds.ps ℕ
 μ-put-number κs a = a .0

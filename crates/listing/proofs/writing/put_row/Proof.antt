@@ -6,8 +6,8 @@ use Rattle.rounds.specs.Table.{tableOf}
 use Rattle.listing.specs.Text.{rowWord, heading, lineEnd, entriesText, rowText}
 use Rattle.listing.specs.Writing.{wrote-then, fits-then, fits-first}
 use borrow.Author.Needs.{needs}
-use Rattle.listing.proofs.put_row.Statement.{statement}
-use Rattle.listing.proofs.put_row.Tie as tie
+use Rattle.listing.proofs.writing.put_row.Statement.{statement}
+use Rattle.listing.proofs.writing.put_row.Tie as tie
 
 -- the row's number, and its entries
 abbrev head : ℕ → List ℕ

@@ -5,8 +5,8 @@ use native.Mathlib.Omega.{arith}
 use lib.ListN.{getD}
 use Rattle.listing.specs.Text.{item, blank, each}
 use Rattle.listing.specs.Writing.{Wrote, each-starts, each-room, each-turn, each-done, each-kept}
-use Rattle.listing.proofs.put_entries.Statement.{statement}
-use Rattle.listing.proofs.put_entries.Tie as tie
+use Rattle.listing.proofs.writing.put_entries.Statement.{statement}
+use Rattle.listing.proofs.writing.put_entries.Tie as tie
 
 -- entry q, with the blank before it
 abbrev entry : List ℕ → ℕ → ℕ → List ℕ

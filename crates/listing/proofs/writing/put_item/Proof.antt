@@ -3,8 +3,8 @@ use native.Mathlib.Omega.{arith}
 use Rattle.listing.specs.Text.{decimal}
 use Rattle.listing.specs.Writing.{wrote-then, fits-then, fits-first}
 use borrow.Author.Needs.{needs}
-use Rattle.listing.proofs.put_item.Statement.{statement}
-use Rattle.listing.proofs.put_item.Tie as tie
+use Rattle.listing.proofs.writing.put_item.Statement.{statement}
+use Rattle.listing.proofs.writing.put_item.Tie as tie
 
 put-requires : tie.Need-put-requires
 put-requires c κs = let s = c .before .before .before in fits-first (s .args .text .now) (s .args .at) (s .args .word .now) (decimal (s .args .n)) (s .pre)

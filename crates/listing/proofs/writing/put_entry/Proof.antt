@@ -1,7 +1,7 @@
 -- `listing::put_entry` meets its contract: the entry's number after a blank.
 use borrow.Author.Needs.{needs}
-use Rattle.listing.proofs.put_entry.Statement.{statement}
-use Rattle.listing.proofs.put_entry.Tie as tie
+use Rattle.listing.proofs.writing.put_entry.Statement.{statement}
+use Rattle.listing.proofs.writing.put_entry.Tie as tie
 
 slice-aggregate-put-item : tie.Need-slice-aggregate-put-item
 slice-aggregate-put-item c = search needs

@@ -3,8 +3,8 @@ use native.Mathlib.Omega.{arith}
 use Rattle.model.specs.Places.{prod-le}
 use Rattle.listing.specs.Settling.{tops-start, settled-text}
 use borrow.Author.Needs.{needs}
-use Rattle.listing.proofs.put_settled.Statement.{statement}
-use Rattle.listing.proofs.put_settled.Tie as tie
+use Rattle.listing.proofs.settling.put_settled.Statement.{statement}
+use Rattle.listing.proofs.settling.put_settled.Tie as tie
 
 slice-aggregate-settle : tie.Need-slice-aggregate-settle
 slice-aggregate-settle c = search needs

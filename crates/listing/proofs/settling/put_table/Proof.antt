@@ -10,8 +10,8 @@ use Rattle.rounds.specs.Table.{tableOf}
 use Rattle.listing.specs.Text.{roundsWord, scoreWord, lastItem, rowsText, tableText}
 use Rattle.listing.specs.Writing.{wrote-then, fits-then, fits-first}
 use borrow.Author.Needs.{needs}
-use Rattle.listing.proofs.put_table.Statement.{statement}
-use Rattle.listing.proofs.put_table.Tie as tie
+use Rattle.listing.proofs.settling.put_table.Statement.{statement}
+use Rattle.listing.proofs.settling.put_table.Tie as tie
 
 -- the three parts of the text
 abbrev rounds : tie.Start → List ℕ

@@ -7,8 +7,8 @@ use native.Mathlib.Omega.{arith}
 use lib.ListN.{length, getD, set}
 use lib.Seq.{paste, paste-zero, paste-suc, length-paste}
 use Rattle.listing.specs.Writing.{wrote-copy}
-use Rattle.listing.proofs.put.Statement.{statement}
-use Rattle.listing.proofs.put.Tie as tie
+use Rattle.listing.proofs.writing.put.Statement.{statement}
+use Rattle.listing.proofs.writing.put.Tie as tie
 
 abbrev Inv-loop : tie.InvT-loop
 Inv-loop bytes text₀ at count j₀ text j = (j ≤ length bytes) × (count ≡ length bytes) × (text ≡ paste text₀ at bytes j)

@@ -8,8 +8,8 @@ use Rattle.rounds.specs.Table.{tableOf}
 use Rattle.theory.specs.Simulation.{F}
 use Rattle.rounds.specs.Round.{RoundSoFar, round-none, round-more, round-reached}
 use borrow.Author.Needs.{needs}
-use Rattle.listing.proofs.whole_round.Statement.{statement}
-use Rattle.listing.proofs.whole_round.Tie as tie
+use Rattle.listing.proofs.settling.whole_round.Statement.{statement}
+use Rattle.listing.proofs.settling.whole_round.Tie as tie
 
 abbrev Inv-loop : tie.InvT-loop
 Inv-loop t l m1 m2 whole other₀ n1 changed₀ q1₀ other changed q1 =

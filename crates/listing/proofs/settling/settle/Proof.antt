@@ -9,8 +9,8 @@ use lib.ListN.{length}
 use Rattle.theory.specs.Part.{modelOf}
 use Rattle.operations.specs.Table.{opsIn}
 use Rattle.listing.specs.Settling.{AtRound, at-start, rounds-few, next-round, settled-out, settled-read}
-use Rattle.listing.proofs.settle.Statement.{statement}
-use Rattle.listing.proofs.settle.Tie as tie
+use Rattle.listing.proofs.settling.settle.Statement.{statement}
+use Rattle.listing.proofs.settling.settle.Tie as tie
 
 abbrev Inv-loop : tie.InvT-loop
 Inv-loop t l m1 m2 first₀ second₀ r₀ first second r = AtRound (opsIn t l) (modelOf m1) (modelOf m2) first r × (length first ≡ length first₀) × (length second ≡ length second₀)

@@ -6,8 +6,8 @@ use Rattle.model.specs.Places.{row-le}
 use Rattle.rounds.specs.Table.{tableOf}
 use Rattle.listing.specs.Text.{rowText, each}
 use Rattle.listing.specs.Writing.{Wrote, each-starts, each-room, each-turn, each-done, each-kept}
-use Rattle.listing.proofs.put_rows.Statement.{statement}
-use Rattle.listing.proofs.put_rows.Tie as tie
+use Rattle.listing.proofs.writing.put_rows.Statement.{statement}
+use Rattle.listing.proofs.writing.put_rows.Tie as tie
 
 abbrev line : List ℕ → ℕ → ℕ → List ℕ
 line table n2 = rowText (tableOf table n2) n2
