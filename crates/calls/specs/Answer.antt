@@ -1,4 +1,8 @@
--- What the calls' code answers, in the desk's terms: for each of an enum's cases the number and values that document 01 gives. Rests on desk's Perform, casefile's Answer.
+-- What the calls' code answers, in the desk's terms: for each of an enum's cases the number and values that document 01 gives. Rests on
+-- desk's Perform, casefile's Answer.
+--   rulesOf, DeskExamined: what the examination answers
+--   Does, Asks: what a call does, and what one that only reads does
+--   stepReply, openReply, elementReply, shareReply, judgeReply: each answer as the desk's reply
 use Prim.Native.Nat.{ℕ, _*_}
 use mathlib.Core.Bool.{Bool, _&&_}
 use mathlib.Core.Path.{_≡_}
@@ -10,8 +14,8 @@ use Rattle.casefile.specs.Reading.{Content, CaseReading, refused, content}
 use Rattle.casefile.specs.Answer.{sizesOf}
 use Rattle.casefile.specs.declared.Sizes.{Sizes}
 use Rattle.calls.specs.declared.Standing.{Standing}
-use Rattle.calls.specs.Read.{standingOf}
-use Rattle.desk.specs.Desk.{Desk, Call, Reply}
+use Rattle.calls.specs.Read.{standingOf, deskOf}
+use Rattle.desk.specs.Desk.{Desk, Call, Question, Reply}
 use Rattle.desk.specs.Refused.{standingKept, tableKept, examined, numberReply}
 use Rattle.desk.specs.Perform.{perform}
 use Rattle.calls.specs.declared.Examined.{Examined}
@@ -47,6 +51,10 @@ pub record DeskExamined (d : Desk) (r : Examined) (t : List ℕ) : Type 0 where
 -- the call k on the desk d answers x and leaves the desk e
 abbrev pub Does : Call → Desk → Reply → Desk → Type 0
 Does k d x e = perform k d ≡ record { reply = x; desk = e }
+
+-- the question q on the desk of these four answers x and leaves that desk
+abbrev pub Asks : Question → Standing → List ℕ → List ℕ → List ℕ → Reply → Type 0
+Asks q s store first second x = Does (Call.Ask q) (deskOf s store first second) x (deskOf s store first second)
 
 abbrev pub stepReply : StepAnswer → Reply
 stepReply (step.Refused r) = numberReply r

@@ -20,7 +20,8 @@ use Rattle.casefile.specs.Caller.{AcceptedCase, accepted-as}
 use Rattle.desk.specs.Desk.{Desk, Question, Call, isOpen}
 use Rattle.desk.specs.Refused.{short, tableKept, rulesKept, keptFor, spoiled, inRange, examined, refusedReply}
 use Rattle.desk.specs.Perform.{answerTo, answer, moved}
-use Rattle.desk.specs.RefusedLaws.{Long, long-enough, Unspoiled, is-short, is-spoiled, in-store, rules-out, outcome, Outcome, too-short, broken, outside, inside, other-accepted, perform-refused, perform-accepted}
+use Rattle.desk.specs.RefusedLaws.{Unspoiled, is-short, is-spoiled, in-store, outcome, Outcome, too-short, broken, outside, inside, other-accepted, perform-refused, perform-accepted}
+use Rattle.desk.specs.RulesLaws.{Long, long-enough, rules-out}
 use Rattle.calls.specs.declared.Examined.{Examined}
 use Rattle.calls.specs.declared.Examined.the-variants.{Refused, Held}
 use Rattle.calls.specs.Answer.{examinedAnswer, DeskExamined, Does}
@@ -55,7 +56,7 @@ pub table-kept : (table : List ℕ) (m count n : ℕ) (r : Bool) → r ≡ allBe
 table-kept table m count n r e q = e ∙ all-cong m _ _ (λ i l. ap (λ (j : ℕ). ltb (getD table j 0) n) (zero-add i)) ∙ ap (λ (k : ℕ). tableKept k n table) q
 
 -- a question on a desk that is held: answered, or refused with 13
-module _ (d : Desk) (z : Sizes) (t : List ℕ) (h : HeldDesk d z t) where
+module _ {d : Desk} {z : Sizes} {t : List ℕ} (h : HeldDesk d z t) where
   pub held-question : (q : Question) → inRange q (h .case .holds) ≡ true → Does (Call.Ask q) d (answerTo q (h .case .holds) d) d
   unfolding answer moved
   held-question q i = perform-accepted (Call.Ask q) d (h .case .holds) (in-store (Call.Ask q) d (h .case .holds) refl (h .kept) ∙ rw i)
@@ -107,13 +108,13 @@ module _ (d : Desk) (z : Sizes) (t : List ℕ) (s : short d ≡ false) (a : Acce
   rules-same : tests ≡ keptFor (a .holds) d
   rules-same = rw (a .sizes)
 
-  pub spoiled-examined : tests ≡ false → DeskExamined d (Refused SpoiledDesk) t
+  pub spoiled-examined : (x : Bool) → x ≡ tests → x ≡ false → DeskExamined d (Refused SpoiledDesk) t
   unfolding spoiled
-  spoiled-examined f = refused-examined d SpoiledDesk t (is-spoiled Call.Step d refl s (rw (a .reads, ← rules-same, f)))
+  spoiled-examined x q f = refused-examined d SpoiledDesk t (is-spoiled Call.Step d refl s (rw (a .reads, ← rules-same, ← q, f)))
 
-  pub held-examined : tests ≡ true → DeskExamined d (Held z) t
-  held-examined f =
-      let e = in-store Call.Step d (a .holds) refl (record { long = s; rules = rules-out d (a .holds) (a .reads) (sym rules-same ∙ f) }) in
+  pub held-examined : (x : Bool) → x ≡ tests → x ≡ true → DeskExamined d (Held z) t
+  held-examined x q f =
+      let e = in-store Call.Step d (a .holds) refl (record { long = s; rules = rules-out d (a .holds) (a .reads) (sym rules-same ∙ sym q ∙ f) }) in
       record {
         answer = ap Held (a .sizes) ∙ sym (ap examinedAnswer e);
         tables = λ c g. let q : a .holds ≡ c = cc in rw (← q) (rw (a .sizes) at (a .tables));

@@ -30,6 +30,13 @@ rowOut t l m1 m2 whole row other = rowWritten (modelOf m1) (modelOf m2) (F (opsI
 abbrev pub rowDiffers : List ℕ → Lattice → List ℕ → List ℕ → List ℕ → ℕ → Bool
 rowDiffers t l m1 m2 whole row = rowChanged (modelOf m1) (modelOf m2) (F (opsIn t l) (modelOf m1) (modelOf m2)) (tableOf whole (getD m2 0 0)) row
 
+-- the same for the model parts of the case b
+abbrev pub caseRow : List ℕ → Lattice → List ℕ → List ℕ → ℕ → List ℕ → List ℕ
+caseRow t l b whole row other = rowOut t l (partAt b 1) (partAt b 2) whole row other
+
+abbrev pub caseRowDiffers : List ℕ → Lattice → List ℕ → List ℕ → ℕ → Bool
+caseRowDiffers t l b whole row = rowDiffers t l (partAt b 1) (partAt b 2) whole row
+
 -- what working a row asks of the case b, of the whole table and of the other
 pub record Workable (b whole other : List ℕ) (row : ℕ) : Type 0 where
   pub placed : Placed b
@@ -45,15 +52,11 @@ movedBy differs s = movedOn (s .states1) (s .changed || differs) s
 settled-answer : (s : Standing) → s .settled ≡ true → stepAnswer s ≡ Reply.Settled (s .round)
 settled-answer s u = rw u
 
-module _ (d : Desk) (z : Sizes) (t : List ℕ) (h : HeldDesk d z t) where
-  -- the parts of the store
-  abbrev part1 : List ℕ
-  part1 = partAt (take 24576 (d .store)) 1
+module _ {d : Desk} {z : Sizes} {t : List ℕ} (h : HeldDesk d z t) where
+  abbrev bytes : List ℕ
+  bytes = take 24576 (d .store)
 
-  abbrev part2 : List ℕ
-  part2 = partAt (take 24576 (d .store)) 2
-
-  pub workable : (whole other : List ℕ) → 4096 ≤ length whole → 4096 ≤ length other → Workable (take 24576 (d .store)) whole other (d .standing .row)
+  pub workable : (whole other : List ℕ) → 4096 ≤ length whole → 4096 ≤ length other → Workable bytes whole other (d .standing .row)
   workable whole other p q =
       let few = h .case .sound .entries-most in
       record {
@@ -98,16 +101,16 @@ module _ (d : Desk) (z : Sizes) (t : List ℕ) (h : HeldDesk d z t) where
   standing-moved differs e = rw (e, h .kept .rules .size1)
 
   -- the row, in the desk's terms
-  out-is : (out whole other : List ℕ) → out ≡ rowOut t (z .lattice) part1 part2 whole (d .standing .row) other → out ≡ rowWritten (model1 (h .case .holds)) (model2 (h .case .holds)) (operator (h .case .holds)) (tableOf whole (N2 (h .case .holds))) (d .standing .row) other
+  out-is : (out whole other : List ℕ) → out ≡ caseRow t (z .lattice) bytes whole (d .standing .row) other → out ≡ rowWritten (model1 (h .case .holds)) (model2 (h .case .holds)) (operator (h .case .holds)) (tableOf whole (N2 (h .case .holds))) (d .standing .row) other
   out-is out whole other e = rw (h .case .parts .model1, h .case .parts .model2, h .case .tables) at e
 
-  differs-is : (differs : Bool) (whole : List ℕ) → differs ≡ rowDiffers t (z .lattice) part1 part2 whole (d .standing .row) → differs ≡ rowChanged (model1 (h .case .holds)) (model2 (h .case .holds)) (operator (h .case .holds)) (tableOf whole (N2 (h .case .holds))) (d .standing .row)
+  differs-is : (differs : Bool) (whole : List ℕ) → differs ≡ caseRowDiffers t (z .lattice) bytes whole (d .standing .row) → differs ≡ rowChanged (model1 (h .case .holds)) (model2 (h .case .holds)) (operator (h .case .holds)) (tableOf whole (N2 (h .case .holds))) (d .standing .row)
   differs-is differs whole e = rw (h .case .parts .model1, h .case .parts .model2, h .case .tables) at e
 
   -- the row is worked and the standing moved on
   module _ (out : List ℕ) (differs : Bool) (next : Standing) (x : Reply) (u : d .standing .settled ≡ false) (n : next ≡ movedBy differs (d .standing)) (r : x ≡ stepAnswer (movedBy differs (d .standing))) where
     -- the second table is whole, and the row is worked into the first
-    pub into-first : d .standing .secondWhole ≡ true → out ≡ rowOut t (z .lattice) part1 part2 (d .second) (d .standing .row) (d .first) → differs ≡ rowDiffers t (z .lattice) part1 part2 (d .second) (d .standing .row) → Does Call.Step d x (record { standing = next; store = d .store; first = out; second = d .second })
+    pub into-first : d .standing .secondWhole ≡ true → out ≡ caseRow t (z .lattice) bytes (d .second) (d .standing .row) (d .first) → differs ≡ caseRowDiffers t (z .lattice) bytes (d .second) (d .standing .row) → Does Call.Step d x (record { standing = next; store = d .store; first = out; second = d .second })
     unfolding stepped worked
     into-first w e f =
         let s = standing-moved differs (rw w (differs-is differs (d .second) f)) in
@@ -115,7 +118,7 @@ module _ (d : Desk) (z : Sizes) (t : List ℕ) (h : HeldDesk d z t) where
         rw (n, r) (held-step (record { standing = movedBy differs (d .standing); store = d .store; first = out; second = d .second }) (rw (u, s, o, w)))
 
     -- the first table is whole, and the row is worked into the second
-    pub into-second : d .standing .secondWhole ≡ false → out ≡ rowOut t (z .lattice) part1 part2 (d .first) (d .standing .row) (d .second) → differs ≡ rowDiffers t (z .lattice) part1 part2 (d .first) (d .standing .row) → Does Call.Step d x (record { standing = next; store = d .store; first = d .first; second = out })
+    pub into-second : d .standing .secondWhole ≡ false → out ≡ caseRow t (z .lattice) bytes (d .first) (d .standing .row) (d .second) → differs ≡ caseRowDiffers t (z .lattice) bytes (d .first) (d .standing .row) → Does Call.Step d x (record { standing = next; store = d .store; first = d .first; second = out })
     unfolding stepped worked
     into-second w e f =
         let s = standing-moved differs (rw w (differs-is differs (d .first) f)) in

@@ -18,7 +18,9 @@ use Rattle.casefile.specs.Exactly.{content-exactly}
 use Rattle.desk.specs.Desk.{Desk, Question, Call, Reply, isOpen, isShow}
 use Rattle.desk.specs.Refused.{short, Rules, inRange, InRange, callInRange, examined, accepted, refusedReply}
 use Rattle.desk.specs.Perform.{perform}
-use Rattle.desk.specs.RefusedLaws.{perform-refused, range-exactly, is-short, open-long, in-store, open-accepted, other-accepted, Outcome, too-short, broken, outside, inside, outcome, opens-or-not, accepted-content, content-accepted, case-number}
+use Rattle.desk.specs.RefusedLaws.{perform-refused, is-short, open-long, in-store, open-accepted, other-accepted, Outcome, too-short, broken, outside, inside, outcome, opens-or-not, accepted-content, content-accepted}
+use Rattle.desk.specs.RulesLaws.{range-exactly}
+use Rattle.desk.specs.CaseNumbers.{case-number}
 
 -- a content whose rules the desk keeps, and whose range the call's arguments are in (x true) or not (x false)
 abbrev pub InStore : Call → Desk → Bool → Type 0

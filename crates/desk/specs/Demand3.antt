@@ -26,9 +26,10 @@ use Rattle.desk.specs.Refused.{short, spoiled, inRange, examined, accept
 use Rattle.desk.specs.Moved.{opened, shownTable}
 use Rattle.desk.specs.Perform.{perform, asked, answer, moved}
 use Rattle.desk.specs.Run.{run, openings, LastOpening, answersSince, roundAfter, answerAfter}
-use Rattle.desk.specs.RefusedLaws.{perform-accepted, OpenAccepted, open-long, open-accepted, spoiled-exactly}
+use Rattle.desk.specs.RefusedLaws.{perform-accepted, OpenAccepted, open-long, open-accepted}
+use Rattle.desk.specs.RulesLaws.{spoiled-exactly}
 use Rattle.desk.specs.Stands.{known-sound, Stands, opening-starts}
-use Rattle.desk.specs.Next.{at, stands-unspoiled, never, ranges-are, next-answer, shows, below-shown, shown-below, show-is, score-is, share-is, judge-yes-is, judge-no-is}
+use Rattle.desk.specs.Next.{at, stands-unspoiled, never-11-or-12, ranges-are, next-answer, shows, below-shown, shown-below, show-is, score-is, share-is, judge-yes-is, judge-no-is}
 use Rattle.desk.specs.Listed.{run-append, last-opening, opening-T, Since, since}
 
 -- c is what the case holds, `answers` are those of the accepted steps since it was opened, d is the desk after the list
@@ -131,8 +132,8 @@ module _ {c : Content} {T : ℕ} where
         answered = λ l. let z : suc (length answers - 1) ≡ length answers = omega arith in each (length answers - 1) (omega arith) ∙ ap (answerAfter c T) z;
         not-short = stands-unspoiled w .long;
         not-spoiled = spoiled-exactly d .1 (c, stands-unspoiled w .rules);
-        not-11 = λ k q. never w k ShortDesk q (omega arith) (omega arith);
-        not-12 = λ k q. never w k SpoiledDesk q (omega arith) (omega arith);
+        not-11 = λ k q. never-11-or-12 w k ShortDesk q (omega arith) (omega arith);
+        not-12 = λ k q. never-11-or-12 w k SpoiledDesk q (omega arith) (omega arith);
         open-next = λ x. open-long x d (stands-unspoiled w .long);
         step-next = ranges-are w Call.Step refl;
         ranges = λ q. ranges-are w (Call.Ask q) refl;

@@ -10,8 +10,12 @@ pub mod Demand1
 pub mod Demand2
 pub mod Demand3
 -- ---- theorems
+pub mod CaseParts
+pub mod RulesLaws
 pub mod RefusedLaws
+pub mod CaseNumbers
 pub mod Stands
+pub mod Stepping
 pub mod Next
 pub mod Listed
 pub mod Unwritten

@@ -19,7 +19,8 @@ use Rattle.desk.specs.Moved.{stepped}
 use Rattle.desk.specs.Perform.{perform, answer, moved}
 use Rattle.desk.specs.Run.{run, openings, stepAnswers, LastOpening, answerAfter}
 use Rattle.desk.specs.RefusedLaws.{perform-refused, perform-accepted, accepted-content, refused-refusal, open-accepted}
-use Rattle.desk.specs.Stands.{Stands, step-moves}
+use Rattle.desk.specs.Stands.{Stands}
+use Rattle.desk.specs.Stepping.{step-moves}
 use Rattle.desk.specs.Next.{at, ranges-are, next-answer, next-desk}
 
 -- ---- lists

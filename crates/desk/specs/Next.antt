@@ -28,7 +28,9 @@ use Rattle.desk.specs.Refused.{Rules, callInRange, examined, isContent, 
 use Rattle.desk.specs.Moved.{shownTable}
 use Rattle.desk.specs.Perform.{perform, asked, answer, moved}
 use Rattle.desk.specs.Run.{roundAfter, answerAfter}
-use Rattle.desk.specs.RefusedLaws.{Unspoiled, CaseNumber, case-number, Long, long-not-short, opens-or-not, open-long, in-store, perform-accepted}
+use Rattle.desk.specs.RefusedLaws.{Unspoiled, opens-or-not, open-long, in-store, perform-accepted}
+use Rattle.desk.specs.RulesLaws.{Long, long-not-short}
+use Rattle.desk.specs.CaseNumbers.{CaseNumber, case-number}
 use Rattle.desk.specs.Stands.{known-sound, Going, Ended, Progress, GoingAt, EndedAt, Stands, sizes-most}
 
 -- ---- s is round · N1 + row
@@ -77,23 +79,23 @@ module _ {c : Content} {T s round row : ℕ} {changed settled : Bool} where
   pub position : {whole other : List ℕ} → 0 < N1 c → Progress c T s round row changed settled whole other → Position c T s round row settled
   position some h = ⊎-elim going-position (ended-position some) (h .place)
 
--- both tables, whichever is whole
-both : (P : List ℕ → Type 0) (w : Bool) (f g : List ℕ) → P (cond w g f) → P (cond w f g) → P f × P g
-both P true f g p q = (q, p)
-both P false f g p q = (p, q)
+-- what holds of the whole table and of the other holds of the first and of the second
+of-either : (P : List ℕ → Type 0) (w : Bool) (f g : List ℕ) → P (cond w g f) → P (cond w f g) → P f × P g
+of-either P true f g p q = (q, p)
+of-either P false f g p q = (p, q)
 
 module _ {c : Content} {T s : ℕ} {d : Desk} (w : Stands c T s d) where
-  sure : ContentSound c
-  sure = known-sound (w .known)
+  content-is-sound : ContentSound c
+  content-is-sound = known-sound (w .known)
 
   pub at : Position c T s (d .standing .round) (d .standing .row) (d .standing .settled)
-  at = position (sure .shape1 .some) (w .progress)
+  at = position (content-is-sound .shape1 .some) (w .progress)
 
   -- ---- 'Neither 11 nor 12 applies to the call that comes next, whichever it is'
 
   long : Long d
   long =
-      let l = both (λ t. 4096 ≤ length t) (d .standing .secondWhole) (d .first) (d .second) (w .progress .whole-long) (w .progress .other-long) in
+      let l = of-either (λ t. 4096 ≤ length t) (d .standing .secondWhole) (d .first) (d .second) (w .progress .whole-long) (w .progress .other-long) in
       record { store-long = w .store-long; first-long = l .0; second-long = l .1 }
 
   store-reads-as : storeReading (d .store) ≡ content c
@@ -101,12 +103,12 @@ module _ {c : Content} {T s : ℕ} {d : Desk} (w : Stands c T s d) where
 
   below : ((i : ℕ) → i < tableSize c → getD (d .first) i 0 < latticeSize c) × ((i : ℕ) → i < tableSize c → getD (d .second) i 0 < latticeSize c)
   below =
-      both (λ t. (i : ℕ) → i < tableSize c → getD t i 0 < latticeSize c) (d .standing .secondWhole) (d .first) (d .second)
+      of-either (λ t. (i : ℕ) → i < tableSize c → getD t i 0 < latticeSize c) (d .standing .secondWhole) (d .first) (d .second)
       (λ i l. ltb-true _ _ (w .progress .whole-elements i l))
       (λ i l. ltb-true _ _ (w .progress .other-elements i l))
 
   T-limit : T ≤ limit c + 1
-  T-limit = T-at-most-size (sure .laws) (model1 c) (model2 c) T (w .known .isT)
+  T-limit = T-at-most-size (content-is-sound .laws) (model1 c) (model2 c) T (w .known .isT)
 
   going-rules : GoingAt c T s d → Rules d c
   going-rules g =
@@ -130,7 +132,7 @@ module _ {c : Content} {T s : ℕ} {d : Desk} (w : Stands c T s d) where
         reads = store-reads-as;
         size1 = w .states1-is;
         size2 = w .states2-is;
-        row-below = omega (arith, x .row-0, sure .shape1 .some);
+        row-below = omega (arith, x .row-0, content-is-sound .shape1 .some);
         nothing-yet = λ z. x .unchanged;
         unsettled-most = λ z. absurd (false-true z (x .isSettled));
         settled-least = λ z. omega (arith, x .at-T, w .known .isT .above0);
@@ -157,8 +159,8 @@ module _ {c : Content} {T s : ℕ} {d : Desk} (w : Stands c T s d) where
       others : isOpen k ≡ false → CaseNumber r ⊎ (r ≡ OutOfRange)
       others o = inr (range (callInRange k c) (sym (in-store k d c o stands-unspoiled) ∙ q))
 
-  pub never : (k : Call) (r : Refusal) → examined k d ≡ refused r → 10 < numberOf r → numberOf r < 13 → ⊥
-  never k r q l m = ⊎-elim (λ (n : CaseNumber r). omega (arith, n .1)) (λ (n : r ≡ OutOfRange). omega (arith, ap numberOf n)) (next-refusal k r q)
+  pub never-11-or-12 : (k : Call) (r : Refusal) → examined k d ≡ refused r → 10 < numberOf r → numberOf r < 13 → ⊥
+  never-11-or-12 k r q l m = ⊎-elim (λ (n : CaseNumber r). omega (arith, n .1)) (λ (n : r ≡ OutOfRange). omega (arith, ap numberOf n)) (next-refusal k r q)
 
   -- ---- every call but open is accepted exactly when it is in range, and works on c
 
@@ -202,7 +204,7 @@ module _ {c : Content} {T s : ℕ} {d : Desk} (w : Stands c T s d) where
   unfolding answer
   show-is =
       let e : answer (Call.Ask Question.Show) c d ≡ Reply.Shown (take (tableSize c) (wholeTable d)) = refl in
-      next-answer (Call.Ask Question.Show) refl (ranges-are (Call.Ask Question.Show) refl) ∙ e ∙ ap Reply.Shown (shown-bytes (ops c) (model1 c) (model2 c) (operator c) (wholeTable d) (roundIn c r) shows (sure .shape2 .some) whole-entries)
+      next-answer (Call.Ask Question.Show) refl (ranges-are (Call.Ask Question.Show) refl) ∙ e ∙ ap Reply.Shown (shown-bytes (ops c) (model1 c) (model2 c) (operator c) (wholeTable d) (roundIn c r) shows (content-is-sound .shape2 .some) whole-entries)
 
   pub score-is : asked Question.Score d ≡ Reply.Element (score (ops c) (model1 c) (model2 c) (roundIn c r))
   unfolding answer
@@ -210,7 +212,7 @@ module _ {c : Content} {T s : ℕ} {d : Desk} (w : Stands c T s d) where
 
   pub share-is : (l : ℕ) → accepted (Call.Ask (Question.Share l)) d ≡ true → asked (Question.Share l) d ≡ Reply.PerCent (share (ops c) (tableSize c) (entryAt c (roundIn c r)) l)
   unfolding answer
-  share-is l a = next-answer (Call.Ask (Question.Share l)) refl a ∙ ap Reply.PerCent (share-cong (ops c) (tableSize c) (λ i. getD (wholeTable d) i 0) (entryAt c (roundIn c r)) l (byte-at (ops c) (model1 c) (model2 c) (operator c) (wholeTable d) (roundIn c r) shows (sure .shape2 .some)))
+  share-is l a = next-answer (Call.Ask (Question.Share l)) refl a ∙ ap Reply.PerCent (share-cong (ops c) (tableSize c) (λ i. getD (wholeTable d) i 0) (entryAt c (roundIn c r)) l (byte-at (ops c) (model1 c) (model2 c) (operator c) (wholeTable d) (roundIn c r) shows (content-is-sound .shape2 .some)))
 
   module _ (t : List ℕ) (a : accepted (Call.Ask (Question.Judge t)) d ≡ true) where
     abbrev test : Bool

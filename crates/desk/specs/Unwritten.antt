@@ -20,7 +20,8 @@ use Rattle.desk.specs.Case.{ops, N1, N2, tableSize, operator}
 use Rattle.desk.specs.Refused.{examined}
 use Rattle.desk.specs.Moved.{opened, topped, shownTable, rowWorked, worked, stepped}
 use Rattle.desk.specs.Perform.{perform, moved}
-use Rattle.desk.specs.RefusedLaws.{long-enough, perform-accepted, OpenAccepted, open-accepted, other-accepted}
+use Rattle.desk.specs.RefusedLaws.{perform-accepted, OpenAccepted, open-accepted, other-accepted}
+use Rattle.desk.specs.RulesLaws.{long-enough}
 
 -- a buffer of the same length, with the same bytes from place n on
 pub record SameFrom (n : ℕ) (after before : List ℕ) : Type 0 where

@@ -1,4 +1,7 @@
--- The numbers that the exports answer, for each of the desk's replies. Rests on desk's Desk, Case, Refused and Perform.
+-- The numbers that the exports answer, for each of the desk's replies. Rests on desk's Desk, Case, Refused and Perform, and calls' Read.
+--   numbers: the numbers of a reply
+--   Tells, TellsAsked: what an export of a call says, and one of a call that only reads
+--   named, Names: what show's export says
 use Prim.Native.Nat.{ℕ}
 use mathlib.Core.Path.{_≡_}
 use mathlib.Core.Bool.{Bool, cond}
@@ -10,6 +13,8 @@ use Rattle.desk.specs.Desk.{Desk, Call, Question, Reply}
 use Rattle.desk.specs.Case.{tableSize}
 use Rattle.desk.specs.Refused.{examined}
 use Rattle.desk.specs.Perform.{perform}
+use Rattle.calls.specs.declared.Standing.{Standing}
+use Rattle.calls.specs.Read.{deskOf}
 use Rattle.exports.specs.declared.Answer.{Answer}
 use Rattle.exports.specs.declared.Shown.{Shown}
 
@@ -47,6 +52,10 @@ numbers (Reply.Shown b) = given 8 0
 pub record Tells (k : Call) (d : Desk) (x : Answer) (e : Desk) : Type 0 where
   pub answer : x ≡ numbers (perform k d .reply)
   pub after : e ≡ perform k d .desk
+
+-- the question q on the desk of these four is answered with these numbers, and leaves that desk
+abbrev pub TellsAsked : Question → Standing → List ℕ → List ℕ → List ℕ → Answer → Type 0
+TellsAsked q s store first second x = Tells (Call.Ask q) (deskOf s store first second) x (deskOf s store first second)
 
 -- ---- show
 

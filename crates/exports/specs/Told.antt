@@ -14,7 +14,8 @@ use Rattle.desk.specs.Desk.{Desk, Call, Question, Reply, wholeTable}
 use Rattle.desk.specs.Case.{tableSize}
 use Rattle.desk.specs.Refused.{examined, accepted}
 use Rattle.desk.specs.Perform.{After, answer, moved}
-use Rattle.desk.specs.RefusedLaws.{long-enough, Unspoiled, perform-refused, perform-accepted, other-accepted, accepted-content, refused-refusal}
+use Rattle.desk.specs.RefusedLaws.{Unspoiled, perform-refused, perform-accepted, other-accepted, accepted-content, refused-refusal}
+use Rattle.desk.specs.RulesLaws.{long-enough}
 use Rattle.exports.specs.declared.Answer.{Answer}
 use Rattle.exports.specs.declared.Shown.{Shown}
 use Rattle.exports.specs.Numbers.{numbers, Tells, named, Names}

@@ -16,7 +16,7 @@ ghost use Rattle.desk.specs.Refused.{numberReply};
 ghost use Rattle.calls.specs.Read.{deskOf};
 ghost use Rattle.calls.specs.Answer.{stepReply, openReply, elementReply, shareReply, judgeReply};
 ghost use Rattle.listing.specs.Text.{listingText};
-ghost use Rattle.exports.specs.Numbers.{given, numbers, Tells, Names};
+ghost use Rattle.exports.specs.Numbers.{given, numbers, Tells, TellsAsked, Names};
 
 // What every call but show answers; specs/Numbers.antt has the kinds.
 #[repr(C)]
@@ -136,7 +136,8 @@ pub extern "C" fn koelchair_open(
     first: &mut [u8],
     second: &mut [u8],
 ) -> Moved
-    ensures { λ r. ⌜ Tells (Call.Open (now (case .entry))) (deskOf s (now (store .entry)) (now (first .entry)) (now (second .entry))) (r .answer) (deskOf (r .standing) (now (store .exit)) (now (first .exit)) (now (second .exit))) ⌝ }
+    ensures { λ r. ⌜ Tells (Call.Open (now (case .entry))) (deskOf s (now (store .entry)) (now (first .entry)) (now (second .entry)))
+        (r .answer) (deskOf (r .standing) (now (store .exit)) (now (first .exit)) (now (second .exit))) ⌝ }
 {
     let o = calls::open(s, case, store, first, second);
     let after = o.standing;
@@ -155,7 +156,8 @@ pub extern "C" fn koelchair_step(
     first: &mut [u8],
     second: &mut [u8],
 ) -> Moved
-    ensures { λ r. ⌜ Tells Call.Step (deskOf s (now (store .entry)) (now (first .entry)) (now (second .entry))) (r .answer) (deskOf (r .standing) (now (store .entry)) (now (first .exit)) (now (second .exit))) ⌝ }
+    ensures { λ r. ⌜ Tells Call.Step (deskOf s (now (store .entry)) (now (first .entry)) (now (second .entry)))
+        (r .answer) (deskOf (r .standing) (now (store .entry)) (now (first .exit)) (now (second .exit))) ⌝ }
 {
     let o = calls::step(s, store, first, second);
     let next = o.standing;
@@ -209,7 +211,7 @@ pub extern "C" fn koelchair_value(
     model: u8,
     state: u8,
 ) -> Answer
-    ensures { λ r. ⌜ Tells (Call.Ask (Question.Value formula model state)) (deskOf s (now (store .entry)) (now (first .entry)) (now (second .entry))) r (deskOf s (now (store .entry)) (now (first .entry)) (now (second .entry))) ⌝ }
+    ensures { λ r. ⌜ TellsAsked (Question.Value formula model state) s (now (store .entry)) (now (first .entry)) (now (second .entry)) r ⌝ }
 {
     element(calls::value(s, store, first, second, formula, model, State(state)))
 }
@@ -224,7 +226,7 @@ pub extern "C" fn koelchair_whole(
     formula: u8,
     model: u8,
 ) -> Answer
-    ensures { λ r. ⌜ Tells (Call.Ask (Question.Whole formula model)) (deskOf s (now (store .entry)) (now (first .entry)) (now (second .entry))) r (deskOf s (now (store .entry)) (now (first .entry)) (now (second .entry))) ⌝ }
+    ensures { λ r. ⌜ TellsAsked (Question.Whole formula model) s (now (store .entry)) (now (first .entry)) (now (second .entry)) r ⌝ }
 {
     element(calls::whole(s, store, first, second, formula, model))
 }
@@ -237,7 +239,7 @@ pub extern "C" fn koelchair_score<'a>(
     first: &'a [u8],
     second: &'a [u8],
 ) -> Answer
-    ensures { λ r. ⌜ Tells (Call.Ask Question.Score) (deskOf s (now (store .entry)) (now (first .entry)) (now (second .entry))) r (deskOf s (now (store .entry)) (now (first .entry)) (now (second .entry))) ⌝ }
+    ensures { λ r. ⌜ TellsAsked Question.Score s (now (store .entry)) (now (first .entry)) (now (second .entry)) r ⌝ }
 {
     element(calls::score(s, store, first, second))
 }
@@ -251,7 +253,7 @@ pub extern "C" fn koelchair_share<'a>(
     second: &'a [u8],
     e: u8,
 ) -> Answer
-    ensures { λ r. ⌜ Tells (Call.Ask (Question.Share e)) (deskOf s (now (store .entry)) (now (first .entry)) (now (second .entry))) r (deskOf s (now (store .entry)) (now (first .entry)) (now (second .entry))) ⌝ }
+    ensures { λ r. ⌜ TellsAsked (Question.Share e) s (now (store .entry)) (now (first .entry)) (now (second .entry)) r ⌝ }
 {
     per_cent(calls::share(s, store, first, second, Element(e)))
 }
@@ -265,7 +267,7 @@ pub extern "C" fn koelchair_judge(
     second: &[u8],
     table: &[u8],
 ) -> Answer
-    ensures { λ r. ⌜ Tells (Call.Ask (Question.Judge (now (table .entry)))) (deskOf s (now (store .entry)) (now (first .entry)) (now (second .entry))) r (deskOf s (now (store .entry)) (now (first .entry)) (now (second .entry))) ⌝ }
+    ensures { λ r. ⌜ TellsAsked (Question.Judge (now (table .entry))) s (now (store .entry)) (now (first .entry)) (now (second .entry)) r ⌝ }
 {
     judged(calls::judge(s, store, first, second, table))
 }
@@ -275,7 +277,8 @@ pub extern "C" fn koelchair_judge(
 // Writes what the program `report` prints for a case at the start of the text, and says how many bytes it has. The bytes after it are kept.
 #[no_mangle]
 pub extern "C" fn koelchair_listing(case: &[u8], text: &mut [u8; 16384]) -> usize
-    ensures { λ r. ⌜ (r ≡ length (listingText (now (case .entry)))) × (now (text .exit) ≡ written 0 (listingText (now (case .entry))) (now (text .entry))) ⌝ }
+    ensures { λ r. ⌜ (r ≡ length (listingText (now (case .entry))))
+        × (now (text .exit) ≡ written 0 (listingText (now (case .entry))) (now (text .entry))) ⌝ }
 {
     listing::listing(case, text)
 }

@@ -22,7 +22,8 @@ pub fn open(
     first: &mut [u8],
     second: &mut [u8],
 ) -> OpenAnswer
-    ensures { λ r. ⌜ Does (Call.Open (now (case .entry))) (deskOf (now (s .entry)) (now (store .entry)) (now (first .entry)) (now (second .entry))) (openReply r) (deskOf (now (s .exit)) (now (store .exit)) (now (first .exit)) (now (second .exit))) ⌝ }
+    ensures { λ r. ⌜ Does (Call.Open (now (case .entry))) (deskOf (now (s .entry)) (now (store .entry)) (now (first .entry)) (now (second .entry)))
+        (openReply r) (deskOf (now (s .exit)) (now (store .exit)) (now (first .exit)) (now (second .exit))) ⌝ }
 {
     let o = calls::open(*s, case, store, first, second);
     *s = o.standing;
@@ -31,7 +32,8 @@ pub fn open(
 
 // Works the next row.
 pub fn step(s: &mut Standing, store: &[u8], first: &mut [u8], second: &mut [u8]) -> StepAnswer
-    ensures { λ r. ⌜ Does Call.Step (deskOf (now (s .entry)) (now (store .entry)) (now (first .entry)) (now (second .entry))) (stepReply r) (deskOf (now (s .exit)) (now (store .entry)) (now (first .exit)) (now (second .exit))) ⌝ }
+    ensures { λ r. ⌜ Does Call.Step (deskOf (now (s .entry)) (now (store .entry)) (now (first .entry)) (now (second .entry)))
+        (stepReply r) (deskOf (now (s .exit)) (now (store .entry)) (now (first .exit)) (now (second .exit))) ⌝ }
 {
     let o = calls::step(*s, store, first, second);
     *s = o.standing;
@@ -42,14 +44,16 @@ pub fn step(s: &mut Standing, store: &[u8], first: &mut [u8], second: &mut [u8])
 
 // The first N1·N2 bytes of the whole table; an empty part where the desk is refused.
 pub fn show<'a>(s: &mut Standing, store: &[u8], first: &'a [u8], second: &'a [u8]) -> &'a [u8]
-    ensures { λ r. ⌜ AsksOnly Question.Show (now (s .entry)) (now (store .entry)) (now (first .entry)) (now (second .entry)) (Reply.Shown (now r)) (now (s .exit)) ⌝ }
+    ensures { λ r. ⌜ AsksOnly Question.Show
+        (now (s .entry)) (now (store .entry)) (now (first .entry)) (now (second .entry)) (Reply.Shown (now r)) (now (s .exit)) ⌝ }
 {
     calls::show(*s, store, first, second)
 }
 
 // The score of the shown table.
 pub fn score<'a>(s: &mut Standing, store: &[u8], first: &'a [u8], second: &'a [u8]) -> ElementAnswer
-    ensures { λ r. ⌜ AsksOnly Question.Score (now (s .entry)) (now (store .entry)) (now (first .entry)) (now (second .entry)) (elementReply r) (now (s .exit)) ⌝ }
+    ensures { λ r. ⌜ AsksOnly Question.Score
+        (now (s .entry)) (now (store .entry)) (now (first .entry)) (now (second .entry)) (elementReply r) (now (s .exit)) ⌝ }
 {
     calls::score(*s, store, first, second)
 }
@@ -62,7 +66,8 @@ pub fn share<'a>(
     second: &'a [u8],
     e: Element,
 ) -> ShareAnswer
-    ensures { λ r. ⌜ AsksOnly (Question.Share (e .0)) (now (s .entry)) (now (store .entry)) (now (first .entry)) (now (second .entry)) (shareReply r) (now (s .exit)) ⌝ }
+    ensures { λ r. ⌜ AsksOnly (Question.Share (e .0))
+        (now (s .entry)) (now (store .entry)) (now (first .entry)) (now (second .entry)) (shareReply r) (now (s .exit)) ⌝ }
 {
     calls::share(*s, store, first, second, e)
 }
@@ -75,7 +80,8 @@ pub fn judge(
     second: &[u8],
     table: &[u8],
 ) -> JudgeAnswer
-    ensures { λ r. ⌜ AsksOnly (Question.Judge (now (table .entry))) (now (s .entry)) (now (store .entry)) (now (first .entry)) (now (second .entry)) (judgeReply r) (now (s .exit)) ⌝ }
+    ensures { λ r. ⌜ AsksOnly (Question.Judge (now (table .entry)))
+        (now (s .entry)) (now (store .entry)) (now (first .entry)) (now (second .entry)) (judgeReply r) (now (s .exit)) ⌝ }
 {
     calls::judge(*s, store, first, second, table)
 }
@@ -89,7 +95,8 @@ pub fn whole(
     f: u8,
     m: u8,
 ) -> ElementAnswer
-    ensures { λ r. ⌜ AsksOnly (Question.Whole f m) (now (s .entry)) (now (store .entry)) (now (first .entry)) (now (second .entry)) (elementReply r) (now (s .exit)) ⌝ }
+    ensures { λ r. ⌜ AsksOnly (Question.Whole f m)
+        (now (s .entry)) (now (store .entry)) (now (first .entry)) (now (second .entry)) (elementReply r) (now (s .exit)) ⌝ }
 {
     calls::whole(*s, store, first, second, f, m)
 }
@@ -104,7 +111,8 @@ pub fn value(
     m: u8,
     q: State,
 ) -> ElementAnswer
-    ensures { λ r. ⌜ AsksOnly (Question.Value f m (q .0)) (now (s .entry)) (now (store .entry)) (now (first .entry)) (now (second .entry)) (elementReply r) (now (s .exit)) ⌝ }
+    ensures { λ r. ⌜ AsksOnly (Question.Value f m (q .0))
+        (now (s .entry)) (now (store .entry)) (now (first .entry)) (now (second .entry)) (elementReply r) (now (s .exit)) ⌝ }
 {
     calls::value(*s, store, first, second, f, m, q)
 }

@@ -1,12 +1,10 @@
 -- What the code of the listing knows of an accepted case: its formulas' values on the models. Rests on Text, Writing and casefile's Caller.
 use Prim.Native.Nat.{ℕ, _+_, _≤_, _<_}
-use mathlib.Core.Path.{_≡_, refl, sym, ap, _∙_}
-use mathlib.Core.Bool.{Bool, true, false, _||_}
+use mathlib.Core.Path.{_≡_, sym, ap, _∙_}
+use mathlib.Core.Bool.{true}
 use mathlib.Core.List.{List}
 use native.Mathlib.Nat.{zero-add}
 use native.Mathlib.Omega.{arith}
-use borrow.Author.Tests.{eqb-true}
-use lib.Dec.{eqb}
 use lib.ListN.{length, getD}
 use lib.Seq.{length-take-le}
 use Rattle.theory.specs.Lattice.{Laws}
@@ -15,17 +13,18 @@ use Rattle.theory.specs.Value.{wholeValue}
 use Rattle.theory.specs.Simulation.{round, FirstUnchanged}
 use Rattle.operations.specs.declared.Lattice.{Lattice}
 use Rattle.operations.specs.Table.{opsIn}
-use Rattle.formula.specs.Bytes.{read, formulaReading}
 use Rattle.refusal.specs.declared.Refusal.{Refusal}
 use Rattle.casefile.specs.declared.Sizes.{Sizes}
-use Rattle.casefile.specs.Directory.{partCount, partAt}
-use Rattle.casefile.specs.Conditions.{Placed}
+use Rattle.casefile.specs.Directory.{partAt}
 use Rattle.casefile.specs.Reading.{Content, refused, content, caseReading}
 use Rattle.casefile.specs.Caller.{AcceptedCase}
-use Rattle.valuer.specs.Values.{Reads, WholeValue}
+use Rattle.valuer.specs.Values.{WholeValue}
+use Rattle.desk.specs.CaseParts.{Valuable, model-part, formula-part, parts-valuable}
+use Rattle.desk.specs.Refused.{isModel}
 use Rattle.desk.specs.Case.{ops, model1, model2, modelIn, formulaIn, roundIn}
 use Rattle.listing.specs.Text.{each, formulaLine, formulasText, tableText, refusedText, settledRound, acceptedText, listingText, Lists}
 use Rattle.listing.specs.Writing.{Wrote, wrote-then, wrote-within, fits-then}
+use Rattle.listing.specs.Settling.{WroteSettled}
 use Rattle.listing.specs.Most.{table-most, text-most}
 use Rattle.listing.specs.Settled.{settled-isT, listing-is}
 
@@ -39,57 +38,17 @@ same-content b c d p q = cc
 pub record InCase (b : List ℕ) (z : Sizes) (t : List ℕ) (f m : ℕ) : Type 0 where
   pub case : AcceptedCase b z t
   pub formula : f < z .formulas
-  pub model : (eqb m 1 || eqb m 2) ≡ true
-
--- model m is that part of the case
-record ModelHeld (b : List ℕ) (c : Content) (m : ℕ) : Type 0 where
-  shape : ModelShape (partAt b m)
-  is : modelOf (partAt b m) ≡ modelIn c m
-  propositions : getD (partAt b m) 1 0 ≡ getD (c .model1Bytes) 1 0
-  low : m < 3
-
--- what valuing asks: the parts stand in the case, and read as a model and a formula
-pub record Valuable (b : List ℕ) (f m : ℕ) : Type 0 where
-  pub placed : Placed b
-  pub model-in : m < partCount b
-  pub formula-in : 3 + f < partCount b
-  pub few : partCount b ≤ 11
-  pub shape : ModelShape (partAt b m)
-  pub reads : Reads (partAt b m) (partAt b (3 + f))
-
-model-in-case : {b : List ℕ} {z : Sizes} {t : List ℕ} (a : AcceptedCase b z t) (m : ℕ) → (eqb m 1 || eqb m 2) ≡ true → ModelHeld b (a .holds) m
-model-in-case {b} a m r = go (eqb m 1) refl r
-  where
-    go : (x : Bool) → eqb m 1 ≡ x → (x || eqb m 2) ≡ true → ModelHeld b (a .holds) m
-    go true e r = let q : m ≡ 1 = eqb-true m 1 e in rw q (record { shape = rw (a .parts .model1) (a .sound .shape1); is = ap modelOf (a .parts .model1); propositions = rw (a .parts .model1); low = omega arith })
-    go false e r = let q : m ≡ 2 = eqb-true m 2 r in rw q (record { shape = rw (a .parts .model2) (a .sound .shape2); is = ap modelOf (a .parts .model2); propositions = rw (a .parts .model2) (sym (a .sound .same-propositions)); low = omega arith })
+  pub model : isModel m ≡ true
 
 module _ {b : List ℕ} {z : Sizes} {t : List ℕ} {f m : ℕ} (h : InCase b z t f m) where
   abbrev held : Content
   held = h .case .holds
 
-  model-held : ModelHeld b held m
-  model-held = model-in-case (h .case) m (h .model)
-
-  formula-below : f < length (held .formulas)
-  formula-below = rw (h .case .sizes) at (h .formula)
-
-  reads-formula : formulaReading (getD (partAt b m) 1 0) (partAt b (3 + f)) ≡ read (formulaIn held f)
-  reads-formula = rw (model-held .propositions, h .case .parts .formula f formula-below) (h .case .sound .formulas .each f formula-below)
-
   pub valuable : Valuable b f m
-  valuable =
-      record {
-        placed = h .case .placed;
-        model-in = omega (arith, model-held .low, h .case .parts .least);
-        formula-in = omega (arith, formula-below, h .case .parts .count);
-        few = h .case .placed .directory .count-most;
-        shape = model-held .shape;
-        reads = (formulaIn held f, reads-formula);
-      }
+  valuable = parts-valuable (h .case) f m (h .formula) (h .model)
 
   pub whole-is : (x : ℕ) → WholeValue t (z .lattice) (partAt b m) (partAt b (3 + f)) x → (c : Content) → caseReading b ≡ content c → x ≡ wholeValue (ops c) (modelIn c m) (formulaIn c f)
-  whole-is x v c e = rw (← same-content b held c (h .case .reads) e) (rw (model-held .is, h .case .tables) at (v .is (formulaIn held f) reads-formula))
+  whole-is x v c e = rw (← same-content b held c (h .case .reads) e) (rw (model-part (h .case) m (h .model) .is, h .case .tables) at (v .is (formulaIn held f) (formula-part (h .case) f m (h .formula) (h .model))))
 
 -- ---- the formulas' lines
 
@@ -138,7 +97,7 @@ module _ {b : List ℕ} {z : Sizes} {t : List ℕ} (a : AcceptedCase b z t) wher
       })
 
   pub settled-part : (d e m₁ m₂ : List ℕ) (n : ℕ) → m₁ ≡ partAt b 1 → m₂ ≡ partAt b 2
-      → ((T : ℕ) → FirstUnchanged (opsIn t (z .lattice)) (modelOf m₁) (modelOf m₂) T → Wrote d 0 (tableText (opsIn t (z .lattice)) (modelOf m₁) (modelOf m₂) T (round (opsIn t (z .lattice)) (modelOf m₁) (modelOf m₂) T)) e n)
+      → WroteSettled t (z .lattice) m₁ m₂ d e n
       → Wrote d 0 settledPart e n
   settled-part d e m₁ m₂ n p q h = (rw (p ∙ a .parts .model1, q ∙ a .parts .model2, a .tables) at h) (settledRound (a .holds)) (settled-isT (a .holds) (a .sound))
 

@@ -24,6 +24,7 @@ use Rattle.rounds.specs.Table.{tableOf, Shaped}
 use Rattle.rounds.specs.Round.{F-reads, top-round, RoundSoFar, RoundDone, round-done}
 use Rattle.listing.specs.Text.{tableText}
 use Rattle.listing.specs.Entries.{table-same}
+use Rattle.listing.specs.Writing.{Wrote}
 
 -- two model parts with a lattice, a table s for their states that holds round 0, and room in another
 pub record Startable (t : List ℕ) (l : Lattice) (m₁ m₂ s other : List ℕ) : Type 0 where
@@ -113,3 +114,14 @@ pub settled-text : {O : Ops ℕ} {M₁ M₂ : Model ℕ} {s : List ℕ} {r : ℕ
 settled-text {O} {M₁} {M₂} {s} {r} h T f =
     let e : T ≡ r = T-unique O M₁ M₂ (F O M₁ M₂) T r f (h .isT) in
     rw e (table-same O M₁ M₂ (tableOf s (M₂ .states)) (round O M₁ M₂ r) (h .holds) r)
+
+-- ---- for contracts
+
+-- the text of round r with the bytes of its table, for the model parts m₁ and m₂
+abbrev pub textOfTable : List ℕ → Lattice → List ℕ → List ℕ → ℕ → List ℕ → List ℕ
+textOfTable t l m₁ m₂ r table = tableText (opsIn t l) (modelOf m₁) (modelOf m₂) r (tableOf table (getD m₂ 0 0))
+
+-- for T, the first round that equals the one before, the text of round T is written at place 0: d before, e after, n the place after it
+abbrev pub WroteSettled : List ℕ → Lattice → List ℕ → List ℕ → List ℕ → List ℕ → ℕ → Type 0
+WroteSettled t l m₁ m₂ d e n =
+    (T : ℕ) → FirstUnchanged (opsIn t l) (modelOf m₁) (modelOf m₂) T → Wrote d 0 (tableText (opsIn t l) (modelOf m₁) (modelOf m₂) T (round (opsIn t l) (modelOf m₁) (modelOf m₂) T)) e n

@@ -1,0 +1,64 @@
+-- `calls::share` meets its contract: by the examination, the range, then by the count in the whole table.
+use mathlib.Core.Path.{refl}
+use borrow.Author.Tests.{lt-ltb, le-ltb}
+use Rattle.desk.specs.Desk.{Desk, Call, Question}
+use Rattle.calls.specs.Read.{deskOf}
+use Rattle.calls.specs.Held.{HeldDesk, when-held, few, refused-call}
+use Rattle.calls.specs.Questions.{some-entries, whole-fits, held-share, share-outside}
+use borrow.Author.Needs.{needs}
+use Rattle.calls.proofs.asking.share.Statement.{statement}
+use Rattle.calls.proofs.asking.share.Tie as tie
+
+abbrev desk : tie.After-examine → Desk
+desk c = let a = c .before .before .before .before .before .args in deskOf (a .s) (a .store .now) (a .first .now) (a .second .now)
+
+-- the desk is held
+held : (c : tie.After-z) → HeldDesk (desk (c .before .before)) (c .z .given .0 .0) (c .before .before .examine .last .1 .1 .1 .1 .0)
+held c = when-held _ _ _ _ (c .before .before .examine .ensures) (c .z .given .1)
+
+examine-requires : tie.Need-examine-requires
+examine-requires c κs = search needs
+
+enum-known-f : tie.Need-enum-known-f
+enum-known-f c = search needs
+
+enum-known-z : tie.Need-enum-known-z
+enum-known-z c = search needs
+
+returns : tie.Need-returns
+returns c =
+    let z = c .before .before .before .before .before in
+    share-outside (held z) _ (le-ltb _ _ (c .if1 .taken))
+
+table-size-requires : tie.Need-table-size-requires
+table-size-requires c κs = search needs
+
+whole-table-requires : tie.Need-whole-table-requires
+whole-table-requires c κs = search needs
+
+share-requires : tie.Need-share-requires
+share-requires c κs =
+    let z = c .before .before .before .before .before .before .before .before in
+    rw (c .before .before .table-size .ensures .0) (some-entries (held z), few (held z), whole-fits (held z) _ (c .before .whole-table .ensures))
+
+returns-2 : tie.Need-returns-2
+returns-2 c = refused-call (Call.Ask (Question.Share (c .before .before .before .before .before .before .before .before .args .e .0))) (desk (c .before .before .before)) _ _ _ refl (c .before .before .before .examine .ensures) (c .before .f .given .1)
+
+returns-3 : tie.Need-returns-3
+returns-3 c =
+    let z = c .before .before .before .before .before .before .before .before .before in
+    held-share (held z) _ _ _ _ (c .before .before .before .table-size .ensures .0) (lt-ltb _ _ (c .before .before .before .before .if1 .left)) (c .before .before .whole-table .ensures) (c .share .ensures)
+
+pub share-spec : {M : Type 1} → statement M
+share-spec =
+    tie.close
+    (tie.spec
+    examine-requires
+    enum-known-f
+    enum-known-z
+    returns
+    table-size-requires
+    whole-table-requires
+    share-requires
+    returns-2
+    returns-3)

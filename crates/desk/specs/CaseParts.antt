@@ -1,0 +1,63 @@
+-- Formula f and model m of an accepted case, as parts of its bytes: for the proofs of the code that values them. Rests on Case, Refused and
+-- casefile's Caller.
+use Prim.Native.Nat.{ℕ, _+_, _≤_, _<_}
+use mathlib.Core.Path.{_≡_, refl, sym, ap}
+use mathlib.Core.Bool.{Bool, true, false, _||_}
+use mathlib.Core.List.{List}
+use native.Mathlib.Omega.{arith}
+use borrow.Author.Tests.{eqb-true}
+use lib.Dec.{eqb}
+use lib.ListN.{length, getD}
+use Rattle.theory.specs.Formula.{Formula}
+use Rattle.theory.specs.Part.{modelOf, ModelShape}
+use Rattle.formula.specs.Bytes.{read, formulaReading}
+use Rattle.casefile.specs.declared.Sizes.{Sizes}
+use Rattle.casefile.specs.Directory.{partCount, partAt}
+use Rattle.casefile.specs.Conditions.{Placed}
+use Rattle.casefile.specs.Reading.{Content}
+use Rattle.casefile.specs.Caller.{AcceptedCase}
+use Rattle.desk.specs.Case.{modelIn, formulaIn}
+use Rattle.desk.specs.Refused.{isModel}
+
+-- what valuing formula f on model m asks of the case b: the parts stand in it, and read as a model and a formula
+pub record Valuable (b : List ℕ) (f m : ℕ) : Type 0 where
+  pub placed : Placed b
+  pub model-in : m < partCount b
+  pub formula-in : 3 + f < partCount b
+  pub few : partCount b ≤ 11
+  pub shape : ModelShape (partAt b m)
+  pub reads : (φ : Formula) × (formulaReading (getD (partAt b m) 1 0) (partAt b (3 + f)) ≡ read φ)
+
+-- part m of the case b is model m of its content c
+pub record ModelPart (b : List ℕ) (c : Content) (m : ℕ) : Type 0 where
+  pub shape : ModelShape (partAt b m)
+  pub is : modelOf (partAt b m) ≡ modelIn c m
+  pub propositions : getD (partAt b m) 1 0 ≡ getD (c .model1Bytes) 1 0
+  pub low : m < 3
+
+module _ {b : List ℕ} {z : Sizes} {t : List ℕ} (a : AcceptedCase b z t) where
+  pub model-part : (m : ℕ) → isModel m ≡ true → ModelPart b (a .holds) m
+  model-part m r = go (eqb m 1) refl r
+    where
+      go : (x : Bool) → eqb m 1 ≡ x → (x || eqb m 2) ≡ true → ModelPart b (a .holds) m
+      go true e r = let q : m ≡ 1 = eqb-true m 1 e in rw q (record { shape = rw (a .parts .model1) (a .sound .shape1); is = ap modelOf (a .parts .model1); propositions = rw (a .parts .model1); low = omega arith })
+      go false e r = let q : m ≡ 2 = eqb-true m 2 r in rw q (record { shape = rw (a .parts .model2) (a .sound .shape2); is = ap modelOf (a .parts .model2); propositions = rw (a .parts .model2) (sym (a .sound .same-propositions)); low = omega arith })
+
+  module _ (f m : ℕ) (formula : f < z .formulas) (model : isModel m ≡ true) where
+    formula-below : f < length (a .holds .formulas)
+    formula-below = rw (a .sizes) at formula
+
+    pub formula-part : formulaReading (getD (partAt b m) 1 0) (partAt b (3 + f)) ≡ read (formulaIn (a .holds) f)
+    formula-part = rw (model-part m model .propositions, a .parts .formula f formula-below) (a .sound .formulas .each f formula-below)
+
+    pub parts-valuable : Valuable b f m
+    parts-valuable =
+        let w = model-part m model in
+        record {
+          placed = a .placed;
+          model-in = omega (arith, w .low, a .parts .least);
+          formula-in = omega (arith, formula-below, a .parts .count);
+          few = a .placed .directory .count-most;
+          shape = w .shape;
+          reads = (formulaIn (a .holds) f, formula-part);
+        }

@@ -1,0 +1,92 @@
+-- `listing::put_table` meets its contract: the number of the round, the rows, and the score.
+use mathlib.Core.List.{List, _++_}
+use Prim.Native.Nat.{ℕ}
+use native.Mathlib.Omega.{arith}
+use lib.ListN.{getD}
+use Rattle.theory.specs.Part.{modelOf}
+use Rattle.theory.specs.Simulation.{score}
+use Rattle.operations.specs.Table.{opsIn}
+use Rattle.rounds.specs.Table.{tableOf}
+use Rattle.listing.specs.Text.{roundsWord, scoreWord, lastItem, rowsText, tableText}
+use Rattle.listing.specs.Writing.{wrote-then, fits-then, fits-first}
+use borrow.Author.Needs.{needs}
+use Rattle.listing.proofs.settling.put_table.Statement.{statement}
+use Rattle.listing.proofs.settling.put_table.Tie as tie
+
+-- the three parts of the text
+abbrev rounds : tie.Start → List ℕ
+rounds s = lastItem roundsWord (s .args .r)
+
+abbrev entry : tie.Start → ℕ → ℕ → ℕ
+entry s = tableOf (s .args .table .now) (getD (s .args .m2 .now) 0 0)
+
+abbrev rows : tie.Start → List ℕ
+rows s = rowsText (entry s) (getD (s .args .m1 .now) 0 0) (getD (s .args .m2 .now) 0 0)
+
+abbrev mark : tie.Start → List ℕ
+mark s = lastItem scoreWord (score (opsIn (s .args .t .now) (s .args .l)) (modelOf (s .args .m1 .now)) (modelOf (s .args .m2 .now)) (entry s))
+
+states-requires : tie.Need-states-requires
+states-requires c κs = search needs
+
+states-requires-2 : tie.Need-states-requires-2
+states-requires-2 c κs = search needs
+
+score-requires : tie.Need-score-requires
+score-requires c κs = search needs
+
+index-requires : tie.Need-index-requires
+index-requires c κs = search needs
+
+slice-aggregate-put-last : tie.Need-slice-aggregate-put-last
+slice-aggregate-put-last c = search needs
+
+put-last-requires : tie.Need-put-last-requires
+unfolding tableText
+put-last-requires c κs =
+    let s = c .before .before .before .before .before .before .before .before .before .before in
+    fits-first (s .args .text .now) 0 (rounds s) (rows s) (fits-first (s .args .text .now) 0 (rounds s ++ rows s) (mark s) (s .pre .1))
+
+put-rows-requires : tie.Need-put-rows-requires
+unfolding tableText
+put-rows-requires c κs =
+    let s = c .before .before .before .before .before .before .before .before .before .before .before .before .before .before in
+    rw (c .before .before .before .before .before .before .before .before .before .states .ensures, c .before .before .before .before .before .before .before .before .states2 .ensures)
+    (s .pre .0 .held, fits-then (rows s) (fits-first (s .args .text .now) 0 (rounds s ++ rows s) (mark s) (s .pre .1)) (c .before .before .before .put-last .ensures))
+
+slice-aggregate-put-last-2 : tie.Need-slice-aggregate-put-last-2
+slice-aggregate-put-last-2 c = search needs
+
+put-last-requires-2 : tie.Need-put-last-requires-2
+unfolding tableText
+put-last-requires-2 c κs =
+    let s = c .before .before .before .before .before .before .before .before .before .before .before .before .before .before .before .before .before .before .before in
+    rw (c .before .before .before .before .before .before .before .before .before .before .before .index .ensures .0, c .before .before .before .before .before .before .before .before .before .before .before .before .score .ensures)
+    (fits-then (mark s) (s .pre .1) (wrote-then (rows s) (omega arith) (c .before .before .before .before .before .before .before .before .put-last .ensures) (rw (c .before .before .before .before .before .before .before .before .before .before .before .before .before .before .states .ensures, c .before .before .before .before .before .before .before .before .before .before .before .before .before .states2 .ensures) at (c .before .before .before .before .put-rows .ensures))))
+
+same-length : tie.Need-same-length
+same-length c = search needs
+
+returns : tie.Need-returns
+unfolding tableText
+returns c =
+    let s = c .before .before .before .before .before .before .before .before .before .before .before .before .before .before .before .before .before .before .before .before .before .before in
+    wrote-then (mark s) (omega arith)
+    (wrote-then (rows s) (omega arith) (c .before .before .before .before .before .before .before .before .before .before .before .put-last .ensures) (rw (c .before .before .before .before .before .before .before .before .before .before .before .before .before .before .before .before .before .states .ensures, c .before .before .before .before .before .before .before .before .before .before .before .before .before .before .before .before .states2 .ensures) at (c .before .before .before .before .before .before .before .put-rows .ensures)))
+    (rw (c .before .before .before .before .before .before .before .before .before .before .before .before .before .before .index .ensures .0, c .before .before .before .before .before .before .before .before .before .before .before .before .before .before .before .score .ensures) at (c .before .before .put-last2 .ensures))
+
+pub put-table-spec : {M : Type 1} → statement M
+put-table-spec =
+    tie.close
+    (tie.spec
+    states-requires
+    states-requires-2
+    score-requires
+    index-requires
+    slice-aggregate-put-last
+    put-last-requires
+    put-rows-requires
+    slice-aggregate-put-last-2
+    put-last-requires-2
+    same-length
+    returns)

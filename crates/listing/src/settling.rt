@@ -1,0 +1,109 @@
+// The rounds, and the lines of the settled table.
+use crate::writing::put_last;
+use crate::writing::put_rows;
+use model::State;
+use operations::Lattice;
+ghost use mathlib.Core.Path.{_≡_};
+ghost use mathlib.Core.Bool.{_||_};
+ghost use Prim.Native.Nat.{_+_, _*_, _≤_};
+ghost use lib.ListN.{length, getD};
+ghost use Rattle.theory.specs.Part.{modelOf};
+ghost use Rattle.theory.specs.Simulation.{F};
+ghost use Rattle.operations.specs.Table.{opsIn};
+ghost use Rattle.rounds.specs.Table.{tableOf, Shaped};
+ghost use Rattle.rounds.specs.Round.{RoundSoFar};
+ghost use Rattle.listing.specs.Settling.{Startable, SettledAt, textOfTable, WroteSettled};
+ghost use Rattle.listing.specs.Accepting.{Settleable};
+ghost use Rattle.listing.specs.Writing.{Wrote};
+
+fn either(a: bool, b: bool) -> bool
+    ensures { λ r. ⌜ r ≡ (a || b) ⌝ }
+{
+    if a {
+        return true;
+    }
+    b
+}
+
+// Works one whole round: the other table becomes F of the whole one, its bytes past N1·N2 are kept. Says whether they differ.
+fn whole_round(
+    t: &[u8; 12352],
+    l: Lattice,
+    m1: &[u8],
+    m2: &[u8],
+    whole: &[u8],
+    other: &mut [u8],
+) -> bool
+    requires { ⌜ Shaped (now m1) (now m2) (now whole) × (getD (now m1) 0 0 * getD (now m2) 0 0 ≤ length (now other)) ⌝ }
+    ensures { λ r. ⌜ RoundSoFar (modelOf (now (m1 .entry))) (modelOf (now (m2 .entry)))
+        (F (opsIn (now (t .entry)) l) (modelOf (now (m1 .entry))) (modelOf (now (m2 .entry)))) (tableOf (now (whole .entry)) (getD (now (m2 .entry)) 0 0))
+        (now (other .entry)) (getD (now (m1 .entry)) 0 0) (now (other .exit)) r ⌝ }
+{
+    let n1 = model::states(m1);
+    let mut changed = false;
+    for q1 in 0..n1 {
+        let differs = rounds::row(t, l, m1, m2, whole, other, State(q1 as u8));
+        changed = either(changed, differs);
+    }
+    changed
+}
+
+// Works rounds up to the first that equals the one before, and gives its number T. The first table, which holds round 0, comes to hold
+// round T.
+fn settle(
+    t: &[u8; 12352],
+    l: Lattice,
+    m1: &[u8],
+    m2: &[u8],
+    first: &mut [u8],
+    second: &mut [u8],
+) -> usize
+    requires { ⌜ Startable (now t) l (now m1) (now m2) (now first) (now second) ⌝ }
+    ensures { λ r. ⌜ SettledAt (opsIn (now (t .entry)) l) (modelOf (now (m1 .entry))) (modelOf (now (m2 .entry))) (now (first .exit)) r ⌝ }
+{
+    let mut r: usize = 0;
+    loop {
+        if !whole_round(t, l, m1, m2, first, second) {
+            return r + 1;
+        }
+        if !whole_round(t, l, m1, m2, second, first) {
+            return r + 2;
+        }
+        r += 2;
+    }
+}
+
+// The number of the last round, the lines of its table, and its score.
+fn put_table(
+    t: &[u8; 12352],
+    l: Lattice,
+    m1: &[u8],
+    m2: &[u8],
+    table: &[u8],
+    r: usize,
+    text: &mut [u8],
+) -> usize
+    requires { ⌜ Shaped (now m1) (now m2) (now table) × (0 + length (textOfTable (now t) l (now m1) (now m2) r (now table)) ≤ length (now text)) ⌝ }
+    ensures { λ next. ⌜ Wrote (now (text .entry)) 0
+        (textOfTable (now (t .entry)) l (now (m1 .entry)) (now (m2 .entry)) r (now (table .entry))) (now (text .exit)) next ⌝ }
+{
+    let n1 = model::states(m1);
+    let n2 = model::states(m2);
+    let e = rounds::score(t, l, m1, m2, table);
+    let score = operations::index(e.0);
+    let rows = put_last(b"rounds ", r, text, 0);
+    let end = put_rows(table, n1, n2, text, rows);
+    put_last(b"score ", score, text, end)
+}
+
+// Works the rounds, and writes the lines of the settled table.
+pub fn put_settled(t: &[u8; 12352], l: Lattice, m1: &[u8], m2: &[u8], text: &mut [u8]) -> usize
+    requires { ⌜ Settleable (now t) l (now m1) (now m2) (now text) ⌝ }
+    ensures { λ next. ⌜ WroteSettled (now (t .entry)) l (now (m1 .entry)) (now (m2 .entry)) (now (text .entry)) (now (text .exit)) next ⌝ }
+{
+    let top = l.top.0;
+    let mut first = [top; 4096];
+    let mut second = [top; 4096];
+    let r = settle(t, l, m1, m2, &mut first, &mut second);
+    put_table(t, l, m1, m2, &first, r, text)
+}
