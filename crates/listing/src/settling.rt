@@ -1,52 +1,15 @@
 // The rounds, and the lines of the settled table.
 use crate::writing::put_last;
 use crate::writing::put_rows;
-use model::State;
 use operations::Lattice;
-ghost use mathlib.Core.Path.{_≡_};
-ghost use mathlib.Core.Bool.{_||_};
-ghost use Prim.Native.Nat.{_+_, _*_, _≤_};
-ghost use lib.ListN.{length, getD};
+ghost use Prim.Native.Nat.{_+_, _≤_};
+ghost use lib.ListN.{length};
 ghost use Rattle.theory.specs.Part.{modelOf};
-ghost use Rattle.theory.specs.Simulation.{F};
 ghost use Rattle.operations.specs.Table.{opsIn};
-ghost use Rattle.rounds.specs.Table.{tableOf, Shaped};
-ghost use Rattle.rounds.specs.Round.{RoundSoFar};
+ghost use Rattle.rounds.specs.Table.{Shaped};
 ghost use Rattle.listing.specs.Settling.{Startable, SettledAt, textOfTable, WroteSettled};
 ghost use Rattle.listing.specs.Accepting.{Settleable};
 ghost use Rattle.listing.specs.Writing.{Wrote};
-
-fn either(a: bool, b: bool) -> bool
-    ensures { λ r. ⌜ r ≡ (a || b) ⌝ }
-{
-    if a {
-        return true;
-    }
-    b
-}
-
-// Works one whole round: the other table becomes F of the whole one, its bytes past N1·N2 are kept. Says whether they differ.
-fn whole_round(
-    t: &[u8; 12352],
-    l: Lattice,
-    m1: &[u8],
-    m2: &[u8],
-    whole: &[u8],
-    other: &mut [u8],
-) -> bool
-    requires { ⌜ Shaped (now m1) (now m2) (now whole) × (getD (now m1) 0 0 * getD (now m2) 0 0 ≤ length (now other)) ⌝ }
-    ensures { λ r. ⌜ RoundSoFar (modelOf (now (m1 .entry))) (modelOf (now (m2 .entry)))
-        (F (opsIn (now (t .entry)) l) (modelOf (now (m1 .entry))) (modelOf (now (m2 .entry)))) (tableOf (now (whole .entry)) (getD (now (m2 .entry)) 0 0))
-        (now (other .entry)) (getD (now (m1 .entry)) 0 0) (now (other .exit)) r ⌝ }
-{
-    let n1 = model::states(m1);
-    let mut changed = false;
-    for q1 in 0..n1 {
-        let differs = rounds::row(t, l, m1, m2, whole, other, State(q1 as u8));
-        changed = either(changed, differs);
-    }
-    changed
-}
 
 // Works rounds up to the first that equals the one before, and gives its number T. The first table, which holds round 0, comes to hold
 // round T.
@@ -63,10 +26,10 @@ fn settle(
 {
     let mut r: usize = 0;
     loop {
-        if !whole_round(t, l, m1, m2, first, second) {
+        if !rounds::round(t, l, m1, m2, first, second) {
             return r + 1;
         }
-        if !whole_round(t, l, m1, m2, second, first) {
+        if !rounds::round(t, l, m1, m2, second, first) {
             return r + 2;
         }
         r += 2;

@@ -23,8 +23,8 @@ loop-holds c =
     let s = c .before .before .before .before in
     (at-start _ _ _ _ (s .pre .start), refl, refl)
 
-whole-round-requires : tie.Need-whole-round-requires Inv-loop μ-loop
-whole-round-requires c κs =
+round-requires : tie.Need-round-requires Inv-loop μ-loop
+round-requires c κs =
     let p = c .before .before .before .before .before .before .before .pre in
     let l = c .before .before .loop in
     (record { first = p .shaped .first; second = p .shaped .second; same-propositions = p .shaped .same-propositions; held = omega (arith, p .shaped .held) }, omega (arith, p .room))
@@ -36,8 +36,8 @@ few c =
     omega (arith, rounds-few (p .laws) (c .loop .inv .0), prod-le _ _ 64 64 (p .shaped .first .states-most) (p .shaped .second .states-most))
 
 -- after a round that changed something the second table holds the next round
-next-held : (c : tie.Else1 Inv-loop μ-loop) → AtRound (opsIn (c .before .before .before .before .before .before .before .before .before .before .before .args .t .now) (c .before .before .before .before .before .before .before .before .before .before .before .args .l)) (modelOf (c .before .before .before .before .before .before .before .before .before .before .before .args .m1 .now)) (modelOf (c .before .before .before .before .before .before .before .before .before .before .before .args .m2 .now)) (c .before .before .before .whole-round .last .1 .1 .1 .1 .1 .0) (c .before .before .before .before .before .before .loop .r + 1)
-next-held c = next-round (c .before .before .before .before .before .before .loop .inv .0) (c .before .before .before .whole-round .ensures) (not-false _ (c .if1 .left))
+next-held : (c : tie.Else1 Inv-loop μ-loop) → AtRound (opsIn (c .before .before .before .before .before .before .before .before .before .before .before .args .t .now) (c .before .before .before .before .before .before .before .before .before .before .before .args .l)) (modelOf (c .before .before .before .before .before .before .before .before .before .before .before .args .m1 .now)) (modelOf (c .before .before .before .before .before .before .before .before .before .before .before .args .m2 .now)) (c .before .before .before .round .last .1 .1 .1 .1 .1 .0) (c .before .before .before .before .before .before .loop .r + 1)
+next-held c = next-round (c .before .before .before .before .before .before .loop .inv .0) (c .before .before .before .round .ensures) (not-false _ (c .if1 .left))
 
 add-result : tie.Need-add-result Inv-loop μ-loop
 add-result c = omega (arith, few (c .before .before .before .before .before .before))
@@ -46,32 +46,32 @@ same-length : tie.Need-same-length Inv-loop μ-loop
 same-length c = c .before .before .before .before .before .before .loop .inv .1
 
 same-length-2 : tie.Need-same-length-2 Inv-loop μ-loop
-same-length-2 c = c .before .before .before .whole-round .ensures .worked .same-length ∙ c .before .before .before .before .before .before .loop .inv .2
+same-length-2 c = c .before .before .before .round .ensures .worked .same-length ∙ c .before .before .before .before .before .before .loop .inv .2
 
 returns : tie.Need-returns Inv-loop μ-loop
-returns c = settled-read (c .before .before .before .before .before .before .loop .inv .0) (c .before .before .before .whole-round .ensures) (not-true _ (c .if1 .taken))
+returns c = settled-read (c .before .before .before .before .before .before .loop .inv .0) (c .before .before .before .round .ensures) (not-true _ (c .if1 .taken))
 
-whole-round-requires-2 : tie.Need-whole-round-requires-2 Inv-loop μ-loop
-whole-round-requires-2 c κs =
+round-requires-2 : tie.Need-round-requires-2 Inv-loop μ-loop
+round-requires-2 c κs =
     let p = c .before .before .before .before .before .before .before .before .before .before .before .before .before .pre in
     let l = c .before .before .before .before .before .before .before .before .loop in
-    let k = c .before .before .before .before .before .whole-round .ensures .worked .same-length in
+    let k = c .before .before .before .before .before .round .ensures .worked .same-length in
     (record { first = p .shaped .first; second = p .shaped .second; same-propositions = p .shaped .same-propositions; held = omega (arith, p .room, k, l .inv .2) }, omega (arith, p .shaped .held, l .inv .1))
 
 add-result-2 : tie.Need-add-result-2 Inv-loop μ-loop
 add-result-2 c = omega (arith, few (c .before .before .before .before .before .before .before .before .before .before .before .before))
 
 same-length-3 : tie.Need-same-length-3 Inv-loop μ-loop
-same-length-3 c = c .before .before .before .whole-round2 .ensures .worked .same-length ∙ c .before .before .before .before .before .before .before .before .before .before .before .before .loop .inv .1
+same-length-3 c = c .before .before .before .round2 .ensures .worked .same-length ∙ c .before .before .before .before .before .before .before .before .before .before .before .before .loop .inv .1
 
 same-length-4 : tie.Need-same-length-4 Inv-loop μ-loop
-same-length-4 c = c .before .before .before .before .before .before .before .before .before .whole-round .ensures .worked .same-length ∙ c .before .before .before .before .before .before .before .before .before .before .before .before .loop .inv .2
+same-length-4 c = c .before .before .before .before .before .before .before .before .before .round .ensures .worked .same-length ∙ c .before .before .before .before .before .before .before .before .before .before .before .before .loop .inv .2
 
 returns-2 : tie.Need-returns-2 Inv-loop μ-loop
 returns-2 c =
     let r = c .before .before .before .before .before .before .before .before .before .before .before .before .loop .r in
     let e : r + 1 + 1 ≡ r + 2 = omega arith in
-    rw e at (settled-out (next-held (c .before .before .before .before .before .before)) (c .before .before .before .whole-round2 .ensures) (not-true _ (c .if2 .taken)))
+    rw e at (settled-out (next-held (c .before .before .before .before .before .before)) (c .before .before .before .round2 .ensures) (not-true _ (c .if2 .taken)))
 
 add-r : tie.Need-add-r Inv-loop μ-loop
 add-r c = omega (arith, few (c .before .before .before .before .before .before .before .before .before .before .before .before))
@@ -83,9 +83,9 @@ loop-again : tie.Need-loop-again Inv-loop μ-loop
 loop-again c =
     let r = c .before .before .before .before .before .before .before .before .before .before .before .before .loop .r in
     let e : r + 1 + 1 ≡ r + 2 = omega arith in (
-      rw e at (next-round (next-held (c .before .before .before .before .before .before)) (c .before .before .before .whole-round2 .ensures) (not-false _ (c .if2 .left))),
-      c .before .before .before .whole-round2 .ensures .worked .same-length ∙ c .before .before .before .before .before .before .before .before .before .before .before .before .loop .inv .1,
-      c .before .before .before .before .before .before .before .before .before .whole-round .ensures .worked .same-length ∙ c .before .before .before .before .before .before .before .before .before .before .before .before .loop .inv .2,
+      rw e at (next-round (next-held (c .before .before .before .before .before .before)) (c .before .before .before .round2 .ensures) (not-false _ (c .if2 .left))),
+      c .before .before .before .round2 .ensures .worked .same-length ∙ c .before .before .before .before .before .before .before .before .before .before .before .before .loop .inv .1,
+      c .before .before .before .before .before .before .before .before .before .round .ensures .worked .same-length ∙ c .before .before .before .before .before .before .before .before .before .before .before .before .loop .inv .2,
     )
 
 pub settle-spec : {M : Type 1} → statement M
@@ -95,12 +95,12 @@ settle-spec =
     Inv-loop
     μ-loop
     loop-holds
-    whole-round-requires
+    round-requires
     add-result
     same-length
     same-length-2
     returns
-    whole-round-requires-2
+    round-requires-2
     add-result-2
     same-length-3
     same-length-4
