@@ -11,6 +11,7 @@ use model::State;
 use operations::Element;
 use printing::at;
 use printing::say;
+ghost use Rattle.io.specs.Counts.{Counts};
 
 // ---- the answers
 
@@ -95,7 +96,8 @@ fn ask<'a>(s: Standing, letter: u8, bytes: &[u8], store: &[u8], first: &'a [u8],
         b'h' => say_share(calls::share(s, store, first, second, Element(a))),
         b'j' => say_judge(calls::judge(s, store, first, second, bytes)),
         b'w' => say_element(calls::whole(s, store, first, second, a, b)),
-        _ => value(s, a, b, at(bytes, 2), store, first, second),
+        b'v' => value(s, a, b, at(bytes, 2), store, first, second),
+        _ => {}
     }
 }
 
@@ -128,6 +130,16 @@ fn letter(line: &[u8]) -> u8 {
     at(line, 0)
 }
 
+// Prints the word, or the whole line if it begins with #, and gives the bytes after it.
+fn word(line: &[u8], bytes: &mut [u8; 256]) -> usize
+    ensures { λ r. ⌜ Counts r (now (bytes .exit)) ⌝ }
+{
+    let stop = if at(line, 0) == b'#' { b'\n' } else { b' ' };
+    let end = printing::before(line, stop);
+    say(&line[..end]);
+    printing::hexadecimal(&line[end..], bytes)
+}
+
 fn run(
     s: Standing,
     line: &[u8],
@@ -135,14 +147,8 @@ fn run(
     first: &mut [u8],
     second: &mut [u8],
 ) -> Standing {
-    if at(line, 0) == b'#' {
-        say(line);
-        return s;
-    }
-    let end = printing::before(line, b' ');
-    say(&line[..end]);
     let mut bytes = [0u8; 256];
-    let count = printing::hexadecimal(&line[end..], &mut bytes);
+    let count = word(line, &mut bytes);
     let t = call(s, letter(line), &bytes[..count], store, first, second);
     say(b"\n");
     t

@@ -8,11 +8,8 @@ fn show(case: &[u8]) {
     let mut t = [0u8; 12352];
     let answer = casefile::check(case, &mut t);
     match answer {
-        CaseCheck::Accepted(_) => say(b" accepted\n"),
-        CaseCheck::Refused(r) => {
-            printing::refused(r);
-            say(b"\n");
-        }
+        CaseCheck::Accepted(_) => say(b" accepted"),
+        CaseCheck::Refused(r) => printing::refused(r),
     }
 }
 
@@ -23,7 +20,7 @@ fn keep(bytes: &[u8], store: &mut [u8; 24576]) {
     match answer {
         CaseCheck::Accepted(held) => {
             let n = casefile::write(bytes, store);
-            printing::item(b" without gaps ", n as u64);
+            printing::item(b", without gaps ", n as u64);
             printing::item(b" bytes, ", held.formulas as u64);
             say(b" formulas,");
             show(store);
@@ -41,6 +38,7 @@ fn run(line: &[u8]) {
     show(&bytes[..count]);
     let mut store = [238u8; 24576];
     keep(&bytes[..count], &mut store);
+    say(b"\n");
 }
 
 fn run_all(text: &[u8]) {
@@ -63,8 +61,9 @@ fn lengths(text: &[u8]) {
     show(&most);
     let mut more = [0u8; 32769];
     printing::hexadecimal(&rest[..end], &mut more);
-    say(b"32769 bytes:");
+    say(b"\n32769 bytes:");
     show(&more);
+    say(b"\n");
 }
 
 fn main() {
