@@ -14,7 +14,6 @@ use Rattle.theory.specs.TestLaws.{all-cong}
 use Rattle.operations.specs.Table.{atMostIn, meetIn, joinIn, complementIn}
 use Rattle.operations.specs.declared.Lattice.{Lattice}
 use Rattle.refusal.specs.declared.Refusal.{Refusal}
-use Rattle.refusal.specs.declared.Refusal.the-variants.{NotDistributive, BadComplement}
 use Rattle.lattice.specs.declared.Rule.the-variants.{Order, Distributive, Complement}
 use Rattle.lattice.specs.declared.LatticeCheck.{LatticeCheck}
 use Rattle.lattice.specs.declared.LatticeCheck.the-variants.{Refused, Accepted}
@@ -88,54 +87,46 @@ module _ {P : LatticePart} {q n : ℕ} {t : List ℕ} (h : TablesHold P q n t) w
   order-same l =
       order-pairs (tableOps n t) ∙ ap₂ partialOrder (h .sizes) (filled-order P t q (h .filled) l) ∙ order-cong (P .size) _ _ orders
 
-  module _ (l : 12352 ≤ q) where
-    pub complement-same : allPairs Complement (tableOps n t) ≡ complementRules (P .size) (P .order) (P .complement)
-    complement-same =
+  pub complement-same : 12352 ≤ q → allPairs Complement (tableOps n t) ≡ complementRules (P .size) (P .order) (P .complement)
+  complement-same l =
+      let le = filled-order P t q (h .filled) (omega arith) in
+      let ng = filled-neg P t q (h .filled) l in
+      let p : complementRules n (atMostIn t) (complementIn t) ≡ complementRules (P .size) (opsOf P .atMost) (opsOf P .neg) = λ i. complementRules (h .sizes i) (le i) (ng i) in
+      complement-pairs (tableOps n t) ∙ p ∙ complement-cong (P .size) _ _ _ _ orders (λ a m. ap (P .complement) (id a m)) (h .formed .inside)
+
+  module _ (l : 12288 ≤ q) (b : Bounded P) where
+    pub distributive-same : Ordered P → allPairs Distributive (tableOps n t) ≡ distributive (P .size) (meetOf P) (joinOf P)
+    distributive-same o =
         let le = filled-order P t q (h .filled) (omega arith) in
-        let ng = filled-neg P t q (h .filled) l in
-        let p : complementRules n (atMostIn t) (complementIn t) ≡ complementRules (P .size) (opsOf P .atMost) (opsOf P .neg) = λ i. complementRules (h .sizes i) (le i) (ng i) in
-        complement-pairs (tableOps n t) ∙ p ∙ complement-cong (P .size) _ _ _ _ orders (λ a m. ap (P .complement) (id a m)) (h .formed .inside)
+        let mt = filled-meet P t q (h .filled) (omega arith) in
+        let jn = filled-join P t q (h .filled) (omega arith) in
+        let p : all2 n (distributePair n (atMostIn t) (meetIn t) (joinIn t)) ≡ all2 (P .size) (distributePair (P .size) (opsOf P .atMost) (opsOf P .meet) (opsOf P .join)) =
+        λ i. all2 (h .sizes i) (distributePair (h .sizes i) (le i) (mt i) (jn i)) in
+        distributive-pairs (tableOps n t)
+        ∙ p
+        ∙ distribute-cong (P .size) _ _ _ _ _ _ orders meets joins (b .meet-lt) (b .join-lt)
+        ∙ distribute-pairs P o b
 
-    module _ (b : Bounded P) where
-      pub distributive-same : Ordered P → allPairs Distributive (tableOps n t) ≡ distributive (P .size) (meetOf P) (joinOf P)
-      distributive-same o =
-          let le = filled-order P t q (h .filled) (omega arith) in
-          let mt = filled-meet P t q (h .filled) (omega arith) in
-          let jn = filled-join P t q (h .filled) (omega arith) in
-          let p : all2 n (distributePair n (atMostIn t) (meetIn t) (joinIn t)) ≡ all2 (P .size) (distributePair (P .size) (opsOf P .atMost) (opsOf P .meet) (opsOf P .join)) =
-          λ i. all2 (h .sizes i) (distributePair (h .sizes i) (le i) (mt i) (jn i)) in
-          distributive-pairs (tableOps n t)
-          ∙ p
-          ∙ distribute-cong (P .size) _ _ _ _ _ _ orders meets joins (b .meet-lt) (b .join-lt)
-          ∙ distribute-pairs P o b
+    -- the join of all is the top, the meet of all the bottom
+    pub top-same : Ordered P → boundUpTo (joinOrMeet true (joinIn t) (meetIn t)) n ≡ topOf P
+    top-same o =
+        let jn = filled-join P t q (h .filled) (omega arith) in
+        ap₂ boundUpTo jn (h .sizes)
+        ∙ bound-cong (P .size) _ _ joins (h .formed .some) (b .join-lt) (P .size) (le-refl _) .0
+        ∙ sym (top-found P (h .formed .some) o b)
 
-      -- the join of all is the top, the meet of all the bottom
-      pub top-same : Ordered P → boundUpTo (joinOrMeet true (joinIn t) (meetIn t)) n ≡ topOf P
-      top-same o =
-          let jn = filled-join P t q (h .filled) (omega arith) in
-          ap₂ boundUpTo jn (h .sizes)
-          ∙ bound-cong (P .size) _ _ joins (h .formed .some) (b .join-lt) (P .size) (le-refl _) .0
-          ∙ sym (top-found P (h .formed .some) o b)
-
-      pub bot-same : Ordered P → boundUpTo (joinOrMeet false (joinIn t) (meetIn t)) n ≡ botOf P
-      bot-same o =
-          let mt = filled-meet P t q (h .filled) (omega arith) in
-          ap₂ boundUpTo mt (h .sizes)
-          ∙ bound-cong (P .size) _ _ meets (h .formed .some) (b .meet-lt) (P .size) (le-refl _) .0
-          ∙ sym (bot-found P (h .formed .some) o b)
+    pub bot-same : Ordered P → boundUpTo (joinOrMeet false (joinIn t) (meetIn t)) n ≡ botOf P
+    bot-same o =
+        let mt = filled-meet P t q (h .filled) (omega arith) in
+        ap₂ boundUpTo mt (h .sizes)
+        ∙ bound-cong (P .size) _ _ meets (h .formed .some) (b .meet-lt) (P .size) (le-refl _) .0
+        ∙ sym (bot-found P (h .formed .some) o b)
 
 -- the tables of the part that some bytes of the right form give
 pub tables-hold : (b : List ℕ) {q n : ℕ} {t : List ℕ} → latticeForm b ≡ true → n ≡ latticeOf b .size → Filled (tableEntry (opsOf (latticeOf b))) q t → TablesHold (latticeOf b) q n t
 tables-hold b f e w = record { formed = formed b f; sizes = e; filled = w }
 
 -- ---- the answer after each test
-
--- what is read of a part after refusals 4 to 6
-abbrev pub rulesReading : LatticePart → LatticeReading
-rulesReading P =
-    require (distributive (P .size) (meetOf P) (joinOf P)) NotDistributive
-    (require (complementRules (P .size) (P .order) (P .complement)) BadComplement
-    (accepted P))
 
 pub answered-here : (x : Bool) (f : Refusal) (next : LatticeReading) (t : List ℕ) → x ≡ false → Answered (require x f next) (Refused f) t
 unfolding require

@@ -17,4 +17,5 @@ pub mod Scan
 pub mod Distributive
 pub mod Tables
 pub mod Pairs
+pub mod ByCodes
 pub mod Check

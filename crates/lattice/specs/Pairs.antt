@@ -1,7 +1,7 @@
--- The tests of refusals 5, 7 and 8, each put as one test of every two elements. Rests on theory's Lattice and Test, Reading.
+-- The tests of refusals 5, 7 and 8, and of an order by its meets, each put as one test of every two elements. Rests on theory's Lattice and Test, Reading.
 use Prim.Native.Nat.{ℕ, _<_}
-use mathlib.Core.Path.{_≡_, refl}
-use mathlib.Core.Bool.{Bool, true, false, cond, _&&_}
+use mathlib.Core.Path.{_≡_, refl, sym}
+use mathlib.Core.Bool.{Bool, true, false, cond, not, _&&_}
 use borrow.Author.Tests.{eqb-true, eq-eqb}
 use lib.Dec.{eqb}
 use Rattle.theory.specs.Lattice.{Ops}
@@ -9,7 +9,7 @@ use Rattle.theory.specs.Part.{LatticePart}
 use Rattle.theory.specs.Test.{allBelow, _⇒_}
 use Rattle.theory.specs.TestLaws.{and-l, and-r, and-in, ⇒-elim, ⇒-in, bool-same, all-at, all-in}
 use Rattle.lattice.specs.declared.Rule.{Rule}
-use Rattle.lattice.specs.declared.Rule.the-variants.{Order, Distributive, Complement}
+use Rattle.lattice.specs.declared.Rule.the-variants.{Order, Met, Distributive, Complement}
 use Rattle.lattice.specs.Reading.{all2, partialOrder, complementRules}
 use Rattle.lattice.specs.Distributive.{distributePair}
 use Rattle.lattice.specs.Accepted.{Ordered, ordered-out, ordered-in}
@@ -27,6 +27,10 @@ above n le a b = allBelow n (stepsTo le a b)
 unfoldable pub orderPair : ℕ → (ℕ → ℕ → Bool) → ℕ → ℕ → Bool
 orderPair n le a b = le a a && (le a b ⇒ (cond (le b a) (eqb a b) (above n le a b)))
 
+-- a is at or below b where their meet is a, and only there
+unfoldable pub metPair : (ℕ → ℕ → Bool) → (ℕ → ℕ → ℕ) → ℕ → ℕ → Bool
+metPair le meet a b = cond (le a b) (eqb (meet a b) a) (not (eqb (meet a b) a))
+
 -- a and b keep the two rules of the complement
 unfoldable pub complementPair : (ℕ → ℕ → Bool) → (ℕ → ℕ) → ℕ → ℕ → Bool
 complementPair le neg a b = eqb (neg (neg a)) a && (le a b ⇒ le (neg b) (neg a))
@@ -34,6 +38,7 @@ complementPair le neg a b = eqb (neg (neg a)) a && (le a b ⇒ le (neg b) (neg a
 -- a rule at two elements, at one and every other, at every two
 unfoldable pub pairTest : Rule → Ops ℕ → ℕ → ℕ → Bool
 pairTest Order O a b = orderPair (O .size) (O .atMost) a b
+pairTest Met O a b = metPair (O .atMost) (O .meet) a b
 pairTest Distributive O a b = distributePair (O .size) (O .atMost) (O .meet) (O .join) a b
 pairTest Complement O a b = complementPair (O .atMost) (O .neg) a b
 
@@ -43,7 +48,7 @@ rowTest rule O a = allBelow (O .size) (pairTest rule O a)
 unfoldable pub allPairs : Rule → Ops ℕ → Bool
 allPairs rule O = allBelow (O .size) (rowTest rule O)
 
--- ---- the three rules
+-- ---- the rules
 
 module _ (P : LatticePart) where
   order-there : all2 (P .size) (orderPair (P .size) (P .order)) ≡ true → Ordered P
@@ -78,6 +83,16 @@ unfolding allPairs rowTest pairTest
 order-pairs O =
     let P : LatticePart = record { size = O .size; complement = O .neg; order = O .atMost } in
     bool-same _ _ (λ t. ordered-in P (order-there P t)) (λ t. order-back P (ordered-out P t))
+
+-- where every two elements pass, the order is that of the meets
+pub met-pairs : (O : Ops ℕ) → allPairs Met O ≡ true → (a b : ℕ) → a < O .size → b < O .size → O .atMost a b ≡ eqb (O .meet a b) a
+unfolding allPairs rowTest pairTest metPair
+met-pairs O t a b l m = go (O .atMost a b) (eqb (O .meet a b) a) (all2-at (O .size) _ t a b l m)
+  where
+    go : (x y : Bool) → cond x y (not y) ≡ true → x ≡ y
+    go true y e = sym e
+    go false true e = e
+    go false false e = refl
 
 pub distributive-pairs : (O : Ops ℕ) → allPairs Distributive O ≡ all2 (O .size) (distributePair (O .size) (O .atMost) (O .meet) (O .join))
 unfolding allPairs rowTest pairTest

@@ -100,7 +100,7 @@ module _ (P : LatticePart) (s : Antisymmetric P) (a b : ℕ) where
   meet-low m v = and-in _ _ (v .left) (v .right)
 
   -- a meet is the one that is found
-  meet-only : (m : ℕ) → m < P .size → MeetAt P a b m → m ≡ meetOf P a b
+  pub meet-only : (m : ℕ) → m < P .size → MeetAt P a b m → m ≡ meetOf P a b
   unfolding meetOf
   meet-only m l v = sym (first-only (P .size) (isMeet P a b) m l (meet-in P a b m v) (λ i j t. meet-same P a b m i s l j v (meet-out P a b i t)))
 

@@ -36,9 +36,12 @@ tableEntry O k =
     (cond (ltb k 12288) (O .join (k / 64) k)
     (O .neg k)))
 
--- the operations that the tables t hold, on n elements, with no care for the bounds
+-- a lattice of n elements, with no care for the bounds, and the operations that the tables t hold on it
+abbrev pub sized : ℕ → Lattice
+sized n = record { size = n; top = record { 0 = 0 }; bottom = record { 0 = 0 } }
+
 abbrev pub tableOps : ℕ → List ℕ → Ops ℕ
-tableOps n t = opsIn t (record { size = n; top = record { 0 = 0 }; bottom = record { 0 = 0 } })
+tableOps n t = opsIn t (sized n)
 
 -- the place in the same table of the elements that place k stands for, the lesser number first
 abbrev pub placeOf : ℕ → ℕ → ℕ

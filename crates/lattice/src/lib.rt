@@ -12,14 +12,14 @@ ghost use Rattle.theory.specs.Simulation.{one};
 ghost use Rattle.theory.specs.Lists.{Filled};
 ghost use Rattle.theory.specs.Part.{element, opsOf};
 ghost use Rattle.operations.specs.Table.{atMostIn, meetIn, joinIn, complementIn};
-ghost use Rattle.lattice.specs.Reading.{isPanel, latticeOf, latticeForm, latticeReading, partialOrder, bounded};
-ghost use Rattle.lattice.specs.Check.{rulesReading};
+ghost use Rattle.lattice.specs.Reading.{isPanel, latticeOf, latticeForm, latticeReading, partReading, partialOrder};
 ghost use Rattle.lattice.specs.Answer.{Answered};
 ghost use Rattle.lattice.specs.Bounds.{boundUpTo};
 ghost use Rattle.lattice.specs.Scan.{orderFor, joinOrMeet, lower, better, candidate, under, greatest, scanFrom, boundFrom};
 ghost use Rattle.lattice.specs.Distributive.{distributesAt, distributes, distributePair};
 ghost use Rattle.lattice.specs.Tables.{tableEntry, tableOps, boundAt, BoundsFilled};
-ghost use Rattle.lattice.specs.Pairs.{stepsTo, above, orderPair, complementPair, pairTest, rowTest, allPairs};
+ghost use Rattle.lattice.specs.Pairs.{stepsTo, above, orderPair, metPair, complementPair, pairTest, rowTest, allPairs};
+ghost use Rattle.lattice.specs.ByCodes.{DistributiveIn, RowRepeats, Repeats};
 
 // What a lattice part gets: a refusal, or its size and bounds.
 pub enum LatticeCheck {
@@ -36,6 +36,7 @@ enum Found {
 // The rules that are tested for every two elements.
 enum Rule {
     Order,
+    Met,
     Distributive,
     Complement,
 }
@@ -358,6 +359,17 @@ fn is_order(t: &[u8; 12352], n: u8, a: Element, b: Element) -> bool
     is_above(t, n, a, b)
 }
 
+// a is at or below b where their meet is a, and only there.
+fn is_met(t: &[u8; 12352], a: Element, b: Element) -> bool
+    ensures { λ r. ⌜ r ≡ metPair (atMostIn (now (t .entry))) (meetIn (now (t .entry))) (a .0) (b .0) ⌝ }
+{
+    let m = operations::meet(t, a, b);
+    if operations::at_most(t, a, b) {
+        return m.0 == a.0;
+    }
+    m.0 != a.0
+}
+
 // bc is b joined with c.
 fn distributes_at(t: &[u8; 12352], b: Element, c: Element, bc: Element, a: Element) -> bool
     ensures { λ r. ⌜ r ≡ distributesAt (meetIn (now (t .entry))) (joinIn (now (t .entry))) (b .0) (c .0) (bc .0) (a .0) ⌝ }
@@ -416,6 +428,7 @@ fn pair_passes(t: &[u8; 12352], n: u8, rule: Rule, a: Element, b: Element) -> bo
 {
     match rule {
         Rule::Order => is_order(t, n, a, b),
+        Rule::Met => is_met(t, a, b),
         Rule::Distributive => is_distributive(t, n, a, b),
         Rule::Complement => is_complement(t, a, b),
     }
@@ -444,18 +457,73 @@ fn passes(t: &[u8; 12352], n: u8, rule: Rule) -> bool
     true
 }
 
+// ---- meets and joins by codes: guessed, and taken only where they pass tests of every two elements
+
+// Each place of a row of the meets and joins holds what the place of its elements holds. Where row and column are elements it does so at once.
+fn row_repeats(t: &[u8; 12352], n: u8, row: usize) -> bool
+    requires { ⌜ (0 < n) × (n ≤ 64) × (64 ≤ row) × (row < 192) ⌝ }
+    ensures { λ r. ⌜ (r ≡ true → RowRepeats n row (now (t .entry))) ⌝ }
+{
+    let home = (row / 64 * 64 + operations::index(element_of(n, row).0)) * 64;
+    let start = if row % 64 < operations::index(n) {
+        operations::index(n)
+    } else {
+        0
+    };
+    for b in start..64 {
+        let x = t[row * 64 + b];
+        let y = t[home + operations::index(element_of(n, b).0)];
+        if x != y {
+            return false;
+        }
+    }
+    true
+}
+
+// The same of every row.
+fn repeats(t: &[u8; 12352], n: u8) -> bool
+    requires { ⌜ (0 < n) × (n ≤ 64) ⌝ }
+    ensures { λ r. ⌜ (r ≡ true → Repeats n (now (t .entry))) ⌝ }
+{
+    for row in 64..192usize {
+        if !row_repeats(t, n, row) {
+            return false;
+        }
+    }
+    true
+}
+
+// Fills the meets and the joins with guesses, and says whether they pass: then they are those of a distributive lattice.
+fn by_codes(part: &[u8], t: &mut [u8; 12352]) -> bool
+    requires { ⌜ (latticeForm (now part) ≡ true) × Filled (tableEntry (opsOf (latticeOf (now part)))) 4096 (now t) ⌝ }
+    ensures { λ r. ⌜ (r ≡ true → DistributiveIn (latticeOf (now (part .entry))) (now (t .exit))) ⌝ }
+{
+    let n = size(part);
+    codes::guess_bounds(t, operations::index(n));
+    let mut words = [0u64; 64];
+    let l = Lattice {
+        size: n,
+        top: Element(0),
+        bottom: Element(0),
+    };
+    if !codes::find(t, l, &mut words) {
+        return false;
+    }
+    if !passes(t, n, Rule::Met) {
+        return false;
+    }
+    repeats(t, n)
+}
+
 // ---- the check
 
-// What is left to test of a part whose meets and joins are in the tables: refusals 7 and 8, or n, top and bottom.
-fn check_rules(part: &[u8], t: &mut [u8; 12352]) -> LatticeCheck
-    requires { ⌜ (latticeForm (now part) ≡ true) × (partialOrder (latticeOf (now part) .size) (latticeOf (now part) .order) ≡ true) × (bounded (latticeOf (now part)) ≡ true) × Filled (tableEntry (opsOf (latticeOf (now part)))) 12288 (now t) ⌝ }
-    ensures { λ r. ⌜ Answered (rulesReading (latticeOf (now (part .entry)))) r (now (t .exit)) ⌝ }
+// What is left to test of a distributive lattice whose meets and joins are in the tables: refusal 8, or n, top and bottom.
+fn check_complements(part: &[u8], t: &mut [u8; 12352]) -> LatticeCheck
+    requires { ⌜ (latticeForm (now part) ≡ true) × DistributiveIn (latticeOf (now part)) (now t) ⌝ }
+    ensures { λ r. ⌜ Answered (partReading (latticeOf (now (part .entry)))) r (now (t .exit)) ⌝ }
 {
     fill_complements(part, t);
     let n = size(part);
-    if !passes(t, n, Rule::Distributive) {
-        return LatticeCheck::Refused(Refusal::NotDistributive);
-    }
     if !passes(t, n, Rule::Complement) {
         return LatticeCheck::Refused(Refusal::BadComplement);
     }
@@ -468,7 +536,29 @@ fn check_rules(part: &[u8], t: &mut [u8; 12352]) -> LatticeCheck
     })
 }
 
-// The refusal that the part gets, or n, top and bottom. An accepted part's operations are left in the tables; after a refusal the
+// The refusal that the part gets, or n, top and bottom: each test in turn, with meets and joins found by search and distributivity tested for
+// every three elements.
+pub fn check_by_search(part: &[u8], t: &mut [u8; 12352]) -> LatticeCheck
+    ensures { λ r. ⌜ Answered (latticeReading (now (part .entry))) r (now (t .exit)) ⌝ }
+{
+    if !has_form(part) {
+        return LatticeCheck::Refused(Refusal::LatticeForm);
+    }
+    fill_order(part, t);
+    let n = size(part);
+    if !passes(t, n, Rule::Order) {
+        return LatticeCheck::Refused(Refusal::NoPartialOrder);
+    }
+    if !fill_bounds(part, t) {
+        return LatticeCheck::Refused(Refusal::NoMeetOrJoin);
+    }
+    if !passes(t, n, Rule::Distributive) {
+        return LatticeCheck::Refused(Refusal::NotDistributive);
+    }
+    check_complements(part, t)
+}
+
+// The same, by codes where the part passes their tests. An accepted part's operations are left in the tables; after a refusal the
 // tables hold anything. An empty part is the caller's to refuse, and is refused here for its form.
 pub fn check(part: &[u8], t: &mut [u8; 12352]) -> LatticeCheck
     ensures { λ r. ⌜ Answered (latticeReading (now (part .entry))) r (now (t .exit)) ⌝ }
@@ -477,11 +567,8 @@ pub fn check(part: &[u8], t: &mut [u8; 12352]) -> LatticeCheck
         return LatticeCheck::Refused(Refusal::LatticeForm);
     }
     fill_order(part, t);
-    if !passes(t, size(part), Rule::Order) {
-        return LatticeCheck::Refused(Refusal::NoPartialOrder);
+    if by_codes(part, t) {
+        return check_complements(part, t);
     }
-    if !fill_bounds(part, t) {
-        return LatticeCheck::Refused(Refusal::NoMeetOrJoin);
-    }
-    check_rules(part, t)
+    check_by_search(part, t)
 }

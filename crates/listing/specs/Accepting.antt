@@ -1,6 +1,6 @@
 -- What the code of the listing knows of an accepted case: its formulas' values on the models. Rests on Text, Writing and casefile's Caller.
 use Prim.Native.Nat.{ℕ, _+_, _≤_, _<_}
-use mathlib.Core.Path.{_≡_, refl, sym, ap, ap₂, _∙_}
+use mathlib.Core.Path.{_≡_, refl, sym, ap, _∙_}
 use mathlib.Core.Bool.{Bool, true, false, _||_}
 use mathlib.Core.List.{List}
 use native.Mathlib.Nat.{zero-add}
@@ -8,12 +8,11 @@ use native.Mathlib.Omega.{arith}
 use borrow.Author.Tests.{eqb-true}
 use lib.Dec.{eqb}
 use lib.ListN.{length, getD}
-use Rattle.theory.specs.Lattice.{Ops, Laws}
-use Rattle.theory.specs.Model.{Model}
+use lib.Seq.{length-take-le}
+use Rattle.theory.specs.Lattice.{Laws}
 use Rattle.theory.specs.Part.{modelOf, ModelShape}
 use Rattle.theory.specs.Value.{wholeValue}
-use Rattle.theory.specs.Simulation.{round, FirstUnchanged, SameTable}
-use Rattle.theory.specs.Lists.{written}
+use Rattle.theory.specs.Simulation.{round, FirstUnchanged}
 use Rattle.operations.specs.declared.Lattice.{Lattice}
 use Rattle.operations.specs.Table.{opsIn}
 use Rattle.formula.specs.Bytes.{read, formulaReading}
@@ -24,10 +23,9 @@ use Rattle.casefile.specs.Conditions.{Placed}
 use Rattle.casefile.specs.Reading.{Content, refused, content, caseReading}
 use Rattle.casefile.specs.Caller.{AcceptedCase}
 use Rattle.valuer.specs.Values.{Reads, WholeValue}
-use Rattle.rounds.specs.Table.{tableOf, Shaped}
 use Rattle.desk.specs.Case.{ops, model1, model2, modelIn, formulaIn, roundIn}
-use Rattle.listing.specs.Text.{each, formulaLine, formulasText, tableText, refusedText, settledRound, acceptedText, listingText}
-use Rattle.listing.specs.Writing.{Wrote, wrote-then, fits-then}
+use Rattle.listing.specs.Text.{each, formulaLine, formulasText, tableText, refusedText, settledRound, acceptedText, listingText, Lists}
+use Rattle.listing.specs.Writing.{Wrote, wrote-then, wrote-within, fits-then}
 use Rattle.listing.specs.Most.{table-most, text-most}
 use Rattle.listing.specs.Settled.{settled-isT, listing-is}
 
@@ -158,6 +156,10 @@ module _ {b : List ℕ} {z : Sizes} {t : List ℕ} (a : AcceptedCase b z t) wher
   unfolding acceptedText
   all-written d e f n m w v = rw (listing-is b (a .holds) (a .reads) (settledRound (a .holds)) (settled-isT (a .holds) (a .sound))) (wrote-then (formulasText (a .holds)) (omega arith) w v)
 
--- the text of a refused case
-pub refused-written : (b : List ℕ) (f : Refusal) (d e : List ℕ) (n : ℕ) → caseReading b ≡ refused f → Wrote d 0 (refusedText f) e n → (n ≡ length (listingText b)) × (e ≡ written 0 (listingText b) d)
-refused-written b f d e n r w = rw r (w .next-is ∙ zero-add _, w .out-is)
+-- ---- the whole text
+
+pub lists : (b d e : List ℕ) (n : ℕ) → Wrote d 0 (listingText b) e n → Lists b d e n
+lists b d e n w = record { count = w .next-is ∙ zero-add _; bytes = w .out-is; within = wrote-within w; first = sym (length-take-le n e (wrote-within w)) }
+
+pub lists-refused : (b d e : List ℕ) (n : ℕ) (f : Refusal) → caseReading b ≡ refused f → Wrote d 0 (refusedText f) e n → Lists b d e n
+lists-refused b d e n f r w = lists b d e n (rw r w)

@@ -1,8 +1,8 @@
 -- The listing of a case is what a desk answers that was last opened with it and is settled. Rests on Text, and for the proof on Settled,
--- Listed and desk's Demand3.
-use Prim.Native.Nat.{ℕ, _+_, _*_, _/_, _%_, _<_}
-use mathlib.Core.Path.{_≡_, refl, sym, ap, ap₂, _∙_}
-use mathlib.Core.Bool.{true, _&&_}
+-- Entries and desk's Demand3.
+use Prim.Native.Nat.{ℕ, _+_, _*_, _<_}
+use mathlib.Core.Path.{_≡_, sym, ap, ap₂, _∙_}
+use mathlib.Core.Bool.{true}
 use mathlib.Core.List.{List, _++_}
 use native.Mathlib.Nat.{mul-add-div-right, mul-add-mod-self-right, div-eq-of-lt, mod-eq-of-lt, add-zero}
 use native.Mathlib.Omega.{arith}
@@ -15,7 +15,7 @@ use Rattle.casefile.specs.Reading.{Content}
 use Rattle.rounds.specs.Table.{tableOf}
 use Rattle.rounds.specs.Round.{cell-lt}
 use Rattle.desk.specs.Desk.{Desk, Question, Call, Reply}
-use Rattle.desk.specs.Case.{ops, model1, model2, N1, N2, tableSize, modelIn, formulaIn, roundIn, entryAt, tableBytes}
+use Rattle.desk.specs.Case.{ops, model1, model2, N1, N2, tableSize, modelIn, formulaIn, roundIn, entryAt, tableBytes, IsT}
 use Rattle.desk.specs.Perform.{asked}
 use Rattle.desk.specs.Run.{run, LastOpening, answersSince, roundAfter}
 use Rattle.desk.specs.RefusedLaws.{open-accepted}
@@ -23,8 +23,8 @@ use Rattle.desk.specs.Listed.{opening-T}
 use Rattle.desk.specs.Demand3.{Claim, listed}
 use Rattle.listing.specs.Text.{roundsWord, scoreWord, lastItem, each, rowsText, tableText, formulaText, formulaLine, formulasText, acceptedText, listingText}
 use Rattle.listing.specs.Writing.{each-cong}
+use Rattle.listing.specs.Entries.{rows-same}
 use Rattle.listing.specs.Settled.{listing-is}
-use Rattle.listing.specs.Listed.{rows-text-cong}
 
 -- the answers of a desk that is settled: its round, the table that it shows, its score, and the formulas' values on models 1 and 2
 pub record Answers (c : Content) (d : Desk) (T : ℕ) (table : List ℕ) (e : ℕ) (v₁ v₂ : ℕ → ℕ) : Type 0 where
@@ -72,6 +72,9 @@ module _ (c : Content) (T : ℕ) (answers : List Reply) (d : Desk) (w : Claim c 
   whole-2 : (f : ℕ) → f < length (c .formulas) → asked (Question.Whole f 2) d ≡ Reply.Element (wholeValue (ops c) (modelIn c 2) (formulaIn c f))
   whole-2 f l = w .whole-next f 2 (w .ranges (Question.Whole f 2) ∙ rw (lt-ltb f (length (c .formulas)) l))
 
+  answers-T : Answers c d T (tableBytes c (roundIn c T)) (score (ops c) (model1 c) (model2 c) (roundIn c T)) (λ f. wholeValue (ops c) (modelIn c 1) (formulaIn c f)) (λ f. wholeValue (ops c) (modelIn c 2) (formulaIn c f))
+  answers-T = record { round = round-T; show = show-T; score = score-T; whole1 = whole-1; whole2 = whole-2 }
+
   claimed-text : (U : ℕ) (table : List ℕ) (e : ℕ) (v₁ v₂ : ℕ → ℕ) → Answers c d U table e v₁ v₂ → acceptedText c T ≡ textOfAnswers c U table e v₁ v₂
   unfolding acceptedText formulasText formulaLine tableText
   claimed-text U table e v₁ v₂ a =
@@ -80,10 +83,16 @@ module _ (c : Content) (T : ℕ) (answers : List Reply) (d : Desk) (w : Claim c 
       let pt : tableBytes c S ≡ table = same-shown _ _ _ show-T (a .show) in
       let pe : score (ops c) (model1 c) (model2 c) S ≡ e = same-element _ _ _ score-T (a .score) in
       ap₂ _++_
-      (ap₂ (λ (x : List ℕ) (y : List ℕ). x ++ y) (ap₂ (λ (x : ℕ) (y : List ℕ). lastItem roundsWord x ++ y) pr (rows-text-cong c S (tableOf table (N2 c)) (λ q₁ l q₂ m. sym (bytes-table c S q₁ l q₂ m) ∙ ap (λ (x : List ℕ). tableOf x (N2 c) q₁ q₂) pt))) (ap (lastItem scoreWord) pe))
+      (ap₂ (λ (x : List ℕ) (y : List ℕ). x ++ y) (ap₂ (λ (x : ℕ) (y : List ℕ). lastItem roundsWord x ++ y) pr (rows-same (ops c) (model1 c) (model2 c) S (tableOf table (N2 c)) (λ q₁ l q₂ m. sym (bytes-table c S q₁ l q₂ m) ∙ ap (λ (x : List ℕ). tableOf x (N2 c) q₁ q₂) pt))) (ap (lastItem scoreWord) pe))
       (each-cong (length (c .formulas)) _ _ (λ f l. ap₂ (formulaText f) (same-element _ _ _ (whole-1 f l) (a .whole1 f l)) (same-element _ _ _ (whole-2 f l) (a .whole2 f l))))
 
--- for every list of calls from any desk with an accepted opening in it, after which the desk is settled
+-- for every list of calls from any desk with an accepted opening in it, after which the desk is settled: it has such answers, with T the first
+-- round that equals the one before
+pub answers-are : (ks : List Call) (d : Desk) (l : LastOpening ks d) → run ks d .standing .settled ≡ true → (T : ℕ) → IsT (l .holds) T
+    → let c = l .holds in Answers c (run ks d) T (tableBytes c (roundIn c T)) (score (ops c) (model1 c) (model2 c) (roundIn c T)) (λ f. wholeValue (ops c) (modelIn c 1) (formulaIn c f)) (λ f. wholeValue (ops c) (modelIn c 2) (formulaIn c f))
+answers-are ks d l settled T t = answers-T (l .holds) T (answersSince l) (run ks d) (listed ks d l T t) settled
+
+-- and whatever it answers, the listing of the case says it
 pub listing-answered : (ks : List Call) (d : Desk) (l : LastOpening ks d) → run ks d .standing .settled ≡ true
     → (T : ℕ) (table : List ℕ) (e : ℕ) (v₁ v₂ : ℕ → ℕ) → Answers (l .holds) (run ks d) T table e v₁ v₂
     → listingText (l .case) ≡ textOfAnswers (l .holds) T table e v₁ v₂

@@ -4,6 +4,8 @@ pub mod Text
 pub mod Listed
 pub mod Answered
 -- ---- theorems
+pub mod Decimal
+pub mod Entries
 pub mod Settled
 pub mod Most
 pub mod Examples

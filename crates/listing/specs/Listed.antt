@@ -1,5 +1,5 @@
 -- The listing of an accepted case is that of T, of the greatest latticed simulation with its score, and of the formulas' whole values in the
--- latticed mu-calculus. Rests on Text, and for the proof on Settled, desk's Demand2 and theory's Rounds.
+-- latticed mu-calculus. Rests on Text, and for the proof on Settled, Entries, desk's Demand2 and theory's Rounds.
 use Prim.Native.Nat.{ℕ, _<_}
 use mathlib.Core.Path.{_≡_, ap, ap₂, _∙_}
 use mathlib.Core.List.{List, _++_}
@@ -10,14 +10,15 @@ use Rattle.theory.specs.Value.{wholeValue}
 use Rattle.theory.specs.Calculus.{Calculus}
 use Rattle.theory.specs.Simulation.{SameTable, GreatestSimulation}
 use Rattle.theory.specs.Folds.{bigMeet-cong}
-use Rattle.theory.specs.Rounds.{F-element, round-element, settled-greatest, score-cong}
+use Rattle.theory.specs.Rounds.{F-element, round-element, settled-greatest}
 use Rattle.formula.specs.RoundTrip.{formula-part}
 use Rattle.casefile.specs.Reading.{Content, content, caseReading}
 use Rattle.casefile.specs.Content.{ContentSound, content-sound}
-use Rattle.desk.specs.Case.{ops, model1, model2, modelIn, formulaIn, roundIn, IsT, N1, N2}
+use Rattle.desk.specs.Case.{ops, model1, model2, modelIn, formulaIn, roundIn, IsT}
 use Rattle.desk.specs.Demand2.{value-of}
-use Rattle.listing.specs.Text.{blank, lineEnd, rowWord, roundsWord, scoreWord, item, lastItem, heading, each, rowText, rowsText, tableText, formulaText, formulaLine, formulasText, acceptedText, listingText}
+use Rattle.listing.specs.Text.{each, tableText, formulaText, formulaLine, formulasText, acceptedText, listingText}
 use Rattle.listing.specs.Writing.{each-cong}
+use Rattle.listing.specs.Entries.{table-same}
 use Rattle.listing.specs.Settled.{listing-is}
 
 -- 'A formula's value on a whole model is the meet over q of Q0(q) → value at q', u giving the values at the states
@@ -27,16 +28,6 @@ wholeBy c m u f = bigMeet (ops c) (modelIn c m .states) (λ q. imp (ops c) (mode
 -- the text with T, the table G, and the values that u₁ and u₂ give on models 1 and 2
 abbrev pub textBy : Content → ℕ → (ℕ → ℕ → ℕ) → (Formula → (ℕ → ℕ → ℕ) → ℕ → ℕ) → (Formula → (ℕ → ℕ → ℕ) → ℕ → ℕ) → List ℕ
 textBy c T G u₁ u₂ = tableText (ops c) (model1 c) (model2 c) T G ++ each (length (c .formulas)) (λ f. formulaText f (wholeBy c 1 u₁ f) (wholeBy c 2 u₂ f))
-
--- the lines of a table's rows are those of its entries at the pairs of states
-pub rows-text-cong : (c : Content) (S U : ℕ → ℕ → ℕ) → SameTable (ops c) (model1 c) (model2 c) S U → rowsText S (N1 c) (N2 c) ≡ rowsText U (N1 c) (N2 c)
-unfolding rowText
-rows-text-cong c S U h =
-    each-cong (N1 c) _ _ (λ q₁ l. ap (λ (x : List ℕ). heading rowWord q₁ ++ x ++ lineEnd) (each-cong (N2 c) _ _ (λ q₂ m. ap (item blank) (h q₁ l q₂ m))))
-
-table-text-cong : (c : Content) (T : ℕ) (S U : ℕ → ℕ → ℕ) → SameTable (ops c) (model1 c) (model2 c) S U → tableText (ops c) (model1 c) (model2 c) T S ≡ tableText (ops c) (model1 c) (model2 c) T U
-unfolding tableText
-table-text-cong c T S U h = ap₂ (λ (x : List ℕ) (y : ℕ). lastItem roundsWord T ++ x ++ lastItem scoreWord y) (rows-text-cong c S U h) (score-cong (ops c) (model1 c) (model2 c) h)
 
 module _ (b : List ℕ) (c : Content) (e : caseReading b ≡ content c) (T : ℕ) (t : IsT c T) where
   abbrev sound : ContentSound c
@@ -67,5 +58,5 @@ module _ (b : List ℕ) (c : Content) (e : caseReading b ≡ content c) (T : ℕ
   listed G g u₁ u₂ a₁ a₂ =
       listing-is b c e T t
       ∙ ap₂ _++_
-      (table-text-cong c T (roundIn c T) G (same-greatest G g))
+      (table-same (ops c) (model1 c) (model2 c) (roundIn c T) G (same-greatest G g) T)
       (each-cong (length (c .formulas)) _ _ (λ f l. ap₂ (formulaText f) (whole-by 1 f l u₁ a₁) (whole-by 2 f l u₂ a₂)))

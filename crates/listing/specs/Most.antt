@@ -1,5 +1,5 @@
--- The greatest length of a text. Rests on Text, Writing, casefile's Content and Placed, theory's Rounds and Sharp.
-use Prim.Native.Nat.{ℕ, _+_, _*_, _≤_, _<_}
+-- The greatest length of a text. Rests on Text, Decimal, Writing, casefile's Content and Placed, theory's Rounds and Sharp.
+use Prim.Native.Nat.{ℕ, _+_, _≤_, _<_}
 use mathlib.Core.Path.{_≡_}
 use mathlib.Core.List.{List, _++_}
 use native.Mathlib.Omega.{arith}
@@ -11,11 +11,12 @@ use Rattle.theory.specs.Folds.{bigMeet-element}
 use Rattle.theory.specs.Rounds.{round-element}
 use Rattle.theory.specs.Sharp.{T-sharp}
 use Rattle.casefile.specs.Reading.{Content, content, caseReading}
-use Rattle.casefile.specs.Content.{ContentSound, content-sound, PartsAre, parts-are}
+use Rattle.casefile.specs.Content.{ContentSound, content-sound, parts-are}
 use Rattle.casefile.specs.Placed.{accepted-placed}
 use Rattle.desk.specs.Case.{ops, model1, model2, modelIn, formulaIn, N1, N2, roundIn, IsT}
-use Rattle.listing.specs.Text.{decimal, blank, colon, lineEnd, rowWord, roundsWord, scoreWord, formulaWord, item, lastItem, heading, entriesText, rowText, rowsText, tableText, formulaText, formulaLine, formulasText, acceptedText}
-use Rattle.listing.specs.Writing.{each-length, decimal-single, decimal-two, decimal-four}
+use Rattle.listing.specs.Text.{blank, colon, lineEnd, rowWord, roundsWord, scoreWord, formulaWord, item, lastItem, heading, entriesText, rowText, rowsText, tableText, formulaText, formulaLine, formulasText, acceptedText}
+use Rattle.listing.specs.Decimal.{decimal-one, decimal-two, decimal-four}
+use Rattle.listing.specs.Writing.{each-length}
 
 -- a row's line: a row number and entries of at most two digits each, and at most 64 entries
 row-most : (S : ℕ → ℕ → ℕ) (n₂ q₁ : ℕ) → n₂ ≤ 64 → q₁ < 64 → ((q₂ : ℕ) → q₂ < n₂ → S q₁ q₂ < 100) → length (rowText S n₂ q₁) ≤ 200
@@ -39,7 +40,7 @@ formula-most f v₁ v₂ a b d =
       length-append (heading formulaWord f) (item blank v₁),
       length-append (item formulaWord f) colon,
       length-append (item blank v₂) lineEnd,
-      decimal-single f a,
+      decimal-one f a,
       decimal-two v₁ b,
       decimal-two v₂ d,
     )

@@ -1,10 +1,10 @@
 -- The round that Text finds is T, and the listing of an accepted case is that of T. Rests on Text, casefile's Content, theory's Rounds and rounds' Round.
-use Prim.Native.Nat.{ℕ, suc, _+_, _-_, _≤_, _<_}
+use Prim.Native.Nat.{ℕ, suc, _+_, _-_}
 use mathlib.Core.Path.{_≡_, refl, sym, subst, ap, _∙_}
-use mathlib.Core.Bool.{true, false}
+use mathlib.Core.Bool.{true}
 use mathlib.Core.List.{List}
 use native.Mathlib.Omega.{arith}
-use Rattle.theory.specs.Simulation.{roundOf, SameTable}
+use Rattle.theory.specs.Simulation.{SameTable}
 use Rattle.theory.specs.Rounds.{round-next, T-at-most-size, T-exists}
 use Rattle.theory.specs.Height.{longest-chain}
 use Rattle.theory.specs.TestLaws.{FirstAt, first-unique, not-passed}

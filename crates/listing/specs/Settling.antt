@@ -1,9 +1,9 @@
 -- Rounds that are worked until one equals the one before: what a table holds on the way and at the end.
 -- Rests on theory's Simulation, Rounds and Sharp, and rounds' Round.
 use Prim.Native.Nat.{ℕ, suc, _+_, _*_, _-_, _≤_, _<_}
-use mathlib.Core.Path.{_≡_, sym, subst, ap, ap₂, _∙_}
+use mathlib.Core.Path.{_≡_, sym, subst, _∙_}
 use mathlib.Core.Bool.{Bool, true, false}
-use mathlib.Core.List.{List, _++_}
+use mathlib.Core.List.{List}
 use mathlib.Core.Logic.{⊎-elim}
 use native.Mathlib.Nat.{eq-or-lt-of-le}
 use native.Mathlib.Numerals.{add-one}
@@ -14,7 +14,7 @@ use Rattle.theory.specs.Model.{Model}
 use Rattle.theory.specs.Part.{modelOf, ModelShape}
 use Rattle.theory.specs.Simulation.{F, round, SameTable, FirstUnchanged}
 use Rattle.theory.specs.Fixpoint.{chain-size}
-use Rattle.theory.specs.Rounds.{F-mono, F-element, exists-T, T-unique, score-cong}
+use Rattle.theory.specs.Rounds.{F-mono, F-element, exists-T, T-unique}
 use Rattle.theory.specs.Sharp.{T-sharp}
 use Rattle.theory.specs.TestLaws.{false-true}
 use Rattle.operations.specs.declared.Lattice.{Lattice}
@@ -22,8 +22,8 @@ use Rattle.operations.specs.Table.{opsIn}
 use Rattle.model.specs.Places.{prod-le}
 use Rattle.rounds.specs.Table.{tableOf, Shaped}
 use Rattle.rounds.specs.Round.{F-reads, top-round, RoundSoFar, RoundDone, round-done}
-use Rattle.listing.specs.Text.{blank, lineEnd, rowWord, roundsWord, scoreWord, item, lastItem, heading, rowText, tableText}
-use Rattle.listing.specs.Writing.{each-cong}
+use Rattle.listing.specs.Text.{tableText}
+use Rattle.listing.specs.Entries.{table-same}
 
 -- two model parts with a lattice, a table s for their states that holds round 0, and room in another
 pub record Startable (t : List ℕ) (l : Lattice) (m₁ m₂ s other : List ℕ) : Type 0 where
@@ -110,10 +110,6 @@ tops-start t l m₁ m₂ a b k L =
 
 -- the text of a settled table is that of round T
 pub settled-text : {O : Ops ℕ} {M₁ M₂ : Model ℕ} {s : List ℕ} {r : ℕ} → SettledAt O M₁ M₂ s r → (T : ℕ) → FirstUnchanged O M₁ M₂ T → tableText O M₁ M₂ r (tableOf s (M₂ .states)) ≡ tableText O M₁ M₂ T (round O M₁ M₂ T)
-unfolding tableText rowText
 settled-text {O} {M₁} {M₂} {s} {r} h T f =
     let e : T ≡ r = T-unique O M₁ M₂ (F O M₁ M₂) T r f (h .isT) in
-    rw e
-    (ap₂ (λ (x : List ℕ) (y : ℕ). lastItem roundsWord r ++ x ++ lastItem scoreWord y)
-    (each-cong (M₁ .states) _ _ (λ q₁ l. ap (λ (x : List ℕ). heading rowWord q₁ ++ x ++ lineEnd) (each-cong (M₂ .states) _ _ (λ q₂ m. ap (item blank) (h .holds q₁ l q₂ m)))))
-    (score-cong O M₁ M₂ (h .holds)))
+    rw e (table-same O M₁ M₂ (tableOf s (M₂ .states)) (round O M₁ M₂ r) (h .holds) r)

@@ -1,14 +1,16 @@
 -- The text that the program report prints for a case, in document 01's words. Rests on refusal's Number, casefile's Reading and desk's Case.
-use Prim.Native.Nat.{ℕ, zero, suc, _+_, _/_, _%_}
+use Prim.Native.Nat.{ℕ, zero, suc, _+_, _/_, _%_, _≤_}
+use mathlib.Core.Path.{_≡_}
 use mathlib.Core.Bool.{cond}
 use mathlib.Core.List.{List, [], _∷_, _++_}
 use lib.Dec.{ltb}
-use lib.ListN.{length}
+use lib.ListN.{length, take}
 use Rattle.theory.specs.Lattice.{Ops}
 use Rattle.theory.specs.Model.{Model}
 use Rattle.theory.specs.Value.{wholeValue}
 use Rattle.theory.specs.Simulation.{score}
 use Rattle.theory.specs.Test.{firstBelow}
+use Rattle.theory.specs.Lists.{written}
 use Rattle.refusal.specs.declared.Refusal.{Refusal}
 use Rattle.refusal.specs.Number.{numberOf, partOf}
 use Rattle.casefile.specs.Reading.{Content, CaseReading, refused, content, caseReading}
@@ -121,3 +123,11 @@ textOf (content c) = acceptedText c (settledRound c)
 
 abbrev pub listingText : List ℕ → List ℕ
 listingText b = textOf (caseReading b)
+
+-- the buffer `before` became `after`: the text for the bytes b stands at its start, r is how many bytes it has, and every byte after it is as
+-- it was. The last two follow, and are stated so that a caller can take the first r bytes.
+pub record Lists (b before after : List ℕ) (r : ℕ) : Type 0 where
+  pub count : r ≡ length (listingText b)
+  pub bytes : after ≡ written 0 (listingText b) before
+  pub within : r ≤ length after
+  pub first : r ≡ length (take r after)

@@ -1,18 +1,19 @@
--- Bytes that are written one after the other at a place of a buffer. Rests on Text, theory's Lists and Written.
+-- Bytes that are written one after the other at a place of a buffer. Rests on Text, Decimal, theory's Lists and Written.
 use Prim.Native.Nat.{ℕ, zero, suc, _+_, _*_, _/_, _%_, _≤_, _<_}
 use mathlib.Core.Path.{_≡_, refl, sym, ap, ap₂, _∙_}
-use mathlib.Core.Bool.{Bool, true, false, cond}
+use mathlib.Core.Bool.{Bool, true, false}
 use mathlib.Core.List.{List, [], _∷_, _++_, append-assoc}
 use native.Mathlib.Nat.{not-suc-le-zero, suc-mul}
 use native.Mathlib.Numerals.{add-one}
 use native.Mathlib.Omega.{arith}
-use borrow.Author.Tests.{ltb-true, ltb-false, lt-ltb, le-ltb}
+use borrow.Author.Tests.{ltb-true, ltb-false}
 use lib.Dec.{ltb}
 use lib.ListN.{length, take, drop, set, length-append}
 use lib.Seq.{length-take-le, take-at, drop-append-add, drop-drop, paste, take-length}
 use Rattle.theory.specs.Lists.{written}
 use Rattle.theory.specs.Written.{written-none, written-byte, written-length}
-use Rattle.listing.specs.Text.{decimalWithin, decimal, refusedWord, blank, lineEnd, item, lastItem, each}
+use Rattle.listing.specs.Text.{decimal, each}
+use Rattle.listing.specs.Decimal.{decimal-few, decimal-more}
 
 -- the bytes s are written at the place `at` of d, which became e; the place after them is next
 pub record Wrote (d : List ℕ) (at : ℕ) (s e : List ℕ) (next : ℕ) : Type 0 where
@@ -42,6 +43,10 @@ module _ {d e : List ℕ} {at next : ℕ} {s : List ℕ} where
   -- where both fit, there is room for the first; and after it for the second
   pub fits-then : (u : List ℕ) → at + length (s ++ u) ≤ length d → Wrote d at s e next → next + length u ≤ length e
   fits-then u l w = omega (arith, length-append s u, w .next-is, wrote-length w (omega (arith, length-append s u)))
+
+-- what stands at the start of a buffer is no longer than the buffer
+pub wrote-within : {d e s : List ℕ} {n : ℕ} → Wrote d 0 s e n → n ≤ length e
+wrote-within {d} {e} {s} {n} w = omega (arith, w .next-is, ap length (w .out-is), length-append (take 0 d ++ s) (drop (0 + length s) d), length-append (take 0 d) s)
 
 pub fits-first : (d : List ℕ) (at : ℕ) (s u : List ℕ) → at + length (s ++ u) ≤ length d → at + length s ≤ length d
 fits-first d at s u l = omega (arith, length-append s u)
@@ -121,49 +126,7 @@ module _ (d : List ℕ) (at n : ℕ) (f : ℕ → List ℕ) (fits : at + length 
       go true q = wrote-length w (omega (arith, each-most n i f (ltb-true i n q)))
       go false q = let p : i ≡ n = omega (arith, ltb-false i n q) in wrote-length w (rw p fits)
 
--- ---- the decimal digits
-
-within-enough : (k j n : ℕ) → n < k → n < j → decimalWithin k n ≡ decimalWithin j n
-unfolding decimalWithin
-within-enough zero j n a b = absurd (not-suc-le-zero a)
-within-enough (suc k) zero n a b = absurd (not-suc-le-zero b)
-within-enough (suc k) (suc j) n a b = go (λ p q. within-enough k j (n / 10) p q) (ltb n 10) refl
-  where
-    go : (n / 10 < k → n / 10 < j → decimalWithin k (n / 10) ≡ decimalWithin j (n / 10)) → (t : Bool) → ltb n 10 ≡ t → cond t ((48 + n) ∷ []) (decimalWithin k (n / 10) ++ ((48 + n % 10) ∷ [])) ≡ cond t ((48 + n) ∷ []) (decimalWithin j (n / 10) ++ ((48 + n % 10) ∷ []))
-    go h true e = refl
-    go h false e = ap (λ (s : List ℕ). s ++ ((48 + n % 10) ∷ [])) (h (omega (arith, ltb-false n 10 e)) (omega (arith, ltb-false n 10 e)))
-
-pub decimal-few : (n : ℕ) → n < 10 → decimal n ≡ (48 + n) ∷ []
-unfolding decimal decimalWithin
-decimal-few n l = rw (lt-ltb n 10 l)
-
-pub decimal-more : (n : ℕ) → 10 ≤ n → decimal n ≡ decimal (n / 10) ++ ((48 + n % 10) ∷ [])
-unfolding decimal decimalWithin
-decimal-more n l = rw (le-ltb n 10 l) (ap (λ (s : List ℕ). s ++ ((48 + n % 10) ∷ [])) (within-enough n (suc (n / 10)) (n / 10) (omega arith) (omega arith)))
-
--- how many there are
-decimal-one : (n : ℕ) → n < 10 → length (decimal n) ≤ 1
-decimal-one n l = omega (arith, ap length (decimal-few n l))
-
--- one digit more for ten times as many numbers
-decimal-step : (b k : ℕ) → ((m : ℕ) → m < b → length (decimal m) ≤ k) → 1 ≤ k → (n : ℕ) → n < 10 * b → length (decimal n) ≤ k + 1
-decimal-step b k h p n l = go (ltb n 10) refl
-  where
-    go : (t : Bool) → ltb n 10 ≡ t → length (decimal n) ≤ k + 1
-    go true e = omega (arith, decimal-one n (ltb-true n 10 e))
-    go false e = omega (arith, h (n / 10) (omega arith), ap length (decimal-more n (ltb-false n 10 e)), length-append (decimal (n / 10)) ((48 + n % 10) ∷ []))
-
-pub decimal-two : (n : ℕ) → n < 100 → length (decimal n) ≤ 2
-decimal-two n l = decimal-step 10 1 decimal-one (omega arith) n l
-
-pub decimal-three : (n : ℕ) → n < 1000 → length (decimal n) ≤ 3
-decimal-three n l = decimal-step 100 2 decimal-two (omega arith) n l
-
-pub decimal-four : (n : ℕ) → n < 10000 → length (decimal n) ≤ 4
-decimal-four n l = decimal-step 1000 3 decimal-three (omega arith) n l
-
-pub decimal-single : (n : ℕ) → n < 10 → length (decimal n) ≤ 1
-decimal-single = decimal-one
+-- ---- a number
 
 -- a number's digits at a place: the one digit of a number below 10; else those of its tenth, then the last
 module _ (d : List ℕ) (at n : ℕ) (fits : at + length (decimal n) ≤ length d) where
@@ -178,8 +141,3 @@ module _ (d : List ℕ) (at n : ℕ) (fits : at + length (decimal n) ≤ length 
 
   pub more-written : (e : List ℕ) (next v : ℕ) → 10 ≤ n → Wrote d at (decimal (n / 10)) e next → v ≡ 48 + n % 10 → Wrote d at (decimal n) (set e next v) (next + 1)
   more-written e next v l w q = rw (decimal-more n l, ← q) (wrote-byte v (omega (arith, more-room l, w .next-is)) w)
-
--- there is room for the line of a refusal
-pub refused-room : (d : List ℕ) (n p : ℕ) → 16 ≤ length d → n < 256 → p < 256 → 0 + length (item refusedWord n ++ lastItem blank p) ≤ length d
-refused-room d n p l a b =
-    omega (arith, length-append (item refusedWord n) (lastItem blank p), length-append (item blank p) lineEnd, decimal-three n (omega arith), decimal-three p (omega arith))

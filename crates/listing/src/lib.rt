@@ -12,14 +12,13 @@ ghost use lib.ListN.{length, getD};
 ghost use Rattle.theory.specs.Part.{modelOf};
 ghost use Rattle.theory.specs.Value.{wholeValue};
 ghost use Rattle.theory.specs.Simulation.{F, round, FirstUnchanged};
-ghost use Rattle.theory.specs.Lists.{written};
 ghost use Rattle.operations.specs.Table.{opsIn};
 ghost use Rattle.casefile.specs.Reading.{Content, content, caseReading};
 ghost use Rattle.casefile.specs.Caller.{AcceptedCase};
 ghost use Rattle.desk.specs.Case.{ops, modelIn, formulaIn};
 ghost use Rattle.rounds.specs.Table.{tableOf, Shaped};
 ghost use Rattle.rounds.specs.Round.{RoundSoFar};
-ghost use Rattle.listing.specs.Text.{decimal, blank, item, lastItem, heading, refusedText, entriesText, rowText, rowsText, tableText, formulaText, formulaLine, formulasText, listingText};
+ghost use Rattle.listing.specs.Text.{decimal, blank, item, lastItem, heading, refusedText, entriesText, rowText, rowsText, tableText, formulaText, formulaLine, formulasText, listingText, Lists};
 ghost use Rattle.listing.specs.Settling.{Startable, SettledAt};
 ghost use Rattle.listing.specs.Accepting.{InCase, FormulaFits, FormulasFit, Settleable};
 ghost use Rattle.listing.specs.Writing.{Wrote};
@@ -296,7 +295,7 @@ fn put_accepted(case: &[u8], t: &[u8; 12352], z: Sizes, text: &mut [u8]) -> usiz
 
 // Writes what `report` prints for a case at the start of the text, and says how many bytes it has. The bytes after it are kept.
 pub fn listing(case: &[u8], text: &mut [u8; 16384]) -> usize
-    ensures { λ r. ⌜ (r ≡ length (listingText (now (case .entry)))) × (now (text .exit) ≡ written 0 (listingText (now (case .entry))) (now (text .entry))) ⌝ }
+    ensures { λ r. ⌜ Lists (now (case .entry)) (now (text .entry)) (now (text .exit)) r ⌝ }
 {
     let mut t = [0u8; 12352];
     match casefile::check(case, &mut t) {

@@ -7,6 +7,7 @@ use mathlib.Core.List.{List}
 use native.Mathlib.Nat.{le-refl, eq-or-lt-of-le}
 use native.Mathlib.Omega.{arith}
 use borrow.Author.Tests.{ltb-true}
+use lib.Dec.{eqb}
 use lib.ListN.{length, getD, replicate, getD-replicate, length-append}
 use Rattle.theory.specs.Lattice.{imp}
 use Rattle.theory.specs.Folds.{bigMeet-cong}
@@ -19,7 +20,7 @@ use Rattle.operations.specs.Table.{opsIn, meetIn, joinIn}
 use Rattle.operations.specs.declared.Lattice.{Lattice}
 use Rattle.formula.specs.Bytes.{bytesOf}
 use Rattle.valuer.specs.Values.{Reads, fromInitial, Values, WholeValue}
-use Rattle.valuer.specs.Code.{literal, combine, nextOf, startOf}
+use Rattle.valuer.specs.Code.{literal, bound, nextOf, startOf}
 use Rattle.valuer.specs.Node.{Spelled, Here, SlotsHold, slotOf, Answer, Node, Iterated}
 use Rattle.valuer.proofs.Loops.{filled-as}
 use Rattle.valuer.proofs.Places.{build, Parts, Numbered, inside, code-small, by-code, of-prop, of-negated, of-var, of-or, of-and, of-AX, of-EX, of-mu, of-nu, read-spelled}
@@ -135,8 +136,8 @@ module _ {t : List ℕ} {l : Lattice} {m f : List ℕ} {at K : ℕ} {near mid fa
   })
 
   pub pair-arm : {x y v : List ℕ} {i j n : ℕ} → (getD f at 0 ≡ 5) ⊎ (getD f at 0 ≡ 6) → Node t l m f (at + 1) K near mid far x i → Node t l m f i K near mid far y j
-      → getD m 0 0 ≤ n → Filled (λ q. combine t (getD f at 0) (getD x q 0) (getD y q 0)) n v → Node t l m f at K near mid far v j
-  unfolding bytesOf eval combine
+      → getD m 0 0 ≤ n → Filled (λ q. bound t (eqb (getD f at 0) 5) (getD x q 0) (getD y q 0)) n v → Node t l m f at K near mid far v j
+  unfolding bytesOf eval bound
   pair-arm {x} {y} {i = i} {j} c nx ny b u =
       ⊎-elim
       (λ q. by-one 5 q (λ d e p g h s w.
@@ -178,7 +179,7 @@ module _ {t : List ℕ} {l : Lattice} {m f : List ℕ} {at K : ℕ} {near mid fa
         values = filled-as u (le-refl _) (λ i k. rw q (someNext-cong (opsIn t l) (modelOf m) _ _ (a .values .at) i));
       })) c
 
-  pub fixpoint-arm : {x : List ℕ} {i s₀ : ℕ} → (getD f at 0 ≡ 9) ⊎ (getD f at 0 ≡ 10) → s₀ ≡ startOf l (getD f at 0) → Iterated t l m f (at + 1) K near mid s₀ x i → Node t l m f at K near mid far x i
+  pub fixpoint-arm : {x : List ℕ} {i s₀ : ℕ} → (getD f at 0 ≡ 9) ⊎ (getD f at 0 ≡ 10) → s₀ ≡ startOf l (eqb (getD f at 0) 9) → Iterated t l m f (at + 1) K near mid s₀ x i → Node t l m f at K near mid far x i
   unfolding bytesOf eval startOf
   fixpoint-arm c z n =
       ⊎-elim

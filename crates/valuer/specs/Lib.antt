@@ -3,6 +3,7 @@
 pub mod Values
 -- ---- what the functions inside answer
 pub mod Code
+pub mod Words
 pub mod Node
 -- ---- theorems
 pub mod Meaning

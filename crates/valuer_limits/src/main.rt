@@ -1,5 +1,6 @@
 // The valuer at the greatest sizes: 64 states, a chain of 64 elements, formulas of 255 bytes and 3 nested binders. Each line has the
-// values at all states, then that on the whole model.
+// values at all states, then that on the whole model. The last line is over tables that are no lattice: no codes are found for them, and the
+// valuer goes by the tables.
 use formula::FormulaCheck;
 use operations::Element;
 use operations::Lattice;
@@ -170,4 +171,11 @@ fn main() {
     let m = model_part();
     show_long(&t, &m);
     show_fixpoints(&t, &m);
+    t[4096 + 4 * 64 + 4] = 3;
+    show(
+        b"nu z. p and AX z, the meet of 4 and 4 being 3 ",
+        &t,
+        &m,
+        b"\x0a\x06\x02\x00\x07\x04\x00",
+    );
 }

@@ -1,10 +1,9 @@
--- `lattice::check` meets its contract: each test in turn. Assumes nothing.
+-- `lattice::check` meets its contract: by codes, or by search. Assumes nothing.
 use mathlib.Core.Path.{sym, _∙_}
-use native.Mathlib.Nat.{le-refl}
 use borrow.Author.Tests.{not-true, not-false}
+use Rattle.lattice.specs.Reading.{latticeReading}
+use Rattle.lattice.specs.Check.{answered-here, answered-next}
 use borrow.Author.Needs.{needs}
-use Rattle.lattice.specs.Check.{tables-hold, order-same, answered-here, answered-next}
-use Rattle.lattice.specs.Reading.{latticeReading, partReading}
 use Rattle.lattice.proofs.check.Statement.{statement}
 use Rattle.lattice.proofs.check.Tie as tie
 
@@ -12,55 +11,27 @@ has-form-requires : tie.Need-has-form-requires
 has-form-requires c κs = search needs
 
 returns : tie.Need-returns
-unfolding latticeReading partReading
+unfolding latticeReading
 returns c = answered-here _ _ _ _ (sym (c .before .has-form .ensures) ∙ not-true _ (c .if1 .taken))
 
 fill-order-requires : tie.Need-fill-order-requires
-fill-order-requires c κs = (sym (c .before .before .has-form .ensures) ∙ not-false _ (c .before .if1 .left))
+fill-order-requires c κs = sym (c .before .before .has-form .ensures) ∙ not-false _ (c .before .if1 .left)
 
-size-requires : tie.Need-size-requires
-size-requires c κs = (sym (c .before .before .before .before .has-form .ensures) ∙ not-false _ (c .before .before .before .if1 .left))
+by-codes-requires : tie.Need-by-codes-requires
+by-codes-requires c κs = (sym (c .before .before .before .before .has-form .ensures) ∙ not-false _ (c .before .before .before .if1 .left), c .before .fill-order .ensures)
 
-passes-requires : tie.Need-passes-requires
-passes-requires c κs = search needs
+check-complements-requires : tie.Need-check-complements-requires
+check-complements-requires c κs = (sym (c .before .before .before .before .before .before .before .has-form .ensures) ∙ not-false _ (c .before .before .before .before .before .before .if1 .left), c .before .before .by-codes .ensures (c .before .if2 .taken))
 
 returns-2 : tie.Need-returns-2
-unfolding latticeReading partReading
-returns-2 c =
-    let f = sym (c .before .before .before .before .before .before .before .has-form .ensures) ∙ not-false _ (c .before .before .before .before .before .before .if1 .left) in
-    let h = tables-hold (c .before .before .before .before .before .before .before .before .before .args .part .now) f (c .before .before .size .ensures) (c .before .before .before .before .fill-order .ensures) in
-    answered-next _ _ _ _ _ f (answered-here _ _ _ _ (sym (order-same h (le-refl _)) ∙ sym (c .before .passes .ensures) ∙ not-true _ (c .if2 .taken)))
+unfolding latticeReading
+returns-2 c = answered-next _ _ _ _ _ (sym (c .before .before .before .before .before .before .before .before .has-form .ensures) ∙ not-false _ (c .before .before .before .before .before .before .before .if1 .left)) (c .check-complements .ensures)
 
-fill-bounds-requires : tie.Need-fill-bounds-requires
-fill-bounds-requires c κs =
-    let f = sym (c .before .before .before .before .before .before .before .before .has-form .ensures) ∙ not-false _ (c .before .before .before .before .before .before .before .if1 .left) in
-    let h = tables-hold (c .before .before .before .before .before .before .before .before .before .before .args .part .now) f (c .before .before .before .size .ensures) (c .before .before .before .before .before .fill-order .ensures) in
-    (f, sym (order-same h (le-refl _)) ∙ sym (c .before .before .passes .ensures) ∙ not-false _ (c .before .if2 .left), c .before .before .before .before .before .fill-order .ensures)
+check-by-search-requires : tie.Need-check-by-search-requires
+check-by-search-requires c κs = search needs
 
 returns-3 : tie.Need-returns-3
-unfolding latticeReading partReading
-returns-3 c =
-    let f = sym (c .before .before .before .before .before .before .before .before .before .before .has-form .ensures) ∙ not-false _ (c .before .before .before .before .before .before .before .before .before .if1 .left) in
-    let h = tables-hold (c .before .before .before .before .before .before .before .before .before .before .before .before .args .part .now) f (c .before .before .before .before .before .size .ensures) (c .before .before .before .before .before .before .before .fill-order .ensures) in
-    answered-next _ _ _ _ _ f
-    (answered-next _ _ _ _ _ (sym (order-same h (le-refl _)) ∙ sym (c .before .before .before .before .passes .ensures) ∙ not-false _ (c .before .before .before .if2 .left))
-    (answered-here _ _ _ _ (sym (c .before .fill-bounds .ensures .says) ∙ not-true _ (c .if3 .taken))))
-
-check-rules-requires : tie.Need-check-rules-requires
-check-rules-requires c κs =
-    let f = sym (c .before .before .before .before .before .before .before .before .before .before .before .has-form .ensures) ∙ not-false _ (c .before .before .before .before .before .before .before .before .before .before .if1 .left) in
-    let h = tables-hold (c .before .before .before .before .before .before .before .before .before .before .before .before .before .args .part .now) f (c .before .before .before .before .before .before .size .ensures) (c .before .before .before .before .before .before .before .before .fill-order .ensures) in
-    let b = not-false _ (c .before .if3 .left) in
-    (f, sym (order-same h (le-refl _)) ∙ sym (c .before .before .before .before .before .passes .ensures) ∙ not-false _ (c .before .before .before .before .if2 .left), sym (c .before .before .fill-bounds .ensures .says) ∙ b, c .before .before .fill-bounds .ensures .filled b)
-
-returns-4 : tie.Need-returns-4
-unfolding latticeReading partReading
-returns-4 c =
-    let f = sym (c .before .before .before .before .before .before .before .before .before .before .before .before .has-form .ensures) ∙ not-false _ (c .before .before .before .before .before .before .before .before .before .before .before .if1 .left) in
-    let h = tables-hold (c .before .before .before .before .before .before .before .before .before .before .before .before .before .before .args .part .now) f (c .before .before .before .before .before .before .before .size .ensures) (c .before .before .before .before .before .before .before .before .before .fill-order .ensures) in
-    answered-next _ _ _ _ _ f
-    (answered-next _ _ _ _ _ (sym (order-same h (le-refl _)) ∙ sym (c .before .before .before .before .before .before .passes .ensures) ∙ not-false _ (c .before .before .before .before .before .if2 .left))
-    (answered-next _ _ _ _ _ (sym (c .before .before .before .fill-bounds .ensures .says) ∙ not-false _ (c .before .before .if3 .left)) (c .check-rules .ensures)))
+returns-3 c = search needs
 
 pub check-spec : {M : Type 1} → statement M
 check-spec =
@@ -69,10 +40,8 @@ check-spec =
     has-form-requires
     returns
     fill-order-requires
-    size-requires
-    passes-requires
+    by-codes-requires
+    check-complements-requires
     returns-2
-    fill-bounds-requires
-    returns-3
-    check-rules-requires
-    returns-4)
+    check-by-search-requires
+    returns-3)

@@ -13,11 +13,17 @@ is-order-requires c κs = search needs
 enum-told-2 : tie.Need-enum-told-2
 enum-told-2 c = search needs
 
-is-distributive-requires : tie.Need-is-distributive-requires
-is-distributive-requires c κs = search needs
+is-met-requires : tie.Need-is-met-requires
+is-met-requires c κs = search needs
 
 enum-told-3 : tie.Need-enum-told-3
 enum-told-3 c = search needs
+
+is-distributive-requires : tie.Need-is-distributive-requires
+is-distributive-requires c κs = search needs
+
+enum-told-4 : tie.Need-enum-told-4
+enum-told-4 c = search needs
 
 is-complement-requires : tie.Need-is-complement-requires
 is-complement-requires c κs = search needs
@@ -28,11 +34,15 @@ returns c = rw (c .before .enum-told .given .1) (c .is-order .ensures)
 
 returns-2 : tie.Need-returns-2
 unfolding pairTest
-returns-2 c = rw (c .before .enum-told2 .given .1) (c .is-distributive .ensures)
+returns-2 c = rw (c .before .enum-told2 .given .1) (c .is-met .ensures)
 
 returns-3 : tie.Need-returns-3
 unfolding pairTest
-returns-3 c = rw (c .before .enum-told3 .given .1) (c .is-complement .ensures)
+returns-3 c = rw (c .before .enum-told3 .given .1) (c .is-distributive .ensures)
+
+returns-4 : tie.Need-returns-4
+unfolding pairTest
+returns-4 c = rw (c .before .enum-told4 .given .1) (c .is-complement .ensures)
 
 pub pair-passes-spec : {M : Type 1} → statement M
 pair-passes-spec =
@@ -41,9 +51,12 @@ pair-passes-spec =
     enum-told
     is-order-requires
     enum-told-2
-    is-distributive-requires
+    is-met-requires
     enum-told-3
+    is-distributive-requires
+    enum-told-4
     is-complement-requires
     returns
     returns-2
-    returns-3)
+    returns-3
+    returns-4)

@@ -1,8 +1,6 @@
 -- `listing::put_number` meets its contract: one digit, or those of the tenth and then the last. The measure is the number.
 use Prim.Native.Nat.{ℕ, _<_}
-use mathlib.Core.Path.{_∙_}
 use native.Mathlib.Omega.{arith}
-use lib.ListN.{length-set}
 use borrow.Author.Needs.{needs}
 use Rattle.listing.specs.Writing.{few-room, few-written, more-room, more-written, wrote-length}
 use borrow.Fn.Kinds.{In}
@@ -25,7 +23,6 @@ abbrev put-number-below : ℕ → In 1 put-number-kinds.ps
 put-number-below t =
     and 1 put-number-kinds.ps (falls 1 put-number-kinds.ps _<_ μ-put-number t) put-number.Pre
 
--- src/lib.rt:34:20
 put-number-digit-requires : (t : ℕ) → put-number-lts.Need-digit-requires (
   digit-reads.Asked,
   digit-reads.Learnt,
@@ -34,7 +31,6 @@ put-number-digit-requires : (t : ℕ) → put-number-lts.Need-digit-requires (
 ) (put-number-at t) put-number.Post
 put-number-digit-requires t c κs = search needs
 
--- src/lib.rt:34:9
 put-number-slice-write-text : (t : ℕ) → put-number-lts.Need-slice-write-text (
   digit-reads.Asked,
   digit-reads.Learnt,
@@ -45,7 +41,6 @@ put-number-slice-write-text t c =
     let s = c .before .before .before in
     few-room (s .args .text .now) (s .args .at) (s .args .n) (s .pre .1) (c .before .if1 .taken)
 
--- src/lib.rt:35:16
 put-number-add-result : (t : ℕ) → put-number-lts.Need-add-result (
   digit-reads.Asked,
   digit-reads.Learnt,
@@ -56,7 +51,6 @@ put-number-add-result t c =
     let s = c .before .before .before in
     omega (arith, few-room (s .args .text .now) (s .args .at) (s .args .n) (s .pre .1) (c .before .if1 .taken))
 
--- src/lib.rt:35:9
 put-number-same-length : (t : ℕ) → put-number-lts.Need-same-length (
   digit-reads.Asked,
   digit-reads.Learnt,
@@ -65,7 +59,6 @@ put-number-same-length : (t : ℕ) → put-number-lts.Need-same-length (
 ) (put-number-at t) put-number.Post
 put-number-same-length t c = search needs
 
--- src/lib.rt:35:9
 put-number-returns : (t : ℕ) → put-number-lts.Need-returns (
   digit-reads.Asked,
   digit-reads.Learnt,
@@ -76,7 +69,6 @@ put-number-returns t c =
     let s = c .before .before .before in
     few-written (s .args .text .now) (s .args .at) (s .args .n) (s .pre .1) _ (c .before .if1 .taken) (c .digit .ensures)
 
--- src/lib.rt:37:9
 put-number-put-number-requires : (t : ℕ) → put-number-lts.Need-put-number-requires (
   digit-reads.Asked,
   digit-reads.Learnt,
@@ -87,7 +79,6 @@ put-number-put-number-requires t c κs =
     let s = c .before .before .before in
     (omega arith, omega (arith, more-room (s .args .text .now) (s .args .at) (s .args .n) (s .pre .1) (c .before .if1 .left)))
 
--- src/lib.rt:38:18
 put-number-digit-requires-2 : (t : ℕ) → put-number-lts.Need-digit-requires-2 (
   digit-reads.Asked,
   digit-reads.Learnt,
@@ -96,7 +87,6 @@ put-number-digit-requires-2 : (t : ℕ) → put-number-lts.Need-digit-requires-2
 ) (put-number-at t) put-number.Post
 put-number-digit-requires-2 t c κs = search needs
 
--- src/lib.rt:38:5
 put-number-slice-write-text-2 : (t : ℕ) → put-number-lts.Need-slice-write-text-2 (
   digit-reads.Asked,
   digit-reads.Learnt,
@@ -109,7 +99,6 @@ put-number-slice-write-text-2 t c =
     let l = more-room (s .args .text .now) (s .args .at) (s .args .n) (s .pre .1) (c .before .before .before .before .before .if1 .left) in
     omega (arith, l, w .next-is, wrote-length w (omega (arith, l)))
 
--- src/lib.rt:39:5
 put-number-add-result-2 : (t : ℕ) → put-number-lts.Need-add-result-2 (
   digit-reads.Asked,
   digit-reads.Learnt,
@@ -120,7 +109,6 @@ put-number-add-result-2 t c =
     let s = c .before .before .before .before .before .before .before in
     omega (arith, c .before .before .before .put-number .ensures .next-is, more-room (s .args .text .now) (s .args .at) (s .args .n) (s .pre .1) (c .before .before .before .before .before .if1 .left))
 
--- src/lib.rt:29:1
 put-number-same-length-2 : (t : ℕ) → put-number-lts.Need-same-length-2 (
   digit-reads.Asked,
   digit-reads.Learnt,
@@ -129,7 +117,6 @@ put-number-same-length-2 : (t : ℕ) → put-number-lts.Need-same-length-2 (
 ) (put-number-at t) put-number.Post
 put-number-same-length-2 t c = search needs
 
--- src/lib.rt:29:1
 put-number-returns-2 : (t : ℕ) → put-number-lts.Need-returns-2 (
   digit-reads.Asked,
   digit-reads.Learnt,

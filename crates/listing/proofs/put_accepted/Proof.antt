@@ -3,37 +3,26 @@ use Rattle.listing.specs.Accepting.{settleable, settled-part, formulas-f
 use borrow.Author.Needs.{needs}
 use Rattle.listing.proofs.put_accepted.Statement.{statement}
 use Rattle.listing.proofs.put_accepted.Tie as tie
-use Rattle.listing.proofs.put_accepted.Reads as reads
-use Rattle.listing.proofs.put_accepted.Lts as lts
-use Rattle.casefile.proofs.part.Reads as part-reads
-use Rattle.listing.proofs.put_formulas.Reads as put-formulas-reads
-use Rattle.listing.proofs.put_settled.Reads as put-settled-reads
 
--- src/lib.rt:291:9
 part-requires : tie.Need-part-requires
 part-requires c κs = search needs
 
--- src/lib.rt:292:9
 part-requires-2 : tie.Need-part-requires-2
 part-requires-2 c κs = search needs
 
--- src/lib.rt:293:9
 put-settled-requires : tie.Need-put-settled-requires
 put-settled-requires c κs =
     let p = c .before .before .before .before .before .before .pre in
     settleable (p .0) _ _ _ (p .1) (c .before .before .part .ensures) (c .before .part2 .ensures)
 
--- src/lib.rt:294:5
 put-formulas-requires : tie.Need-put-formulas-requires
 put-formulas-requires c κs =
     let p = c .before .before .before .before .before .before .before .before .before .before .pre in
     formulas-fit (p .0) _ _ _ (p .1) (settled-part (p .0) _ _ _ _ _ (c .before .before .before .before .before .before .part .ensures) (c .before .before .before .before .before .part2 .ensures) (c .before .before .before .put-settled .ensures))
 
--- src/lib.rt:286:1
 same-length : tie.Need-same-length
 same-length c = search needs
 
--- src/lib.rt:286:1
 returns : tie.Need-returns
 returns c =
     let p = c .before .before .before .before .before .before .before .before .before .before .before .before .before .pre in

@@ -7,9 +7,6 @@ use Rattle.listing.specs.Text.{item, blank, each}
 use Rattle.listing.specs.Writing.{Wrote, each-starts, each-room, each-turn, each-done, each-kept}
 use Rattle.listing.proofs.put_entries.Statement.{statement}
 use Rattle.listing.proofs.put_entries.Tie as tie
-use Rattle.listing.proofs.put_entries.Reads as reads
-use Rattle.listing.proofs.put_entries.Lts as lts
-use Rattle.listing.proofs.put_entry.Reads as put-entry-reads
 
 -- entry q, with the blank before it
 abbrev entry : List ℕ → ℕ → ℕ → List ℕ
@@ -21,36 +18,29 @@ Inv-loop table from n text₀ at next₀ q₀ text next q = (q ≤ n) × Wrote t
 abbrev μ-loop : tie.MeasureT-loop
 μ-loop table from n text₀ at next₀ q₀ text next q = n - q
 
--- src/lib.rt:108:5
 loop-holds : tie.Need-loop-holds Inv-loop μ-loop
 loop-holds c =
     let s = c .before .before in
     (omega arith, each-starts (s .args .text .now) (s .args .at) (s .args .n) (entry (s .args .table .now) (s .args .from)) (s .pre .1))
 
--- src/lib.rt:109:32
 add-put-entry : tie.Need-add-put-entry Inv-loop μ-loop
 add-put-entry c = omega arith
 
--- src/lib.rt:109:26
 shared-slice-read-put-entry : tie.Need-shared-slice-read-put-entry Inv-loop μ-loop
 shared-slice-read-put-entry c = omega arith
 
--- src/lib.rt:109:9
 put-entry-requires : tie.Need-put-entry-requires Inv-loop μ-loop
 put-entry-requires c κs =
     let s = c .before .before .before .before .before .before in
     let l = c .before .before .before .loop in
     each-room (s .args .text .now) (s .args .at) (s .args .n) (entry (s .args .table .now) (s .args .from)) (s .pre .1) (l .q) (l .text) (l .next) (omega arith) (l .inv .1)
 
--- src/lib.rt:108:9
 add-q : tie.Need-add-q Inv-loop μ-loop
 add-q c = omega arith
 
--- src/lib.rt:108:5
 loop-less : tie.Need-loop-less Inv-loop μ-loop
 loop-less c = omega arith
 
--- src/lib.rt:108:5
 loop-again : tie.Need-loop-again Inv-loop μ-loop
 loop-again c =
     let s = c .before .before .before .before .before .before .before .before .before in
@@ -59,14 +49,12 @@ loop-again c =
       each-turn (s .args .text .now) (s .args .at) (s .args .n) (entry (s .args .table .now) (s .args .from)) (s .pre .1) (l .q) (l .text) (l .next) (omega arith) (l .inv .1) _ _ (c .before .before .put-entry .ensures),
     )
 
--- src/lib.rt:103:1
 same-length : tie.Need-same-length Inv-loop μ-loop
 same-length c =
     let s = c .before .before .before .before in
     let l = c .before .loop in
     each-kept (s .args .text .now) (s .args .at) (s .args .n) (entry (s .args .table .now) (s .args .from)) (s .pre .1) (l .q) (l .text) (l .next) (omega arith) (l .inv .1)
 
--- src/lib.rt:103:1
 returns : tie.Need-returns Inv-loop μ-loop
 returns c =
     let s = c .before .before .before .before in

@@ -2,28 +2,19 @@
 use borrow.Author.Needs.{needs}
 use Rattle.listing.proofs.put_entry.Statement.{statement}
 use Rattle.listing.proofs.put_entry.Tie as tie
-use Rattle.listing.proofs.put_entry.Reads as reads
-use Rattle.listing.proofs.put_entry.Lts as lts
-use Rattle.listing.proofs.put_item.Reads as put-item-reads
-use Rattle.operations.proofs.index.Reads as index-reads
 
--- src/lib.rt:99:14
 slice-aggregate-put-item : tie.Need-slice-aggregate-put-item
 slice-aggregate-put-item c = search needs
 
--- src/lib.rt:99:20
 index-requires : tie.Need-index-requires
 index-requires c κs = search needs
 
--- src/lib.rt:99:5
 put-item-requires : tie.Need-put-item-requires
 put-item-requires c κs = rw (c .before .index .ensures .0) (c .before .before .before .before .pre)
 
--- src/lib.rt:95:1
 same-length : tie.Need-same-length
 same-length c = search needs
 
--- src/lib.rt:95:1
 returns : tie.Need-returns
 returns c = rw (c .before .before .before .before .index .ensures .0) at (c .before .before .put-item .ensures)
 

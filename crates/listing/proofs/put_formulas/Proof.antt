@@ -8,9 +8,6 @@ use Rattle.listing.specs.Writing.{Wrote, each-starts, each-room, each-tu
 use Rattle.listing.specs.Accepting.{formulas-are, formulas-room}
 use Rattle.listing.proofs.put_formulas.Statement.{statement}
 use Rattle.listing.proofs.put_formulas.Tie as tie
-use Rattle.listing.proofs.put_formulas.Reads as reads
-use Rattle.listing.proofs.put_formulas.Lts as lts
-use Rattle.listing.proofs.put_formula.Reads as put-formula-reads
 
 abbrev Inv-loop : tie.InvT-loop
 Inv-loop case t z text₀ at count next₀ f₀ text next f = (f ≤ z .formulas) × (count ≡ z .formulas) × ((c : Content) → caseReading case ≡ content c → Wrote text₀ at (each f (formulaLine c)) text next)
@@ -18,13 +15,11 @@ Inv-loop case t z text₀ at count next₀ f₀ text next f = (f ≤ z .formulas
 abbrev μ-loop : tie.MeasureT-loop
 μ-loop case t z text₀ at count next₀ f₀ text next f = z .formulas - f
 
--- src/lib.rt:277:5
 loop-holds : tie.Need-loop-holds Inv-loop μ-loop
 loop-holds c =
     let s = c .before .before in
     (omega arith, refl, λ d e. each-starts (s .args .text .now) (s .args .at) (s .args .z .formulas) (formulaLine d) (formulas-room (s .pre) d e))
 
--- src/lib.rt:278:9
 put-formula-requires : tie.Need-put-formula-requires Inv-loop μ-loop
 put-formula-requires c κs =
     let s = c .before .before .before .before .before in
@@ -35,29 +30,24 @@ put-formula-requires c κs =
       room = each-room (s .args .text .now) (s .args .at) (s .args .z .formulas) (formulaLine (s .pre .case .holds)) (formulas-room (s .pre) (s .pre .case .holds) (s .pre .case .reads)) (l .f) (l .text) (l .next) (omega arith) (l .inv .2 (s .pre .case .holds) (s .pre .case .reads));
     }
 
--- src/lib.rt:277:9
 add-f : tie.Need-add-f Inv-loop μ-loop
 add-f c = omega arith
 
--- src/lib.rt:277:5
 loop-less : tie.Need-loop-less Inv-loop μ-loop
 loop-less c = omega arith
 
--- src/lib.rt:277:5
 loop-again : tie.Need-loop-again Inv-loop μ-loop
 loop-again c =
     let s = c .before .before .before .before .before .before .before .before in
     let l = c .before .before .before .before .before .loop in
     (omega arith, l .inv .1, λ d e. each-turn (s .args .text .now) (s .args .at) (s .args .z .formulas) (formulaLine d) (formulas-room (s .pre) d e) (l .f) (l .text) (l .next) (omega arith) (l .inv .2 d e) _ _ (c .before .before .put-formula .ensures d e))
 
--- src/lib.rt:271:1
 same-length : tie.Need-same-length Inv-loop μ-loop
 same-length c =
     let s = c .before .before .before .before in
     let l = c .before .loop in
     each-kept (s .args .text .now) (s .args .at) (s .args .z .formulas) (formulaLine (s .pre .case .holds)) (formulas-room (s .pre) (s .pre .case .holds) (s .pre .case .reads)) (l .f) (l .text) (l .next) (omega arith) (l .inv .2 (s .pre .case .holds) (s .pre .case .reads))
 
--- src/lib.rt:271:1
 returns : tie.Need-returns Inv-loop μ-loop
 returns c d e =
     let s = c .before .before .before .before in

@@ -5,28 +5,19 @@ use Rattle.listing.specs.Writing.{wrote-then, fits-then, fits-first}
 use borrow.Author.Needs.{needs}
 use Rattle.listing.proofs.put_heading.Statement.{statement}
 use Rattle.listing.proofs.put_heading.Tie as tie
-use Rattle.listing.proofs.put_heading.Reads as reads
-use Rattle.listing.proofs.put_heading.Lts as lts
-use Rattle.listing.proofs.put.Reads as put-reads
-use Rattle.listing.proofs.put_item.Reads as put-item-reads
 
--- src/lib.rt:65:9
 put-item-requires : tie.Need-put-item-requires
 put-item-requires c κs = let s = c .before .before .before in fits-first (s .args .text .now) (s .args .at) (item (s .args .word .now) (s .args .n)) colon (s .pre)
 
--- src/lib.rt:66:9
 slice-aggregate-put : tie.Need-slice-aggregate-put
 slice-aggregate-put c = search needs
 
--- src/lib.rt:66:5
 put-requires : tie.Need-put-requires
 put-requires c κs = let s = c .before .before .before .before .before .before .before .before in fits-then colon (s .pre) (c .before .before .before .before .put-item .ensures)
 
--- src/lib.rt:61:1
 same-length : tie.Need-same-length
 same-length c = search needs
 
--- src/lib.rt:61:1
 returns : tie.Need-returns
 returns c =
     let s = c .before .before .before .before .before .before .before .before .before .before .before in

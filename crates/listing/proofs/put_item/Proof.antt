@@ -1,29 +1,20 @@
 -- `listing::put_item` meets its contract: the word, then the number.
 use native.Mathlib.Omega.{arith}
-use Rattle.theory.specs.Lists.{written}
 use Rattle.listing.specs.Text.{decimal}
 use Rattle.listing.specs.Writing.{wrote-then, fits-then, fits-first}
 use borrow.Author.Needs.{needs}
 use Rattle.listing.proofs.put_item.Statement.{statement}
 use Rattle.listing.proofs.put_item.Tie as tie
-use Rattle.listing.proofs.put_item.Reads as reads
-use Rattle.listing.proofs.put_item.Lts as lts
-use Rattle.listing.proofs.put.Reads as put-reads
-use Rattle.listing.proofs.put_number.Reads as put-number-reads
 
--- src/lib.rt:47:9
 put-requires : tie.Need-put-requires
 put-requires c κs = let s = c .before .before .before in fits-first (s .args .text .now) (s .args .at) (s .args .word .now) (decimal (s .args .n)) (s .pre)
 
--- src/lib.rt:48:5
 put-number-requires : tie.Need-put-number-requires
 put-number-requires c κs = let s = c .before .before .before .before .before .before .before in fits-then (decimal (s .args .n)) (s .pre) (c .before .before .before .put .ensures)
 
--- src/lib.rt:43:1
 same-length : tie.Need-same-length
 same-length c = search needs
 
--- src/lib.rt:43:1
 returns : tie.Need-returns
 returns c =
     let s = c .before .before .before .before .before .before .before .before .before .before in

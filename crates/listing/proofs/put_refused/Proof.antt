@@ -1,67 +1,56 @@
 -- `listing::put_refused` meets its contract: the number, then the part.
-use Prim.Native.Nat.{ℕ, _+_, _≤_}
-use mathlib.Core.List.{_++_}
-use mathlib.Core.Path.{_∙_}
+use Prim.Native.Nat.{_≤_}
 use native.Mathlib.Omega.{arith}
-use lib.ListN.{length}
-use Rattle.listing.specs.Text.{refusedWord, blank, item, lastItem, refusedText}
-use Rattle.listing.specs.Writing.{wrote-then, fits-then, fits-first, refused-room}
+use lib.ListN.{length, length-append}
+use Rattle.listing.specs.Text.{decimal, lineEnd, refusedText}
+use Rattle.listing.specs.Decimal.{decimal-three}
+use Rattle.listing.specs.Writing.{wrote-then, wrote-length}
 use borrow.Author.Needs.{needs}
 use Rattle.listing.proofs.put_refused.Statement.{statement}
 use Rattle.listing.proofs.put_refused.Tie as tie
-use Rattle.listing.proofs.put_refused.Reads as reads
-use Rattle.listing.proofs.put_refused.Lts as lts
-use Rattle.listing.proofs.put_item.Reads as put-item-reads
-use Rattle.listing.proofs.put_last.Reads as put-last-reads
-use Rattle.operations.proofs.index.Reads as index-reads
-use Rattle.refusal.proofs.number.Reads as number-reads
-use Rattle.refusal.proofs.part.Reads as part-reads
 
--- both fit, as they stand where the two numbers are known
-room : (c : tie.After-index2) → 0 + length (item refusedWord (c .before .before .index .result) ++ lastItem blank (c .index2 .result)) ≤ length (c .before .before .before .before .before .args .text .now)
-room c = refused-room (c .before .before .before .before .before .args .text .now) (c .before .before .index .result) (c .index2 .result) (omega arith) (omega arith) (omega arith)
+-- the number and the part have at most three digits
+few : (c : tie.After-index2) → (length (decimal (c .before .before .index .result)) ≤ 3) × (length (decimal (c .index2 .result)) ≤ 3)
+few c = (decimal-three (c .before .before .index .result) (omega arith), decimal-three (c .index2 .result) (omega arith))
 
--- src/lib.rt:86:31
 number-requires : tie.Need-number-requires
 number-requires c κs = search needs
 
--- src/lib.rt:86:9
 index-requires : tie.Need-index-requires
 index-requires c κs = search needs
 
--- src/lib.rt:87:31
 part-requires : tie.Need-part-requires
 part-requires c κs = search needs
 
--- src/lib.rt:87:9
 index-requires-2 : tie.Need-index-requires-2
 index-requires-2 c κs = search needs
 
--- src/lib.rt:88:23
 slice-aggregate-put-item : tie.Need-slice-aggregate-put-item
 slice-aggregate-put-item c = search needs
 
--- src/lib.rt:88:9
 put-item-requires : tie.Need-put-item-requires
-put-item-requires c κs =
-    let i = c .before .before in
-    fits-first (i .before .before .before .before .before .args .text .now) 0 (item refusedWord (i .before .before .index .result)) (lastItem blank (i .index2 .result)) (room i)
+put-item-requires c κs = omega (arith, few (c .before .before) .0, few (c .before .before) .1)
 
--- src/lib.rt:89:14
 slice-aggregate-put-last : tie.Need-slice-aggregate-put-last
 slice-aggregate-put-last c = search needs
 
--- src/lib.rt:89:5
 put-last-requires : tie.Need-put-last-requires
 put-last-requires c κs =
     let i = c .before .before .before .before .before .before .before in
-    fits-then (lastItem blank (i .index2 .result)) (room i) (c .before .before .before .before .put-item .ensures)
+    let w = c .before .before .before .before .put-item .ensures in
+    omega (
+      arith,
+      few i .0,
+      few i .1,
+      length-append (decimal (i .before .before .index .result)) lineEnd,
+      length-append (decimal (i .index2 .result)) lineEnd,
+      w .next-is,
+      wrote-length w (omega (arith, few i .0, few i .1)),
+    )
 
--- src/lib.rt:82:1
 same-length : tie.Need-same-length
 same-length c = search needs
 
--- src/lib.rt:82:1
 returns : tie.Need-returns
 unfolding refusedText
 returns c =

@@ -8,11 +8,6 @@ use Rattle.listing.specs.Writing.{wrote-then, fits-then, fits-first}
 use borrow.Author.Needs.{needs}
 use Rattle.listing.proofs.put_row.Statement.{statement}
 use Rattle.listing.proofs.put_row.Tie as tie
-use Rattle.listing.proofs.put_row.Reads as reads
-use Rattle.listing.proofs.put_row.Lts as lts
-use Rattle.listing.proofs.put.Reads as put-reads
-use Rattle.listing.proofs.put_entries.Reads as put-entries-reads
-use Rattle.listing.proofs.put_heading.Reads as put-heading-reads
 
 -- the row's number, and its entries
 abbrev head : ℕ → List ℕ
@@ -21,11 +16,9 @@ head q = heading rowWord q
 abbrev entries : List ℕ → ℕ → ℕ → List ℕ
 entries table n2 q1 = entriesText (tableOf table n2 q1) n2
 
--- src/lib.rt:119:31
 slice-aggregate-put-heading : tie.Need-slice-aggregate-put-heading
 slice-aggregate-put-heading c = search needs
 
--- src/lib.rt:119:9
 put-heading-requires : tie.Need-put-heading-requires
 unfolding rowText
 put-heading-requires c κs =
@@ -33,11 +26,9 @@ put-heading-requires c κs =
     let a = s .args in
     fits-first (a .text .now) (a .at) (head (a .q1)) (entries (a .table .now) (a .n2) (a .q1)) (fits-first (a .text .now) (a .at) (head (a .q1) ++ entries (a .table .now) (a .n2) (a .q1)) lineEnd (s .pre .1))
 
--- src/lib.rt:120:34
 mul-put-entries : tie.Need-mul-put-entries
 mul-put-entries c = search needs
 
--- src/lib.rt:120:9
 put-entries-requires : tie.Need-put-entries-requires
 unfolding rowText
 put-entries-requires c κs =
@@ -45,22 +36,18 @@ put-entries-requires c κs =
     let a = s .args in
     (s .pre .0, fits-then (entries (a .table .now) (a .n2) (a .q1)) (fits-first (a .text .now) (a .at) (head (a .q1) ++ entries (a .table .now) (a .n2) (a .q1)) lineEnd (s .pre .1)) (c .before .before .before .put-heading .ensures))
 
--- src/lib.rt:121:9
 slice-aggregate-put : tie.Need-slice-aggregate-put
 slice-aggregate-put c = search needs
 
--- src/lib.rt:121:5
 put-requires : tie.Need-put-requires
 unfolding rowText
 put-requires c κs =
     let s = c .before .before .before .before .before .before .before .before .before .before .before .before .before in
     fits-then lineEnd (s .pre .1) (wrote-then _ (omega arith) (c .before .before .before .before .before .before .before .before .put-heading .ensures) (c .before .before .before .before .put-entries .ensures))
 
--- src/lib.rt:115:1
 same-length : tie.Need-same-length
 same-length c = search needs
 
--- src/lib.rt:115:1
 returns : tie.Need-returns
 unfolding rowText
 returns c =

@@ -1,5 +1,5 @@
 -- `listing::put_rows` meets its contract: the rows passed so far are written.
-use Prim.Native.Nat.{ℕ, _+_, _-_, _≤_}
+use Prim.Native.Nat.{ℕ, _-_, _≤_}
 use mathlib.Core.List.{List}
 use native.Mathlib.Omega.{arith}
 use Rattle.model.specs.Places.{row-le}
@@ -8,9 +8,6 @@ use Rattle.listing.specs.Text.{rowText, each}
 use Rattle.listing.specs.Writing.{Wrote, each-starts, each-room, each-turn, each-done, each-kept}
 use Rattle.listing.proofs.put_rows.Statement.{statement}
 use Rattle.listing.proofs.put_rows.Tie as tie
-use Rattle.listing.proofs.put_rows.Reads as reads
-use Rattle.listing.proofs.put_rows.Lts as lts
-use Rattle.listing.proofs.put_row.Reads as put-row-reads
 
 abbrev line : List ℕ → ℕ → ℕ → List ℕ
 line table n2 = rowText (tableOf table n2) n2
@@ -21,13 +18,11 @@ Inv-loop table n1 n2 text₀ at next₀ q1₀ text next q1 = (q1 ≤ n1) × Wrot
 abbrev μ-loop : tie.MeasureT-loop
 μ-loop table n1 n2 text₀ at next₀ q1₀ text next q1 = n1 - q1
 
--- src/lib.rt:130:5
 loop-holds : tie.Need-loop-holds Inv-loop μ-loop
 loop-holds c =
     let s = c .before .before in
     (omega arith, each-starts (s .args .text .now) (s .args .at) (s .args .n1) (line (s .args .table .now) (s .args .n2)) (s .pre .1))
 
--- src/lib.rt:131:9
 put-row-requires : tie.Need-put-row-requires Inv-loop μ-loop
 put-row-requires c κs =
     let s = c .before .before .before .before .before in
@@ -36,29 +31,24 @@ put-row-requires c κs =
       each-room (s .args .text .now) (s .args .at) (s .args .n1) (line (s .args .table .now) (s .args .n2)) (s .pre .1) (l .q1) (l .text) (l .next) (omega arith) (l .inv .1),
     )
 
--- src/lib.rt:130:9
 add-q1 : tie.Need-add-q1 Inv-loop μ-loop
 add-q1 c = omega arith
 
--- src/lib.rt:130:5
 loop-less : tie.Need-loop-less Inv-loop μ-loop
 loop-less c = omega arith
 
--- src/lib.rt:130:5
 loop-again : tie.Need-loop-again Inv-loop μ-loop
 loop-again c =
     let s = c .before .before .before .before .before .before .before .before in
     let l = c .before .before .before .before .before .loop in
     (omega arith, each-turn (s .args .text .now) (s .args .at) (s .args .n1) (line (s .args .table .now) (s .args .n2)) (s .pre .1) (l .q1) (l .text) (l .next) (omega arith) (l .inv .1) _ _ (c .before .before .put-row .ensures))
 
--- src/lib.rt:125:1
 same-length : tie.Need-same-length Inv-loop μ-loop
 same-length c =
     let s = c .before .before .before .before in
     let l = c .before .loop in
     each-kept (s .args .text .now) (s .args .at) (s .args .n1) (line (s .args .table .now) (s .args .n2)) (s .pre .1) (l .q1) (l .text) (l .next) (omega arith) (l .inv .1)
 
--- src/lib.rt:125:1
 returns : tie.Need-returns Inv-loop μ-loop
 returns c =
     let s = c .before .before .before .before in

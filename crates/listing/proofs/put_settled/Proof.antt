@@ -1,35 +1,25 @@
 -- `listing::put_settled` meets its contract: both tables start at top, and the first comes to hold round T.
-use Prim.Native.Nat.{_*_}
 use native.Mathlib.Omega.{arith}
 use Rattle.model.specs.Places.{prod-le}
 use Rattle.listing.specs.Settling.{tops-start, settled-text}
 use borrow.Author.Needs.{needs}
 use Rattle.listing.proofs.put_settled.Statement.{statement}
 use Rattle.listing.proofs.put_settled.Tie as tie
-use Rattle.listing.proofs.put_settled.Reads as reads
-use Rattle.listing.proofs.put_settled.Lts as lts
-use Rattle.listing.proofs.put_table.Reads as put-table-reads
-use Rattle.listing.proofs.settle.Reads as settle-reads
 
--- src/lib.rt:232:34
 slice-aggregate-settle : tie.Need-slice-aggregate-settle
 slice-aggregate-settle c = search needs
 
--- src/lib.rt:232:46
 slice-aggregate-settle-2 : tie.Need-slice-aggregate-settle-2
 slice-aggregate-settle-2 c = search needs
 
--- src/lib.rt:232:9
 settle-requires : tie.Need-settle-requires
 settle-requires c κs =
     let s = c .before .before .before .before .before in
     tops-start (s .args .t .now) (s .args .l) (s .args .m1 .now) (s .args .m2 .now) (s .pre .first) (s .pre .second) (s .pre .same-propositions) (s .pre .laws)
 
--- src/lib.rt:233:29
 slice-aggregate-put-table : tie.Need-slice-aggregate-put-table
 slice-aggregate-put-table c = search needs
 
--- src/lib.rt:233:5
 put-table-requires : tie.Need-put-table-requires
 put-table-requires c κs =
     let s = c .before .before .before .before .before .before .before .before .before .before in
@@ -43,11 +33,9 @@ put-table-requires c κs =
       rw (settled-text (w .ensures) (w .result) (w .ensures .isT)) (s .pre .room (w .result) (w .ensures .isT)),
     )
 
--- src/lib.rt:225:1
 same-length : tie.Need-same-length
 same-length c = search needs
 
--- src/lib.rt:225:1
 returns : tie.Need-returns
 returns c T f = rw (settled-text (c .before .before .before .before .before .before .before .settle .ensures) T f) at (c .before .before .put-table .ensures)
 

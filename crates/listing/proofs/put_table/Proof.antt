@@ -12,13 +12,6 @@ use Rattle.listing.specs.Writing.{wrote-then, fits-then, fits-first}
 use borrow.Author.Needs.{needs}
 use Rattle.listing.proofs.put_table.Statement.{statement}
 use Rattle.listing.proofs.put_table.Tie as tie
-use Rattle.listing.proofs.put_table.Reads as reads
-use Rattle.listing.proofs.put_table.Lts as lts
-use Rattle.listing.proofs.put_last.Reads as put-last-reads
-use Rattle.listing.proofs.put_rows.Reads as put-rows-reads
-use Rattle.model.proofs.states.Reads as states-reads
-use Rattle.operations.proofs.index.Reads as index-reads
-use Rattle.rounds.proofs.score.Reads as score-reads
 
 -- the three parts of the text
 abbrev rounds : tie.Start → List ℕ
@@ -33,34 +26,27 @@ rows s = rowsText (entry s) (getD (s .args .m1 .now) 0 0) (getD (s .args .m2 .no
 abbrev mark : tie.Start → List ℕ
 mark s = lastItem scoreWord (score (opsIn (s .args .t .now) (s .args .l)) (modelOf (s .args .m1 .now)) (modelOf (s .args .m2 .now)) (entry s))
 
--- src/lib.rt:215:9
 states-requires : tie.Need-states-requires
 states-requires c κs = search needs
 
--- src/lib.rt:216:9
 states-requires-2 : tie.Need-states-requires-2
 states-requires-2 c κs = search needs
 
--- src/lib.rt:217:9
 score-requires : tie.Need-score-requires
 score-requires c κs = search needs
 
--- src/lib.rt:218:9
 index-requires : tie.Need-index-requires
 index-requires c κs = search needs
 
--- src/lib.rt:219:25
 slice-aggregate-put-last : tie.Need-slice-aggregate-put-last
 slice-aggregate-put-last c = search needs
 
--- src/lib.rt:219:9
 put-last-requires : tie.Need-put-last-requires
 unfolding tableText
 put-last-requires c κs =
     let s = c .before .before .before .before .before .before .before .before .before .before in
     fits-first (s .args .text .now) 0 (rounds s) (rows s) (fits-first (s .args .text .now) 0 (rounds s ++ rows s) (mark s) (s .pre .1))
 
--- src/lib.rt:220:9
 put-rows-requires : tie.Need-put-rows-requires
 unfolding tableText
 put-rows-requires c κs =
@@ -68,11 +54,9 @@ put-rows-requires c κs =
     rw (c .before .before .before .before .before .before .before .before .before .states .ensures, c .before .before .before .before .before .before .before .before .states2 .ensures)
     (s .pre .0 .held, fits-then (rows s) (fits-first (s .args .text .now) 0 (rounds s ++ rows s) (mark s) (s .pre .1)) (c .before .before .before .put-last .ensures))
 
--- src/lib.rt:221:14
 slice-aggregate-put-last-2 : tie.Need-slice-aggregate-put-last-2
 slice-aggregate-put-last-2 c = search needs
 
--- src/lib.rt:221:5
 put-last-requires-2 : tie.Need-put-last-requires-2
 unfolding tableText
 put-last-requires-2 c κs =
@@ -80,11 +64,9 @@ put-last-requires-2 c κs =
     rw (c .before .before .before .before .before .before .before .before .before .before .before .index .ensures .0, c .before .before .before .before .before .before .before .before .before .before .before .before .score .ensures)
     (fits-then (mark s) (s .pre .1) (wrote-then (rows s) (omega arith) (c .before .before .before .before .before .before .before .before .put-last .ensures) (rw (c .before .before .before .before .before .before .before .before .before .before .before .before .before .before .states .ensures, c .before .before .before .before .before .before .before .before .before .before .before .before .before .states2 .ensures) at (c .before .before .before .before .put-rows .ensures))))
 
--- src/lib.rt:203:1
 same-length : tie.Need-same-length
 same-length c = search needs
 
--- src/lib.rt:203:1
 returns : tie.Need-returns
 unfolding tableText
 returns c =

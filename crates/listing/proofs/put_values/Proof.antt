@@ -7,12 +7,6 @@ use Rattle.listing.specs.Writing.{wrote-then, fits-then, fits-first}
 use borrow.Author.Needs.{needs}
 use Rattle.listing.proofs.put_values.Statement.{statement}
 use Rattle.listing.proofs.put_values.Tie as tie
-use Rattle.listing.proofs.put_values.Reads as reads
-use Rattle.listing.proofs.put_values.Lts as lts
-use Rattle.listing.proofs.put_entry.Reads as put-entry-reads
-use Rattle.listing.proofs.put_heading.Reads as put-heading-reads
-use Rattle.listing.proofs.put_last.Reads as put-last-reads
-use Rattle.operations.proofs.index.Reads as index-reads
 
 -- the three parts of the line
 abbrev head : tie.Start → List ℕ
@@ -24,33 +18,27 @@ value1 s = item blank (s .args .v1)
 abbrev value2 : tie.Start → List ℕ
 value2 s = lastItem blank (s .args .v2)
 
--- src/lib.rt:254:9
 index-requires : tie.Need-index-requires
 index-requires c κs = search needs
 
--- src/lib.rt:255:30
 slice-aggregate-put-heading : tie.Need-slice-aggregate-put-heading
 slice-aggregate-put-heading c = search needs
 
--- src/lib.rt:255:9
 put-heading-requires : tie.Need-put-heading-requires
 unfolding formulaText
 put-heading-requires c κs =
     let s = c .before .before .before .before in
     fits-first (s .args .text .now) (s .args .at) (head s) (value1 s) (fits-first (s .args .text .now) (s .args .at) (head s ++ value1 s) (value2 s) (s .pre))
 
--- src/lib.rt:256:9
 put-entry-requires : tie.Need-put-entry-requires
 unfolding formulaText
 put-entry-requires c κs =
     let s = c .before .before .before .before .before .before .before .before in
     fits-then (value1 s) (fits-first (s .args .text .now) (s .args .at) (head s ++ value1 s) (value2 s) (s .pre)) (c .before .before .before .put-heading .ensures)
 
--- src/lib.rt:257:14
 slice-aggregate-put-last : tie.Need-slice-aggregate-put-last
 slice-aggregate-put-last c = search needs
 
--- src/lib.rt:257:5
 put-last-requires : tie.Need-put-last-requires
 unfolding formulaText
 put-last-requires c κs =
@@ -58,11 +46,9 @@ put-last-requires c κs =
     rw (c .before .before .before .before .before .before .before .before .before .before .before .index .ensures .0)
     (fits-then (value2 s) (s .pre) (wrote-then (value1 s) (omega (arith, s .pre)) (c .before .before .before .before .before .before .before .before .put-heading .ensures) (c .before .before .before .before .put-entry .ensures)))
 
--- src/lib.rt:250:1
 same-length : tie.Need-same-length
 same-length c = search needs
 
--- src/lib.rt:250:1
 returns : tie.Need-returns
 unfolding formulaText
 returns c =

@@ -1,6 +1,6 @@
 -- `listing::settle` meets its contract: the first table holds round r, and every round up to r differs from the one before.
 use Prim.Native.Nat.{_-_, _≤_}
-use Prim.Native.Nat.{ℕ, _+_}
+use Prim.Native.Nat.{_+_}
 use mathlib.Core.Path.{_≡_, refl, _∙_}
 use borrow.Author.Tests.{not-true, not-false}
 use Rattle.model.specs.Places.{prod-le}
@@ -8,12 +8,9 @@ use native.Mathlib.Omega.{arith}
 use lib.ListN.{length}
 use Rattle.theory.specs.Part.{modelOf}
 use Rattle.operations.specs.Table.{opsIn}
-use Rattle.listing.specs.Settling.{Startable, AtRound, at-start, rounds-few, next-round, settled-out, settled-read}
+use Rattle.listing.specs.Settling.{AtRound, at-start, rounds-few, next-round, settled-out, settled-read}
 use Rattle.listing.proofs.settle.Statement.{statement}
 use Rattle.listing.proofs.settle.Tie as tie
-use Rattle.listing.proofs.settle.Reads as reads
-use Rattle.listing.proofs.settle.Lts as lts
-use Rattle.listing.proofs.whole_round.Reads as whole-round-reads
 
 abbrev Inv-loop : tie.InvT-loop
 Inv-loop t l m1 m2 first₀ second₀ r₀ first second r = AtRound (opsIn t l) (modelOf m1) (modelOf m2) first r × (length first ≡ length first₀) × (length second ≡ length second₀)
@@ -21,13 +18,11 @@ Inv-loop t l m1 m2 first₀ second₀ r₀ first second r = AtRound (opsIn t l) 
 abbrev μ-loop : tie.MeasureT-loop
 μ-loop t l m1 m2 first₀ second₀ r₀ first second r = 4098 - r
 
--- src/lib.rt:182:5
 loop-holds : tie.Need-loop-holds Inv-loop μ-loop
 loop-holds c =
     let s = c .before .before .before .before in
     (at-start _ _ _ _ (s .pre .start), refl, refl)
 
--- src/lib.rt:183:13
 whole-round-requires : tie.Need-whole-round-requires Inv-loop μ-loop
 whole-round-requires c κs =
     let p = c .before .before .before .before .before .before .before .pre in
@@ -44,23 +39,18 @@ few c =
 next-held : (c : tie.Else1 Inv-loop μ-loop) → AtRound (opsIn (c .before .before .before .before .before .before .before .before .before .before .before .args .t .now) (c .before .before .before .before .before .before .before .before .before .before .before .args .l)) (modelOf (c .before .before .before .before .before .before .before .before .before .before .before .args .m1 .now)) (modelOf (c .before .before .before .before .before .before .before .before .before .before .before .args .m2 .now)) (c .before .before .before .whole-round .last .1 .1 .1 .1 .1 .0) (c .before .before .before .before .before .before .loop .r + 1)
 next-held c = next-round (c .before .before .before .before .before .before .loop .inv .0) (c .before .before .before .whole-round .ensures) (not-false _ (c .if1 .left))
 
--- src/lib.rt:184:20
 add-result : tie.Need-add-result Inv-loop μ-loop
 add-result c = omega (arith, few (c .before .before .before .before .before .before))
 
--- src/lib.rt:184:13
 same-length : tie.Need-same-length Inv-loop μ-loop
 same-length c = c .before .before .before .before .before .before .loop .inv .1
 
--- src/lib.rt:184:13
 same-length-2 : tie.Need-same-length-2 Inv-loop μ-loop
 same-length-2 c = c .before .before .before .whole-round .ensures .worked .same-length ∙ c .before .before .before .before .before .before .loop .inv .2
 
--- src/lib.rt:184:13
 returns : tie.Need-returns Inv-loop μ-loop
 returns c = settled-read (c .before .before .before .before .before .before .loop .inv .0) (c .before .before .before .whole-round .ensures) (not-true _ (c .if1 .taken))
 
--- src/lib.rt:186:13
 whole-round-requires-2 : tie.Need-whole-round-requires-2 Inv-loop μ-loop
 whole-round-requires-2 c κs =
     let p = c .before .before .before .before .before .before .before .before .before .before .before .before .before .pre in
@@ -68,34 +58,27 @@ whole-round-requires-2 c κs =
     let k = c .before .before .before .before .before .whole-round .ensures .worked .same-length in
     (record { first = p .shaped .first; second = p .shaped .second; same-propositions = p .shaped .same-propositions; held = omega (arith, p .room, k, l .inv .2) }, omega (arith, p .shaped .held, l .inv .1))
 
--- src/lib.rt:187:20
 add-result-2 : tie.Need-add-result-2 Inv-loop μ-loop
 add-result-2 c = omega (arith, few (c .before .before .before .before .before .before .before .before .before .before .before .before))
 
--- src/lib.rt:187:13
 same-length-3 : tie.Need-same-length-3 Inv-loop μ-loop
 same-length-3 c = c .before .before .before .whole-round2 .ensures .worked .same-length ∙ c .before .before .before .before .before .before .before .before .before .before .before .before .loop .inv .1
 
--- src/lib.rt:187:13
 same-length-4 : tie.Need-same-length-4 Inv-loop μ-loop
 same-length-4 c = c .before .before .before .before .before .before .before .before .before .whole-round .ensures .worked .same-length ∙ c .before .before .before .before .before .before .before .before .before .before .before .before .loop .inv .2
 
--- src/lib.rt:187:13
 returns-2 : tie.Need-returns-2 Inv-loop μ-loop
 returns-2 c =
     let r = c .before .before .before .before .before .before .before .before .before .before .before .before .loop .r in
     let e : r + 1 + 1 ≡ r + 2 = omega arith in
     rw e at (settled-out (next-held (c .before .before .before .before .before .before)) (c .before .before .before .whole-round2 .ensures) (not-true _ (c .if2 .taken)))
 
--- src/lib.rt:189:9
 add-r : tie.Need-add-r Inv-loop μ-loop
 add-r c = omega (arith, few (c .before .before .before .before .before .before .before .before .before .before .before .before))
 
--- src/lib.rt:182:5
 loop-less : tie.Need-loop-less Inv-loop μ-loop
 loop-less c = omega (arith, few (c .before .before .before .before .before .before .before .before .before .before .before .before))
 
--- src/lib.rt:182:5
 loop-again : tie.Need-loop-again Inv-loop μ-loop
 loop-again c =
     let r = c .before .before .before .before .before .before .before .before .before .before .before .before .loop .r in

@@ -3,30 +3,21 @@ use native.Mathlib.Omega.{arith}
 use Rattle.listing.specs.Accepting.{valuable, whole-is}
 use Rattle.listing.proofs.whole_of.Statement.{statement}
 use Rattle.listing.proofs.whole_of.Tie as tie
-use Rattle.listing.proofs.whole_of.Reads as reads
-use Rattle.listing.proofs.whole_of.Lts as lts
-use Rattle.casefile.proofs.part.Reads as part-reads
-use Rattle.valuer.proofs.whole.Reads as whole-reads
 
--- src/lib.rt:244:9
 part-requires : tie.Need-part-requires
 part-requires c κs = let v = valuable (c .before .before .pre) in (v .placed, v .model-in)
 
--- src/lib.rt:245:40
 add-part : tie.Need-add-part
 add-part c = let v = valuable (c .before .before .before .pre) in omega (arith, v .formula-in, v .few)
 
--- src/lib.rt:245:9
 part-requires-2 : tie.Need-part-requires-2
 part-requires-2 c κs = let v = valuable (c .before .before .before .pre) in (v .placed, v .formula-in)
 
--- src/lib.rt:246:5
 whole-requires : tie.Need-whole-requires
 whole-requires c κs =
     let v = valuable (c .before .before .before .before .pre) in
     rw (c .before .part .ensures, c .part2 .ensures) (v .shape, v .reads)
 
--- src/lib.rt:239:1
 returns : tie.Need-returns
 returns c = whole-is (c .before .before .before .before .before .pre) _ (rw (c .before .before .part .ensures, c .before .part2 .ensures) at (c .whole .ensures))
 

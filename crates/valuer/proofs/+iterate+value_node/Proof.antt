@@ -25,25 +25,25 @@ use Rattle.valuer.proofs.variable.Reads as variable-reads
 use Rattle.valuer.proofs.+iterate+value_node.{statement}
 use Rattle.valuer.proofs.+iterate+value_node.Tie.{close}
 
-abbrev μ-iterate : Measures 6 iterate-kinds.ps ℕ
+abbrev μ-iterate : Measures 9 iterate-kinds.ps ℕ
 μ-iterate κs a = (length (a .1 .1 .1 .0 .now) - a .1 .1 .1 .1 .0) * 2 + 1
 
-abbrev μ-value-node : Measures 7 value-node-kinds.ps ℕ
+abbrev μ-value-node : Measures 10 value-node-kinds.ps ℕ
 μ-value-node κs a = (length (a .1 .1 .1 .0 .now) - a .1 .1 .1 .1 .0) * 2
 
-abbrev iterate-at : ℕ → In 6 iterate-kinds.ps
-iterate-at t = and 6 iterate-kinds.ps (is 6 iterate-kinds.ps μ-iterate t) iterate.Pre
+abbrev iterate-at : ℕ → In 9 iterate-kinds.ps
+iterate-at t = and 9 iterate-kinds.ps (is 9 iterate-kinds.ps μ-iterate t) iterate.Pre
 
-abbrev iterate-below : ℕ → In 6 iterate-kinds.ps
-iterate-below t = and 6 iterate-kinds.ps (falls 6 iterate-kinds.ps _<_ μ-iterate t) iterate.Pre
+abbrev iterate-below : ℕ → In 9 iterate-kinds.ps
+iterate-below t = and 9 iterate-kinds.ps (falls 9 iterate-kinds.ps _<_ μ-iterate t) iterate.Pre
 
-abbrev value-node-at : ℕ → In 7 value-node-kinds.ps
+abbrev value-node-at : ℕ → In 10 value-node-kinds.ps
 value-node-at t =
-    and 7 value-node-kinds.ps (is 7 value-node-kinds.ps μ-value-node t) value-node.Pre
+    and 10 value-node-kinds.ps (is 10 value-node-kinds.ps μ-value-node t) value-node.Pre
 
-abbrev value-node-below : ℕ → In 7 value-node-kinds.ps
+abbrev value-node-below : ℕ → In 10 value-node-kinds.ps
 value-node-below t =
-    and 7 value-node-kinds.ps (falls 7 value-node-kinds.ps _<_ μ-value-node t) value-node.Pre
+    and 10 value-node-kinds.ps (falls 10 value-node-kinds.ps _<_ μ-value-node t) value-node.Pre
 
 -- what each member's callees ask and give, at the measure t
 abbrev i-claims : ℕ → iterate-lts.Claims
@@ -53,30 +53,30 @@ abbrev v-claims : ℕ → value-node-lts.Claims
 v-claims t = (constant-reads.Asked, constant-reads.Learnt, variable-reads.Asked, variable-reads.Learnt, literals-reads.Asked, literals-reads.Learnt, value-node-below t, value-node.Post, states-reads.Asked, states-reads.Learnt, combined-reads.Asked, combined-reads.Learnt, next-values-reads.Asked, next-values-reads.Learnt, start-of-reads.Asked, start-of-reads.Learnt, iterate-below t, iterate.Post)
 
 abbrev iterate-Inv-loop : iterate-lts.InvT-loop
-iterate-Inv-loop t l m f body limit near mid out₀ n current₀ left₀ out current left =
+iterate-Inv-loop t l m f body limit codes words scratch₀ near mid out₀ n current₀ left₀ scratch out current left =
     (left ≤ limit) × Turned t l m f body limit near mid (getD current₀ 0 0) (limit - left) current
 
 abbrev iterate-μ-loop : iterate-lts.MeasureT-loop
-iterate-μ-loop t l m f body limit near mid out₀ n current₀ left₀ out current left = left
+iterate-μ-loop t l m f body limit codes words scratch₀ near mid out₀ n current₀ left₀ scratch out current left = left
 
 iterate-states-requires : (t : ℕ) → iterate-lts.Need-states-requires (i-claims t) (iterate-at t) iterate.Post iterate-Inv-loop iterate-μ-loop
-iterate-states-requires t c κs = c .before .before .pre .1 .0
+iterate-states-requires t c κs = c .before .before .before .pre .1 .0
 
 iterate-loop-holds : (t : ℕ) → iterate-lts.Need-loop-holds (i-claims t) (iterate-at t) iterate.Post iterate-Inv-loop iterate-μ-loop
-iterate-loop-holds t c = (omega arith, turned-none (omega arith) (c .before .before .before .pre .1 .0 .states-most))
+iterate-loop-holds t c = (omega arith, turned-none (omega arith) (c .before .before .before .before .pre .1 .0 .states-most))
 
 iterate-value-node-requires : (t : ℕ) → iterate-lts.Need-value-node-requires (i-claims t) (iterate-at t) iterate.Post iterate-Inv-loop iterate-μ-loop
-iterate-value-node-requires t c κs = let p = c .before .before .before .before .before .before .pre in (omega (arith, p .0), p .1)
+iterate-value-node-requires t c κs = let p = c .before .before .before .before .before .before .before .before .pre in (omega (arith, p .0), p .1)
 
 iterate-returns : (t : ℕ) → iterate-lts.Need-returns (i-claims t) (iterate-at t) iterate.Post iterate-Inv-loop iterate-μ-loop
-iterate-returns t c = turned-all (c .before .before .before .before .loop .inv .1) (c .before .value-node .ensures) (omega arith)
+iterate-returns t c = turned-all (c .before .before .before .before .before .loop .inv .1) (c .before .value-node .ensures) (omega arith)
 
 iterate-same-requires : (t : ℕ) → iterate-lts.Need-same-requires (i-claims t) (iterate-at t) iterate.Post iterate-Inv-loop iterate-μ-loop
 iterate-same-requires t c κs = omega arith
 
 iterate-returns-2 : (t : ℕ) → iterate-lts.Need-returns-2 (i-claims t) (iterate-at t) iterate.Post iterate-Inv-loop iterate-μ-loop
 iterate-returns-2 t c =
-    turned-still (c .before .before .before .before .before .before .before .before .loop .inv .1) (c .before .before .before .before .before .value-node .ensures) (omega arith) (c .before .before .before .before .before .before .before .before .before .states .result) (omega arith)
+    turned-still (c .before .before .before .before .before .before .before .before .before .loop .inv .1) (c .before .before .before .before .before .value-node .ensures) (omega arith) (c .before .before .before .before .before .before .before .before .before .before .states .result) (omega arith)
     (sym (c .before .same .ensures) ∙ c .if2 .taken)
 
 iterate-sub-left : (t : ℕ) → iterate-lts.Need-sub-left (i-claims t) (iterate-at t) iterate.Post iterate-Inv-loop iterate-μ-loop
@@ -86,13 +86,13 @@ iterate-loop-less : (t : ℕ) → iterate-lts.Need-loop-less (i-claims t) (itera
 iterate-loop-less t c = omega arith
 
 iterate-loop-again : (t : ℕ) → iterate-lts.Need-loop-again (i-claims t) (iterate-at t) iterate.Post iterate-Inv-loop iterate-μ-loop
-iterate-loop-again t c = (omega arith, turned-more (c .before .before .before .before .before .before .before .before .before .loop .inv .1) (c .before .before .before .before .before .before .value-node .ensures) _ (omega arith))
+iterate-loop-again t c = (omega arith, turned-more (c .before .before .before .before .before .before .before .before .before .before .loop .inv .1) (c .before .before .before .before .before .before .value-node .ensures) _ (omega arith))
 
 value-node-shared-slice-read-code : (t : ℕ) → value-node-lts.Need-shared-slice-read-code (v-claims t) (value-node-at t) value-node.Post
-value-node-shared-slice-read-code t c = here-inside (c .before .before .before .pre .1 .1)
+value-node-shared-slice-read-code t c = here-inside (c .before .before .before .before .pre .1 .1)
 
 value-node-add-here : (t : ℕ) → value-node-lts.Need-add-here (v-claims t) (value-node-at t) value-node.Post
-value-node-add-here t c = omega (arith, here-inside (c .before .before .before .pre .1 .1))
+value-node-add-here t c = omega (arith, here-inside (c .before .before .before .before .pre .1 .1))
 
 value-node-constant-requires : (t : ℕ) → value-node-lts.Need-constant-requires (v-claims t) (value-node-at t) value-node.Post
 value-node-constant-requires t c κs = tt
@@ -101,61 +101,61 @@ value-node-constant-requires-2 : (t : ℕ) → value-node-lts.Need-constant-requ
 value-node-constant-requires-2 t c κs = tt
 
 value-node-shared-slice-read-variable : (t : ℕ) → value-node-lts.Need-shared-slice-read-variable (v-claims t) (value-node-at t) value-node.Post
-value-node-shared-slice-read-variable t c = here-variable (c .before .match .keys3) (c .before .before .before .before .before .pre .1 .1)
+value-node-shared-slice-read-variable t c = here-variable (c .before .match .keys3) (c .before .before .before .before .before .before .pre .1 .1)
 
 value-node-add-variable : (t : ℕ) → value-node-lts.Need-add-variable (v-claims t) (value-node-at t) value-node.Post
-value-node-add-variable t c = omega (arith, here-variable (c .before .match .keys3) (c .before .before .before .before .before .pre .1 .1))
+value-node-add-variable t c = omega (arith, here-variable (c .before .match .keys3) (c .before .before .before .before .before .before .pre .1 .1))
 
 value-node-variable-requires : (t : ℕ) → value-node-lts.Need-variable-requires (v-claims t) (value-node-at t) value-node.Post
 value-node-variable-requires t c κs = tt
 
-value-node-shared-slice-read-t29 : (t : ℕ) → value-node-lts.Need-shared-slice-read-t29 (v-claims t) (value-node-at t) value-node.Post
-value-node-shared-slice-read-t29 t c = here-number (either _ 2 (omega arith) (omega arith)) (c .before .before .before .before .before .before .pre .1 .1) .inside
+value-node-shared-slice-read-t32 : (t : ℕ) → value-node-lts.Need-shared-slice-read-t32 (v-claims t) (value-node-at t) value-node.Post
+value-node-shared-slice-read-t32 t c = here-number (either _ 2 (omega arith) (omega arith)) (c .before .before .before .before .before .before .before .pre .1 .1) .inside
 
 value-node-add-literals : (t : ℕ) → value-node-lts.Need-add-literals (v-claims t) (value-node-at t) value-node.Post
-value-node-add-literals t c = omega (arith, here-number (either _ 2 (omega arith) (omega arith)) (c .before .before .before .before .before .before .pre .1 .1) .inside)
+value-node-add-literals t c = omega (arith, here-number (either _ 2 (omega arith) (omega arith)) (c .before .before .before .before .before .before .before .pre .1 .1) .inside)
 
 value-node-literals-requires : (t : ℕ) → value-node-lts.Need-literals-requires (v-claims t) (value-node-at t) value-node.Post
-value-node-literals-requires t c κs = let p = c .before .before .before .before .before .before .before .pre in (p .1 .0, here-number (either _ 2 (omega arith) (omega arith)) (p .1 .1) .small)
+value-node-literals-requires t c κs = let p = c .before .before .before .before .before .before .before .before .pre in (p .1 .0, here-number (either _ 2 (omega arith) (omega arith)) (p .1 .1) .small)
 
 value-node-value-node-requires : (t : ℕ) → value-node-lts.Need-value-node-requires (v-claims t) (value-node-at t) value-node.Post
 value-node-value-node-requires t c κs =
-    let p = c .before .before .before .before .before .before .before .pre in
-    (omega (arith, p .0, here-inside (p .1 .1)), (p .1 .0, here-first (either _ 5 (omega arith) (omega arith)) (p .1 .1)))
+    let p = c .before .before .before .before .before .before .before .before .before .pre in
+    (omega (arith, p .0, here-inside (p .1 .1)), (p .1 .0, here-first (either _ 5 (omega arith) (omega arith)) (p .1 .1), p .1 .2))
 
 value-node-value-node-requires-2 : (t : ℕ) → value-node-lts.Need-value-node-requires-2 (v-claims t) (value-node-at t) value-node.Post
 value-node-value-node-requires-2 t c κs =
-    let p = c .before .before .before .before .before .before .before .before .before .pre in
-    let w = here-second (either _ 5 (omega arith) (omega arith)) (p .1 .1) (c .before .value-node .ensures) in
-    (omega (arith, p .0, w .further, here-inside (p .1 .1)), (p .1 .0, w .stands))
+    let p = c .before .before .before .before .before .before .before .before .before .before .before .before .pre in
+    let w = here-second (either _ 5 (omega arith) (omega arith)) (p .1 .1) (c .before .before .value-node .ensures) in
+    (omega (arith, p .0, w .further, here-inside (p .1 .1)), (p .1 .0, w .stands, p .1 .2))
 
 value-node-states-requires : (t : ℕ) → value-node-lts.Need-states-requires (v-claims t) (value-node-at t) value-node.Post
-value-node-states-requires t c κs = c .before .before .before .before .before .before .before .before .before .before .pre .1 .0
+value-node-states-requires t c κs = c .before .before .before .before .before .before .before .before .before .before .before .before .before .pre .1 .0
 
 value-node-combined-requires : (t : ℕ) → value-node-lts.Need-combined-requires (v-claims t) (value-node-at t) value-node.Post
-value-node-combined-requires t c κs = omega (arith, c .before .before .before .before .before .before .before .before .before .before .before .before .before .before .pre .1 .0 .states-most)
+value-node-combined-requires t c κs = omega (arith, c .before .before .before .before .before .before .before .before .before .before .before .before .before .before .before .before .before .pre .1 .0 .states-most)
 
 value-node-value-node-requires-3 : (t : ℕ) → value-node-lts.Need-value-node-requires-3 (v-claims t) (value-node-at t) value-node.Post
 value-node-value-node-requires-3 t c κs =
-    let p = c .before .before .before .before .before .before .before .before .pre in
-    (omega (arith, p .0, here-inside (p .1 .1)), (p .1 .0, here-inner (either _ 7 (omega arith) (omega arith)) (p .1 .1)))
+    let p = c .before .before .before .before .before .before .before .before .before .before .pre in
+    (omega (arith, p .0, here-inside (p .1 .1)), (p .1 .0, here-inner (either _ 7 (omega arith) (omega arith)) (p .1 .1), p .1 .2))
 
 value-node-next-values-requires : (t : ℕ) → value-node-lts.Need-next-values-requires (v-claims t) (value-node-at t) value-node.Post
-value-node-next-values-requires t c κs = c .before .before .before .before .before .before .before .before .before .before .before .pre .1 .0
+value-node-next-values-requires t c κs = let p = c .before .before .before .before .before .before .before .before .before .before .before .before .before .before .pre in (p .1 .0, p .1 .2)
 
 value-node-start-of-requires : (t : ℕ) → value-node-lts.Need-start-of-requires (v-claims t) (value-node-at t) value-node.Post
 value-node-start-of-requires t c κs = tt
 
 value-node-iterate-requires : (t : ℕ) → value-node-lts.Need-iterate-requires (v-claims t) (value-node-at t) value-node.Post
 value-node-iterate-requires t c κs =
-    let p = c .before .before .before .before .before .before .before .before .before .before .pre in
-    (omega (arith, p .0, here-inside (p .1 .1)), (p .1 .0, here-body (either _ 9 (omega arith) (omega arith)) (p .1 .1)))
+    let p = c .before .before .before .before .before .before .before .before .before .before .before .before .pre in
+    (omega (arith, p .0, here-inside (p .1 .1)), (p .1 .0, here-body (either _ 9 (omega arith) (omega arith)) (p .1 .1), p .1 .2))
 
 value-node-returns : (t : ℕ) → value-node-lts.Need-returns (v-claims t) (value-node-at t) value-node.Post
-value-node-returns t c = rw (c .constant .ensures .0, c .constant .ensures .1) (bottom-arm (c .before .before .match .keys1) (c .before .before .before .before .before .before .pre .1 .0 .states-most))
+value-node-returns t c = rw (c .constant .ensures .0, c .constant .ensures .1) (bottom-arm (c .before .before .match .keys1) (c .before .before .before .before .before .before .before .pre .1 .0 .states-most))
 
 value-node-returns-2 : (t : ℕ) → value-node-lts.Need-returns-2 (v-claims t) (value-node-at t) value-node.Post
-value-node-returns-2 t c = rw (c .constant2 .ensures .0, c .constant2 .ensures .1) (top-arm (c .before .before .match .keys2) (c .before .before .before .before .before .before .pre .1 .0 .states-most))
+value-node-returns-2 t c = rw (c .constant2 .ensures .0, c .constant2 .ensures .1) (top-arm (c .before .before .match .keys2) (c .before .before .before .before .before .before .before .pre .1 .0 .states-most))
 
 value-node-returns-3 : (t : ℕ) → value-node-lts.Need-returns-3 (v-claims t) (value-node-at t) value-node.Post
 value-node-returns-3 t c = rw (c .variable .ensures .0) (variable-arm (c .before .before .before .match .keys3) (c .variable .ensures .1))
@@ -165,10 +165,10 @@ value-node-returns-4 t c = rw (c .literals .ensures .0) (literal-arm (either _ 2
 
 value-node-returns-5 : (t : ℕ) → value-node-lts.Need-returns-5 (v-claims t) (value-node-at t) value-node.Post
 value-node-returns-5 t c =
-    pair-arm (either _ 5 (omega arith) (omega arith)) (c .before .before .before .before .before .before .before .value-node .ensures) (c .before .before .before .before .before .value-node2 .ensures) (omega arith) (c .combined .ensures)
+    pair-arm (either _ 5 (omega arith) (omega arith)) (c .before .before .before .before .before .before .before .before .value-node .ensures) (c .before .before .before .before .before .value-node2 .ensures) (omega arith) (c .combined .ensures)
 
 value-node-returns-6 : (t : ℕ) → value-node-lts.Need-returns-6 (v-claims t) (value-node-at t) value-node.Post
-value-node-returns-6 t c = next-arm (either _ 7 (omega arith) (omega arith)) (c .before .before .before .value-node3 .ensures) (c .next-values .ensures)
+value-node-returns-6 t c = next-arm (either _ 7 (omega arith) (omega arith)) (c .before .before .before .before .value-node3 .ensures) (c .next-values .ensures)
 
 value-node-returns-7 : (t : ℕ) → value-node-lts.Need-returns-7 (v-claims t) (value-node-at t) value-node.Post
 value-node-returns-7 t c = fixpoint-arm (either _ 9 (omega arith) (omega arith)) (c .before .before .start-of .ensures) (c .iterate .ensures)
@@ -201,7 +201,7 @@ pub +iterate+value-node-spec : {M : Type 1} → statement M
     (value-node-shared-slice-read-variable t)
     (value-node-add-variable t)
     (value-node-variable-requires t)
-    (value-node-shared-slice-read-t29 t)
+    (value-node-shared-slice-read-t32 t)
     (value-node-add-literals t)
     (value-node-literals-requires t)
     (value-node-value-node-requires t)

@@ -1,25 +1,50 @@
--- `valuer::combined` meets its contract: by the code.
-use native.Mathlib.Nat.{le-refl}
-use borrow.Author.Tests.{ne-eqb}
-use Rattle.valuer.specs.Code.{combine}
-use Rattle.valuer.proofs.Loops.{filled-as}
+-- `valuer::combined` meets its contract: the entries so far are the joins or the meets.
+use mathlib.Core.Path.{_≡_, refl}
+use Prim.Native.Nat.{_≤_, _-_}
+use lib.ListN.{length, getD, length-set}
+use Rattle.theory.specs.Loop.{filled-none, filled-more}
+use Rattle.theory.specs.Lists.{Filled}
+use Rattle.valuer.specs.Code.{bound}
+use Rattle.valuer.proofs.Loops.{filled-to}
 use borrow.Author.Needs.{needs}
+use native.Mathlib.Omega.{arith}
 use Rattle.valuer.proofs.combined.Statement.{statement}
 use Rattle.valuer.proofs.combined.Tie as tie
 
-joins-requires : tie.Need-joins-requires
-joins-requires c κs = search needs
+abbrev Inv-loop : tie.InvT-loop
+Inv-loop t n code x y out₀ up q₀ out q = (q ≤ n) × (length out ≡ 64) × Filled (λ s. bound t up (getD x s 0) (getD y s 0)) q out
 
-returns : tie.Need-returns
-unfolding combine
-returns c = filled-as (c .joins .ensures) (le-refl _) (λ i b. rw (c .before .before .if1 .taken))
+abbrev μ-loop : tie.MeasureT-loop
+μ-loop t n code x y out₀ up q₀ out q = n - q
 
-meets-requires : tie.Need-meets-requires
-meets-requires c κs = search needs
+loop-holds : tie.Need-loop-holds Inv-loop μ-loop
+loop-holds c = (omega arith, refl, filled-none)
 
-returns-2 : tie.Need-returns-2
-unfolding combine
-returns-2 c = filled-as (c .meets .ensures) (le-refl _) (λ i b. rw (ne-eqb _ _ (c .before .before .if1 .left)))
+element-copy-out-t13 : tie.Need-element-copy-out-t13 Inv-loop μ-loop
+element-copy-out-t13 c = search needs
+
+element-copy-out-t17 : tie.Need-element-copy-out-t17 Inv-loop μ-loop
+element-copy-out-t17 c = search needs
+
+bound-requires : tie.Need-bound-requires Inv-loop μ-loop
+bound-requires c κs = search needs
+
+element-write-out : tie.Need-element-write-out Inv-loop μ-loop
+element-write-out c = search needs
+
+add-q : tie.Need-add-q Inv-loop μ-loop
+add-q c = search needs
+
+loop-less : tie.Need-loop-less Inv-loop μ-loop
+loop-less c = search needs
+
+loop-again : tie.Need-loop-again Inv-loop μ-loop
+loop-again c =
+    let i = c .before .before .before .before .loop .inv in
+    (omega arith, simp length-set (i .1), filled-more (i .2) (omega arith) (c .bound .ensures))
+
+returns : tie.Need-returns Inv-loop μ-loop
+returns c = filled-to (c .before .loop .inv .2) (c .loop-test .left)
 
 pub combined-spec : {M : Type 1} → statement M
-combined-spec = tie.close (tie.spec joins-requires returns meets-requires returns-2)
+combined-spec = tie.close (tie.spec Inv-loop μ-loop loop-holds element-copy-out-t13 element-copy-out-t17 bound-requires element-write-out add-q loop-less loop-again returns)

@@ -1,26 +1,54 @@
--- `valuer::literals` meets its contract: by the code.
-use mathlib.Core.Path.{refl}
-use native.Mathlib.Nat.{le-refl}
-use borrow.Author.Tests.{ne-eqb}
-use borrow.Author.Needs.{needs}
+-- `valuer::literals` meets its contract: the entries so far are the values or their complements.
+use mathlib.Core.Path.{_≡_, refl, ap, _∙_}
+use Prim.Native.Nat.{ℕ, _≤_, _-_}
+use lib.ListN.{length, length-set}
+use Rattle.theory.specs.Part.{modelOf}
+use Rattle.theory.specs.Loop.{filled-none, filled-more}
+use Rattle.theory.specs.Lists.{Filled}
 use Rattle.valuer.specs.Code.{literal}
-use Rattle.valuer.proofs.Loops.{filled-as}
+use Rattle.valuer.proofs.Loops.{filled-to}
+use borrow.Author.Needs.{needs}
+use native.Mathlib.Omega.{arith}
 use Rattle.valuer.proofs.literals.Statement.{statement}
 use Rattle.valuer.proofs.literals.Tie as tie
 
-labels-requires : tie.Need-labels-requires
-labels-requires c κs = search needs
+abbrev Inv-loop : tie.InvT-loop
+Inv-loop t m code p next out₀ n q₀ out q = (q ≤ n) × (length out ≡ 64) × Filled (λ s. literal t code (modelOf m .label s (p .0))) q out
 
-returns : tie.Need-returns
-unfolding literal
-returns c = (refl, filled-as (c .labels .ensures) (le-refl _) (λ i b. rw (c .before .before .if1 .taken)))
+abbrev μ-loop : tie.MeasureT-loop
+μ-loop t m code p next out₀ n q₀ out q = n - q
 
-negated-requires : tie.Need-negated-requires
-negated-requires c κs = search needs
+states-requires : tie.Need-states-requires Inv-loop μ-loop
+states-requires c κs = search needs
 
-returns-2 : tie.Need-returns-2
-unfolding literal
-returns-2 c = (refl, filled-as (c .negated .ensures) (le-refl _) (λ i b. rw (ne-eqb _ _ (c .before .before .if1 .left))))
+loop-holds : tie.Need-loop-holds Inv-loop μ-loop
+loop-holds c = (omega arith, refl, filled-none)
+
+state-requires : tie.Need-state-requires Inv-loop μ-loop
+state-requires c κs = omega arith
+
+label-requires : tie.Need-label-requires Inv-loop μ-loop
+label-requires c κs = (c .before .before .before .before .before .before .pre .0, omega arith, c .before .before .before .before .before .before .pre .1)
+
+literal-requires : tie.Need-literal-requires Inv-loop μ-loop
+literal-requires c κs = search needs
+
+element-write-out : tie.Need-element-write-out Inv-loop μ-loop
+element-write-out c = omega arith
+
+add-q : tie.Need-add-q Inv-loop μ-loop
+add-q c = search needs
+
+loop-less : tie.Need-loop-less Inv-loop μ-loop
+loop-less c = search needs
+
+loop-again : tie.Need-loop-again Inv-loop μ-loop
+loop-again c =
+    let i = c .before .before .before .before .loop .inv in
+    (omega arith, simp length-set (i .1), filled-more (i .2) (omega arith) (c .literal .ensures ∙ ap (literal _ _) (rw (c .before .before .state .ensures) at (c .before .label .ensures))))
+
+returns : tie.Need-returns Inv-loop μ-loop
+returns c = (refl, filled-to (c .before .loop .inv .2) (omega arith))
 
 pub literals-spec : {M : Type 1} → statement M
-literals-spec = tie.close (tie.spec labels-requires returns negated-requires returns-2)
+literals-spec = tie.close (tie.spec Inv-loop μ-loop states-requires loop-holds state-requires label-requires literal-requires element-write-out add-q loop-less loop-again returns)

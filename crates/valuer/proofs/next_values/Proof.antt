@@ -1,25 +1,30 @@
--- `valuer::next_values` meets its contract: by the code.
-use native.Mathlib.Nat.{le-refl}
-use borrow.Author.Tests.{ne-eqb}
-use Rattle.valuer.specs.Code.{nextOf}
-use Rattle.valuer.proofs.Loops.{filled-as}
+-- `valuer::next_values` meets its contract: by codes where they are ready and the map has elements only.
+use mathlib.Core.Path.{sym, _∙_}
+use Rattle.valuer.proofs.Loops.{below-at}
 use borrow.Author.Needs.{needs}
+use native.Mathlib.Omega.{arith}
 use Rattle.valuer.proofs.next_values.Statement.{statement}
 use Rattle.valuer.proofs.next_values.Tie as tie
 
-all-next-requires : tie.Need-all-next-requires
-all-next-requires c κs = search needs
+states-requires : tie.Need-states-requires
+states-requires c κs = search needs
+
+below-requires : tie.Need-below-requires
+below-requires c κs = omega (arith, c .before .before .before .before .before .pre .0 .states-most)
+
+next-by-codes-requires : tie.Need-next-by-codes-requires
+next-by-codes-requires c κs =
+    let a = c .before .before .before .before .before .before .before .before .before .args in
+    (c .before .before .before .before .before .before .before .before .before .pre .0, c .before .before .before .before .before .before .before .before .before .pre .1 .when (c .before .before .before .before .before .before .if1 .taken), c .before .before .before .before .before .before .if1 .taken, record { at = λ s b. below-at (a .x .now) 0 (c .before .before .before .before .states .result) (a .l .size) (sym (c .before .before .before .below .ensures) ∙ c .before .before .if2 .taken) s (omega arith) (omega (arith, c .before .before .before .before .states .ensures)) })
 
 returns : tie.Need-returns
-unfolding nextOf
-returns c = filled-as (c .all-next .ensures) (le-refl _) (λ i b. rw (c .before .before .if1 .taken))
+returns c = search needs
 
-some-next-requires : tie.Need-some-next-requires
-some-next-requires c κs = search needs
+next-by-tables-requires : tie.Need-next-by-tables-requires
+next-by-tables-requires c κs = c .before .before .before .before .pre .0
 
 returns-2 : tie.Need-returns-2
-unfolding nextOf
-returns-2 c = filled-as (c .some-next .ensures) (le-refl _) (λ i b. rw (ne-eqb _ _ (c .before .before .if1 .left)))
+returns-2 c = search needs
 
 pub next-values-spec : {M : Type 1} → statement M
-next-values-spec = tie.close (tie.spec all-next-requires returns some-next-requires returns-2)
+next-values-spec = tie.close (tie.spec states-requires below-requires next-by-codes-requires returns next-by-tables-requires returns-2)

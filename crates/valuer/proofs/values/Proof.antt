@@ -1,17 +1,22 @@
--- `valuer::values` meets its contract: the answer of the valuer at the first byte.
+-- `valuer::values` meets its contract: either way.
 use borrow.Author.Needs.{needs}
-use Rattle.valuer.proofs.Arms.{here-read, part-values}
 use Rattle.valuer.proofs.values.Statement.{statement}
 use Rattle.valuer.proofs.values.Tie as tie
 
-round-limit-requires : tie.Need-round-limit-requires
-round-limit-requires c κs = search needs
+worth-requires : tie.Need-worth-requires
+worth-requires c κs = search needs
 
-value-node-requires : tie.Need-value-node-requires
-value-node-requires c κs = (c .before .before .before .before .before .before .before .pre .0, here-read (c .before .before .before .before .before .before .before .args .m .now) _ (c .before .before .before .before .before .before .before .pre .1))
+values-by-codes-requires : tie.Need-values-by-codes-requires
+values-by-codes-requires c κs = search needs
 
 returns : tie.Need-returns
-returns c = part-values (c .value-node .ensures) (c .before .before .before .before .before .round-limit .ensures)
+returns c = search needs
+
+values-by-tables-requires : tie.Need-values-by-tables-requires
+values-by-tables-requires c κs = search needs
+
+returns-2 : tie.Need-returns-2
+returns-2 c = search needs
 
 pub values-spec : {M : Type 1} → statement M
-values-spec = tie.close (tie.spec round-limit-requires value-node-requires returns)
+values-spec = tie.close (tie.spec worth-requires values-by-codes-requires returns values-by-tables-requires returns-2)

@@ -1,0 +1,53 @@
+-- `codes::is_coded` meets its contract: the rows passed are tested. Assumes nothing.
+use mathlib.Core.Path.{refl}
+use Prim.Native.Nat.{ℕ, _≤_, _<_, _-_}
+use native.Mathlib.Nat.{not-suc-le-zero}
+use native.Mathlib.Omega.{arith}
+use borrow.Author.Count.{below-more}
+use borrow.Author.Tests.{not-false}
+use Rattle.theory.specs.TestLaws.{false-true}
+use Rattle.codes.specs.Coded.{RowCoded, coded-in}
+use borrow.Author.Needs.{needs}
+use Rattle.codes.proofs.is_coded.Statement.{statement}
+use Rattle.codes.proofs.is_coded.Tie as tie
+
+abbrev Inv-loop : tie.InvT-loop
+Inv-loop t codes size a₀ a = (a ≤ size) × ((i : ℕ) → i < a → RowCoded t size codes i)
+
+abbrev μ-loop : tie.MeasureT-loop
+μ-loop t codes size a₀ a = size - a
+
+loop-holds : tie.Need-loop-holds Inv-loop μ-loop
+loop-holds c = (omega arith, λ i l. absurd (not-suc-le-zero l))
+
+row-coded-requires : tie.Need-row-coded-requires Inv-loop μ-loop
+row-coded-requires c κs = search needs
+
+returns : tie.Need-returns Inv-loop μ-loop
+returns c = λ e. absurd (false-true refl e)
+
+add-a : tie.Need-add-a Inv-loop μ-loop
+add-a c = search needs
+
+loop-less : tie.Need-loop-less Inv-loop μ-loop
+loop-less c = search needs
+
+loop-again : tie.Need-loop-again Inv-loop μ-loop
+loop-again c = (omega arith, below-more _ _ (c .before .before .before .loop .inv .1) (c .before .row-coded .ensures (not-false _ (c .if1 .left))))
+
+returns-2 : tie.Need-returns-2 Inv-loop μ-loop
+returns-2 c = λ e. coded-in (omega arith) (λ i l. c .before .loop .inv .1 i (omega arith))
+
+pub is-coded-spec : {M : Type 1} → statement M
+is-coded-spec =
+    tie.close
+    (tie.spec
+    Inv-loop
+    μ-loop
+    loop-holds
+    row-coded-requires
+    returns
+    add-a
+    loop-less
+    loop-again
+    returns-2)

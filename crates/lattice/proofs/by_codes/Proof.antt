@@ -1,0 +1,62 @@
+-- `lattice::by_codes` meets its contract: what passes the tests is a distributive lattice. Assumes nothing.
+use mathlib.Core.Path.{refl, sym, _∙_}
+use native.Mathlib.Omega.{arith}
+use borrow.Author.Tests.{not-false}
+use Rattle.theory.specs.TestLaws.{false-true}
+use Rattle.lattice.specs.Reading.{latticeOf}
+use Rattle.lattice.specs.Accepted.{formed}
+use Rattle.lattice.specs.ByCodes.{kept-filled, tested}
+use borrow.Author.Needs.{needs}
+use Rattle.lattice.proofs.by_codes.Statement.{statement}
+use Rattle.lattice.proofs.by_codes.Tie as tie
+
+size-requires : tie.Need-size-requires
+size-requires c κs = search needs
+
+index-requires : tie.Need-index-requires
+index-requires c κs = search needs
+
+guess-bounds-requires : tie.Need-guess-bounds-requires
+guess-bounds-requires c κs = omega (arith, formed (c .before .before .before .before .args .part .now) (c .before .before .before .before .pre .0) .most, c .index .ensures .0, c .before .before .size .ensures)
+
+find-requires : tie.Need-find-requires
+find-requires c κs = search needs
+
+returns : tie.Need-returns
+returns c = λ e. absurd (false-true refl e)
+
+passes-requires : tie.Need-passes-requires
+passes-requires c κs = search needs
+
+returns-2 : tie.Need-returns-2
+returns-2 c = λ e. absurd (false-true refl e)
+
+repeats-requires : tie.Need-repeats-requires
+repeats-requires c κs =
+    let f = formed (c .before .before .before .before .before .before .before .before .before .before .before .before .before .args .part .now) (c .before .before .before .before .before .before .before .before .before .before .before .before .before .pre .0) in
+    (omega (arith, f .some, c .before .before .before .before .before .before .before .before .before .before .before .size .ensures), omega (arith, f .most, c .before .before .before .before .before .before .before .before .before .before .before .size .ensures))
+
+returns-3 : tie.Need-returns-3
+returns-3 c =
+    let s = c .before .before .before .before .before .before .before .before .before .before .before .before .before .before in
+    let e = c .before .before .before .before .before .before .before .before .before .before .before .before .size .ensures in
+    let k = kept-filled (s .pre .1) (c .before .before .before .before .before .before .before .before .before .guess-bounds .ensures) in
+    λ r. tested (latticeOf (s .args .part .now)) (formed (s .args .part .now) (s .pre .0)) k (record {
+      coded = rw e at (c .before .before .before .before .before .before .find .ensures (not-false _ (c .before .before .before .before .before .if1 .left)));
+      met = rw e at (sym (c .before .before .before .passes .ensures) ∙ not-false _ (c .before .before .if2 .left));
+      repeats = rw e at (c .repeats .ensures r);
+    })
+
+pub by-codes-spec : {M : Type 1} → statement M
+by-codes-spec =
+    tie.close
+    (tie.spec
+    size-requires
+    index-requires
+    guess-bounds-requires
+    find-requires
+    returns
+    passes-requires
+    returns-2
+    repeats-requires
+    returns-3)

@@ -1,0 +1,20 @@
+-- `valuer::literal` meets its contract: by the test.
+use Rattle.valuer.specs.Code.{literal}
+use borrow.Author.Tests.{ne-eqb}
+use borrow.Author.Needs.{needs}
+use Rattle.valuer.proofs.literal.Statement.{statement}
+use Rattle.valuer.proofs.literal.Tie as tie
+
+returns : tie.Need-returns
+unfolding literal
+returns c = rw (c .if1 .taken)
+
+complement-requires : tie.Need-complement-requires
+complement-requires c κs = search needs
+
+returns-2 : tie.Need-returns-2
+unfolding literal
+returns-2 c = rw (ne-eqb _ _ (c .before .if1 .left)) (c .complement .ensures)
+
+pub literal-spec : {M : Type 1} → statement M
+literal-spec = tie.close (tie.spec returns complement-requires returns-2)

@@ -1,0 +1,96 @@
+//! Two desks with the same content, one for each implementation: every call is made of both, and all that they give and leave is
+//! compared. Rests on calls, counts and desks.
+
+use crate::calls::{self, Call};
+use crate::counts::Counts;
+use crate::desks::Desk;
+use second::Reply;
+
+/// What differed, in words.
+pub type Difference = String;
+
+pub struct Pair<'a> {
+    proved: Desk,
+    second: Desk,
+    /// How many calls were made.
+    place: usize,
+    counts: &'a mut Counts,
+    print: bool,
+}
+
+impl Pair<'_> {
+    /// With `print` every call and its answer is printed.
+    pub fn new(desk: Desk, counts: &mut Counts, print: bool) -> Pair<'_> {
+        Pair {
+            proved: desk.clone(),
+            second: desk,
+            place: 0,
+            counts,
+            print,
+        }
+    }
+
+    /// The desk, which is the same for both.
+    pub fn desk(&self) -> &Desk {
+        &self.proved
+    }
+
+    /// Puts a desk altered from outside in the place of both.
+    pub fn put(&mut self, desk: Desk) {
+        self.second = desk.clone();
+        self.proved = desk;
+        if self.print {
+            println!("  the desk is altered: {:?}", self.proved.standing);
+        }
+    }
+
+    /// Makes a call of both.
+    pub fn call(&mut self, call: Call) -> Result<Reply, Difference> {
+        let settled_before = self.proved.standing.settled;
+        let proved = calls::proved(&mut self.proved, &call);
+        let second = calls::by_second(&mut self.second, &call);
+        if self.print {
+            println!("{}: {} answers {proved:?}", self.place, words(&call));
+        }
+        if proved != second || self.proved != self.second {
+            return Err(self.difference(&call, &proved, &second));
+        }
+        self.counts.call(&call, &proved, settled_before);
+        self.place += 1;
+        Ok(proved)
+    }
+
+    fn difference(&self, call: &Call, proved: &Reply, second: &Reply) -> Difference {
+        let (ours, theirs) = (&self.proved, &self.second);
+        let mut text = format!(
+            "call {} {}: the proved library answers {proved:?}, the second implementation {second:?}",
+            self.place,
+            words(call)
+        );
+        if ours.standing != theirs.standing {
+            text += &format!("; standings {:?} and {:?}", ours.standing, theirs.standing);
+        }
+        text += &first_difference("store", &ours.store, &theirs.store);
+        text += &first_difference("first table", &ours.first, &theirs.first);
+        text += &first_difference("second table", &ours.second, &theirs.second);
+        text
+    }
+}
+
+/// The first place at which two buffers differ, in words; nothing where they are the same.
+fn first_difference(name: &str, proved: &[u8], second: &[u8]) -> String {
+    match proved.iter().zip(second).position(|(a, b)| a != b) {
+        Some(at) => format!("; {name} byte {at}: {} and {}", proved[at], second[at]),
+        None => String::new(),
+    }
+}
+
+/// A call in a few words.
+fn words(call: &Call) -> String {
+    match call {
+        Call::Open(case) if case.len() > 200 => {
+            format!("Open of {} bytes that begin {:?}", case.len(), &case[..200])
+        }
+        call => format!("{call:?}"),
+    }
+}

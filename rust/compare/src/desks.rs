@@ -1,0 +1,144 @@
+//! Desks of any content and length. Rests on generator and cases.
+
+use crate::cases::Shape;
+use crate::generator::Random;
+use koelchair::Standing;
+
+pub const STORE_LENGTH: usize = 24_576;
+pub const TABLE_LENGTH: usize = 4_096;
+/// The least lengths of a store and two tables.
+const LENGTHS: [usize; 3] = [STORE_LENGTH, TABLE_LENGTH, TABLE_LENGTH];
+
+/// What is lent to a call.
+#[derive(Clone, Debug, PartialEq, Eq)]
+pub struct Desk {
+    pub standing: Standing,
+    pub store: Vec<u8>,
+    pub first: Vec<u8>,
+    pub second: Vec<u8>,
+}
+
+impl Desk {
+    /// The table that is whole.
+    pub fn whole(&self) -> &[u8] {
+        if self.standing.second_whole {
+            &self.second
+        } else {
+            &self.first
+        }
+    }
+
+    /// One table or the other.
+    pub fn table(&mut self, second: bool) -> &mut Vec<u8> {
+        if second {
+            &mut self.second
+        } else {
+            &mut self.first
+        }
+    }
+}
+
+fn any_standing(random: &mut Random) -> Standing {
+    let word = random.word() as u32;
+    Standing {
+        states1: random.byte(),
+        states2: random.byte(),
+        round: random.pick(&[0, 1, 7, word, u32::MAX]),
+        row: random.byte(),
+        changed: random.one_in(2),
+        settled: random.one_in(2),
+        second_whole: random.one_in(2),
+    }
+}
+
+/// `length` bytes, all zeros, all 255, small numbers or random.
+fn content(random: &mut Random, length: usize) -> Vec<u8> {
+    match random.below(4) {
+        0 => vec![0; length],
+        1 => vec![255; length],
+        2 => (0..length).map(|_| random.below(4) as u8).collect(),
+        _ => random.bytes(length),
+    }
+}
+
+/// Mostly the length that a desk must have, else longer.
+fn long_enough(random: &mut Random, length: usize) -> usize {
+    match random.below(4) {
+        0 => length + 1,
+        1 => length + random.below(200),
+        _ => length,
+    }
+}
+
+fn too_short(random: &mut Random, length: usize) -> usize {
+    match random.below(4) {
+        0 => 0,
+        1 => random.below(length),
+        _ => length - 1,
+    }
+}
+
+fn desk_of_lengths(random: &mut Random, lengths: [usize; 3]) -> Desk {
+    let standing = if random.one_in(2) {
+        Standing::default()
+    } else {
+        any_standing(random)
+    };
+    let [store, first, second] = lengths.map(|length| content(random, length));
+    Desk {
+        standing,
+        store,
+        first,
+        second,
+    }
+}
+
+/// A desk that is long enough, of any content.
+pub fn any(random: &mut Random) -> Desk {
+    let lengths = LENGTHS.map(|length| long_enough(random, length));
+    desk_of_lengths(random, lengths)
+}
+
+/// A desk of zeros.
+pub fn zeroed() -> Desk {
+    let table = vec![0; TABLE_LENGTH];
+    Desk {
+        standing: Standing::default(),
+        store: vec![0; STORE_LENGTH],
+        first: table.clone(),
+        second: table,
+    }
+}
+
+/// A desk of which the store or a table, or several of them, are too short.
+pub fn short(random: &mut Random) -> Desk {
+    let mut lengths = LENGTHS.map(|length| long_enough(random, length));
+    for _ in 0..random.between(1, 2) {
+        let which = random.below(3);
+        lengths[which] = too_short(random, LENGTHS[which]);
+    }
+    desk_of_lengths(random, lengths)
+}
+
+/// The shape of the case that a desk has just been opened with, read in the store (docs/STORE.md) and in the first table, which is all top.
+pub fn opened_shape(desk: &Desk) -> Shape {
+    let Desk {
+        standing,
+        store,
+        first,
+        ..
+    } = desk;
+    let top = first[0];
+    let at = usize::from(u16::from_le_bytes([store[1], store[2]]));
+    let (elements, bottom) = match store[at] {
+        0 => (27, 0),
+        n => (usize::from(n), store[at + 1 + usize::from(top)]),
+    };
+    Shape {
+        elements,
+        states: [standing.states1.into(), standing.states2.into()],
+        formulas: usize::from(store[0]) - 3,
+        top,
+        bottom,
+    }
+}

@@ -1,0 +1,27 @@
+//! Random cases, desks and lists of calls, on which the proved library and the second implementation are held against each other. The
+//! tests are in tests/: `lists` makes lists of calls, `listings` compares what the program `report` prints.
+//!
+//! - generator: numbers from a seed
+//! - lattices, non_lattices, models, formulas: the parts of a case, within the rules and not
+//! - cases, damage: whole cases, within the rules, and aimed at the refusals 1 to 10
+//! - desks, alterations: desks of any content, and desks altered from outside
+//! - calls, arguments: a call made of either implementation, and what it is made with
+//! - comparison, counts, lists: both made and compared, what was met, and the lists
+//!
+//! KOELCHAIR_LISTS=number makes that many lists. KOELCHAIR_SEED=number makes the one list of that seed, and prints every call and its answer
+//! when the tests run with `-- --nocapture`.
+
+pub mod alterations;
+pub mod arguments;
+pub mod calls;
+pub mod cases;
+pub mod comparison;
+pub mod counts;
+pub mod damage;
+pub mod desks;
+pub mod formulas;
+pub mod generator;
+pub mod lattices;
+pub mod lists;
+pub mod models;
+pub mod non_lattices;

@@ -1,0 +1,13 @@
+//! `decode`: from bytes to text.
+
+use super::{read_bytes, Arguments, Outcome};
+use crate::print::print_bytes;
+use std::io::Read;
+
+/// Runs `decode`.
+pub fn decode(arguments: &[String], input: &mut dyn Read) -> Outcome {
+    let arguments = Arguments::read(arguments, &[], &[])?;
+    let [file] = arguments.exactly(["FILE"])?;
+    let bytes = read_bytes(file, input)?;
+    Ok(print_bytes(&bytes).into_bytes())
+}

@@ -1,0 +1,133 @@
+//! Where in a refused part the rule is broken, as far as this tool can find it by itself. The refusal is the library's.
+
+use crate::case::Case;
+use crate::lattice::Lattice;
+use crate::tables::{greatest, Operations};
+use koelchair::Refusal;
+
+/// What breaks the rule, by name.
+pub fn why(case: &Case, bytes: &[u8], refusal: Refusal) -> Option<String> {
+    let lattice = &case.lattice;
+    match refusal {
+        Refusal::CaseSize => Some(format!("the case has {} bytes", bytes.len())),
+        Refusal::Directory => Some(format!("the case has {} parts", 3 + case.formulas.len())),
+        Refusal::LatticeForm => Some(format!("the lattice has {} elements", lattice.size())),
+        Refusal::NoPartialOrder => no_partial_order(lattice),
+        Refusal::NoMeetOrJoin => no_meet_or_join(lattice),
+        Refusal::NotDistributive => not_distributive(lattice),
+        Refusal::Complement => complement(lattice),
+        Refusal::Model(part @ (1 | 2)) => {
+            let states = case.models[usize::from(part) - 1].size();
+            let k = case.propositions.len();
+            Some(format!(
+                "states: {states} (1 to 64); propositions: {k} (0 to 16)"
+            ))
+        }
+        Refusal::Formula(part) => formula(case, usize::from(part)),
+        _ => None,
+    }
+}
+
+fn formula(case: &Case, part: usize) -> Option<String> {
+    let formula = &case.formulas.get(part.checked_sub(3)?)?.formula;
+    let mut bytes = Vec::new();
+    formula.write(&mut bytes);
+    let binders = formula.nested_binders();
+    let length = bytes.len();
+    Some(format!(
+        "bytes: {length} (1 to 255); nested binders: {binders} (at most 3)"
+    ))
+}
+
+/// All pairs of elements.
+fn pairs(lattice: &Lattice) -> impl Iterator<Item = (usize, usize)> {
+    let n = lattice.size();
+    (0..n * n).map(move |i| (i / n, i % n))
+}
+
+fn no_partial_order(lattice: &Lattice) -> Option<String> {
+    let name = |a| lattice.name(a);
+    let le = |a, b| lattice.at_most(a, b);
+    let n = lattice.size();
+    if let Some(a) = (0..n).find(|a| !le(*a, *a)) {
+        return Some(format!("`{0}` is not at or below `{0}`", name(a)));
+    }
+    if let Some((a, b)) = pairs(lattice).find(|(a, b)| a != b && le(*a, *b) && le(*b, *a)) {
+        return Some(format!(
+            "`{}` and `{}` are each at or below the other",
+            name(a),
+            name(b)
+        ));
+    }
+    pairs(lattice).find_map(|(a, b)| {
+        let c = (0..n).find(|c| le(a, b) && le(b, *c) && !le(a, *c))?;
+        Some(format!(
+            "`{}` <= `{}` and `{}` <= `{}`, but not `{}` <= `{}`",
+            name(a),
+            name(b),
+            name(b),
+            name(c),
+            name(a),
+            name(c)
+        ))
+    })
+}
+
+fn no_meet_or_join(lattice: &Lattice) -> Option<String> {
+    let n = lattice.size();
+    pairs(lattice).find_map(|(a, b)| {
+        let meet = greatest(n, a, b, |x, y| lattice.at_most(x, y));
+        let join = greatest(n, a, b, |x, y| lattice.at_most(y, x));
+        let missing = match (meet, join) {
+            (None, _) => "meet",
+            (_, None) => "join",
+            _ => return None,
+        };
+        Some(format!(
+            "`{}` and `{}` have no {missing}",
+            lattice.name(a),
+            lattice.name(b)
+        ))
+    })
+}
+
+fn not_distributive(lattice: &Lattice) -> Option<String> {
+    let name = |a: usize| lattice.name(a);
+    let operations = Operations::of(lattice)?;
+    let (meet, join) = (|a, b| operations.meet(a, b), |a, b| operations.join(a, b));
+    pairs(lattice).find_map(|(a, b)| {
+        let c = (0..lattice.size()).find(|c| {
+            let (a, b, c) = (a as u8, b as u8, *c as u8);
+            meet(a, join(b, c)) != join(meet(a, b), meet(a, c))
+        })?;
+        Some(format!(
+            "`{0}` met with the join of `{1}` and `{2}` is not the join of `{0}` met with `{1}` and `{0}` met with `{2}`",
+            name(a),
+            name(b),
+            name(c)
+        ))
+    })
+}
+
+fn complement(lattice: &Lattice) -> Option<String> {
+    let name = |a| lattice.name(a);
+    let not = |a| lattice.complement(a);
+    if let Some(a) = (0..lattice.size()).find(|a| not(not(*a)) != *a) {
+        return Some(format!(
+            "the complement of the complement of `{}` is `{}`",
+            name(a),
+            name(not(not(a)))
+        ));
+    }
+    let broken =
+        |(a, b): &(usize, usize)| lattice.at_most(*a, *b) && !lattice.at_most(not(*b), not(*a));
+    pairs(lattice).find(broken).map(|(a, b)| {
+        format!(
+            "`{}` <= `{}`, but for their complements not `{}` <= `{}`",
+            name(a),
+            name(b),
+            name(not(b)),
+            name(not(a))
+        )
+    })
+}

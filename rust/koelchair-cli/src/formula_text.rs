@@ -1,0 +1,285 @@
+//! Formulas as text. From loosest to tightest: `|`, `&`, then `AX`, `EX` and `!`. `|` and `&` group to the left. The body
+//! of `mu z.` and `nu z.` goes as far to the right as it can.
+
+use crate::errors::{expected_one_of, with_nearest, Span, TextError};
+use crate::formula::{Formula, DEEPEST, LONGEST};
+use crate::lexer::{Cursor, Kind, Token};
+
+/// Words that have a meaning in formulas, and so name no proposition and no variable.
+pub const FORMULA_WORDS: [&str; 6] = ["mu", "nu", "AX", "EX", "top", "bottom"];
+
+const START: &str =
+    "a formula: a proposition, `!p`, `top`, `bottom`, `AX`, `EX`, `mu z.`, `nu z.` or `(`";
+
+/// Whether a word can name a proposition or a variable.
+pub fn name_allowed(word: &str) -> bool {
+    let begins_well = word.starts_with(|c: char| c.is_alphabetic() || c == '_');
+    begins_well && !FORMULA_WORDS.contains(&word)
+}
+
+/// Reads a formula up to the end of the tokens.
+pub fn parse(cursor: &mut Cursor, propositions: &[String]) -> Result<Formula, TextError> {
+    let mut parser = Parser {
+        propositions,
+        bound: Vec::new(),
+        depth: 0,
+        nodes: 0,
+    };
+    let formula = parser.or(cursor)?;
+    cursor.expect_end("`&`, `|` or the end of the formula")?;
+    Ok(formula)
+}
+
+struct Parser<'a> {
+    propositions: &'a [String],
+    bound: Vec<String>,
+    depth: usize,
+    nodes: usize,
+}
+
+impl Parser<'_> {
+    fn or(&mut self, cursor: &mut Cursor) -> Result<Formula, TextError> {
+        let mut left = self.and(cursor)?;
+        while cursor.take_sign("|") {
+            left = Formula::Or(Box::new(left), Box::new(self.and(cursor)?));
+        }
+        Ok(left)
+    }
+
+    fn and(&mut self, cursor: &mut Cursor) -> Result<Formula, TextError> {
+        let mut left = self.prefixed(cursor)?;
+        while cursor.take_sign("&") {
+            left = Formula::And(Box::new(left), Box::new(self.prefixed(cursor)?));
+        }
+        Ok(left)
+    }
+
+    fn prefixed(&mut self, cursor: &mut Cursor) -> Result<Formula, TextError> {
+        self.depth += 1;
+        self.nodes += 1;
+        if self.depth > DEEPEST || self.nodes > LONGEST {
+            return Err(too_deep(cursor.here()));
+        }
+        let formula = self.by_first_token(cursor);
+        self.depth -= 1;
+        formula
+    }
+
+    fn by_first_token(&mut self, cursor: &mut Cursor) -> Result<Formula, TextError> {
+        let here = cursor.here();
+        match cursor.peek().map(|t| &t.kind) {
+            Some(Kind::Sign("(")) => {
+                cursor.take();
+                let formula = self.or(cursor)?;
+                cursor.expect_sign(")")?;
+                Ok(formula)
+            }
+            Some(Kind::Sign("!")) => {
+                cursor.take();
+                self.negated(cursor)
+            }
+            Some(Kind::Word(word)) => {
+                cursor.take();
+                self.by_word(word, here, cursor)
+            }
+            _ => Err(cursor.unexpected(START)),
+        }
+    }
+
+    fn by_word(
+        &mut self,
+        word: &str,
+        span: Span,
+        cursor: &mut Cursor,
+    ) -> Result<Formula, TextError> {
+        match word {
+            "top" => Ok(Formula::Top),
+            "bottom" => Ok(Formula::Bottom),
+            "AX" => Ok(Formula::AllNext(Box::new(self.prefixed(cursor)?))),
+            "EX" => Ok(Formula::SomeNext(Box::new(self.prefixed(cursor)?))),
+            "mu" | "nu" => self.binder(word == "mu", cursor),
+            _ => self.name(word, span),
+        }
+    }
+
+    fn binder(&mut self, least: bool, cursor: &mut Cursor) -> Result<Formula, TextError> {
+        let (word, span) = cursor.expect_word("the name of a variable")?;
+        if !name_allowed(word) || self.propositions.iter().any(|p| p == word) {
+            let message = format!("`{word}` cannot name a variable");
+            let expected = match name_allowed(word) {
+                true => "expected a name that no proposition has",
+                false => "expected a name that begins with a letter and is no word of formulas",
+            };
+            return Err(TextError::new(span, message, expected));
+        }
+        cursor.expect_sign(".")?;
+        self.bound.push(word.to_string());
+        let body = self.or(cursor);
+        self.bound.pop();
+        let body = Box::new(body?);
+        Ok(match least {
+            true => Formula::Least(word.to_string(), body),
+            false => Formula::Greatest(word.to_string(), body),
+        })
+    }
+
+    fn negated(&mut self, cursor: &mut Cursor) -> Result<Formula, TextError> {
+        let wrong = |cursor: &Cursor| {
+            cursor.unexpected("a proposition: `!` stands before propositions only")
+        };
+        let Some(Token {
+            kind: Kind::Word(word),
+            span,
+        }) = cursor.peek()
+        else {
+            return Err(wrong(cursor));
+        };
+        if FORMULA_WORDS.contains(&word.as_str()) || self.bound.contains(word) {
+            return Err(wrong(cursor));
+        }
+        cursor.take();
+        match self.name(word, *span)? {
+            Formula::Proposition(p) => Ok(Formula::Negated(p)),
+            other => Ok(other),
+        }
+    }
+
+    fn name(&self, word: &str, span: Span) -> Result<Formula, TextError> {
+        if let Some(count) = self.bound.iter().rev().position(|v| v == word) {
+            return match u8::try_from(count) {
+                Ok(count) => Ok(Formula::Variable(count)),
+                Err(_) => Err(too_deep(span)),
+            };
+        }
+        if let Some(number) = self.propositions.iter().position(|p| p == word) {
+            return Ok(Formula::Proposition(number as u8));
+        }
+        let known = || {
+            self.propositions
+                .iter()
+                .chain(&self.bound)
+                .map(String::as_str)
+        };
+        let message = format!("`{word}` is neither a proposition nor a variable bound here");
+        let error = TextError::new(span, message, expected_one_of(known()));
+        Err(with_nearest(error, word, known().chain(FORMULA_WORDS)))
+    }
+}
+
+fn too_deep(span: Span) -> TextError {
+    let expected = format!("expected at most {DEEPEST} levels and {LONGEST} operators and names");
+    TextError::new(span, "the formula is too long", expected)
+}
+
+/// How tightly the place of a formula binds: what may stand there without parentheses.
+#[derive(Clone, Copy, PartialEq, PartialOrd)]
+enum Binding {
+    Or,
+    And,
+    Prefix,
+}
+
+/// A formula as text, with the fewest parentheses.
+pub fn print(formula: &Formula, propositions: &[String]) -> String {
+    let mut printer = Printer {
+        propositions,
+        bound: Vec::new(),
+        text: String::new(),
+    };
+    printer.at(formula, Binding::Or, true);
+    printer.text
+}
+
+struct Printer<'a> {
+    propositions: &'a [String],
+    bound: Vec<String>,
+    text: String,
+}
+
+impl Printer<'_> {
+    /// Prints a formula where `binding` may stand; `last` says that nothing follows it before the next `)` or the end, so
+    /// that a binder's body cannot swallow anything.
+    fn at(&mut self, formula: &Formula, binding: Binding, last: bool) {
+        let parentheses = match formula {
+            Formula::Or(..) => binding > Binding::Or,
+            Formula::And(..) => binding > Binding::And,
+            Formula::Least(..) | Formula::Greatest(..) => !last,
+            _ => false,
+        };
+        if parentheses {
+            self.text.push('(');
+            self.node(formula, true);
+            self.text.push(')');
+        } else {
+            self.node(formula, last);
+        }
+    }
+
+    fn node(&mut self, formula: &Formula, last: bool) {
+        match formula {
+            Formula::Bottom => self.text.push_str("bottom"),
+            Formula::Top => self.text.push_str("top"),
+            Formula::Proposition(p) => self.text.push_str(&self.propositions[usize::from(*p)]),
+            Formula::Negated(p) => {
+                self.text.push('!');
+                self.text.push_str(&self.propositions[usize::from(*p)]);
+            }
+            Formula::Variable(v) => {
+                let name = &self.bound[self.bound.len() - 1 - usize::from(*v)];
+                self.text.push_str(name);
+            }
+            Formula::Or(a, b) => self.two(a, " | ", b, (Binding::Or, Binding::And), last),
+            Formula::And(a, b) => self.two(a, " & ", b, (Binding::And, Binding::Prefix), last),
+            Formula::AllNext(f) => self.next("AX ", f, last),
+            Formula::SomeNext(f) => self.next("EX ", f, last),
+            Formula::Least(name, f) => self.binder("mu", name, f),
+            Formula::Greatest(name, f) => self.binder("nu", name, f),
+        }
+    }
+
+    fn two(
+        &mut self,
+        a: &Formula,
+        sign: &str,
+        b: &Formula,
+        bindings: (Binding, Binding),
+        last: bool,
+    ) {
+        self.at(a, bindings.0, false);
+        self.text.push_str(sign);
+        self.at(b, bindings.1, last);
+    }
+
+    fn next(&mut self, word: &str, f: &Formula, last: bool) {
+        self.text.push_str(word);
+        self.at(f, Binding::Prefix, last);
+    }
+
+    /// A binder keeps its name unless that would hide an outer variable that the body uses.
+    fn binder(&mut self, word: &str, name: &str, body: &Formula) {
+        let mut name = name.to_string();
+        while self.propositions.contains(&name) || self.hides(&name, body) {
+            name.push('\'');
+        }
+        self.text.push_str(&format!("{word} {name}. "));
+        self.bound.push(name);
+        self.at(body, Binding::Or, true);
+        self.bound.pop();
+    }
+
+    fn hides(&self, name: &str, body: &Formula) -> bool {
+        let outer = self.bound.iter().rev().enumerate();
+        outer
+            .into_iter()
+            .any(|(i, n)| n == name && uses(body, i + 1))
+    }
+}
+
+/// Whether a variable with this count of binders between occurs.
+fn uses(formula: &Formula, count: usize) -> bool {
+    match formula {
+        Formula::Variable(v) => usize::from(*v) == count,
+        Formula::Least(_, f) | Formula::Greatest(_, f) => uses(f, count + 1),
+        other => other.within().iter().any(|f| uses(f, count)),
+    }
+}

@@ -1,0 +1,429 @@
+//! The lattice as text: `chain`, `power`, `product`, `panel`, or an order by its elements.
+
+use crate::errors::{Span, TextError};
+use crate::lattice::{Lattice, OrderTable, PANEL_LETTERS};
+use crate::lexer::{Cursor, Statement};
+use crate::names::{self, declare, lookup, Name, MOST_NAMES};
+use crate::parse::no_part;
+
+const FORMS: &str = "`chain`, `power`, `product`, `panel`, `order` or `order exactly`";
+
+/// Reads a lattice from its statements: the one that begins with `lattice`, and those that follow it.
+pub fn parse(statements: &[Statement]) -> Result<Lattice, Vec<TextError>> {
+    let mut cursor = Cursor::new(&statements[0]);
+    cursor.take_word("lattice");
+    if cursor.take_word("order") {
+        let exactly = cursor.take_word("exactly");
+        cursor
+            .expect_end("`exactly` or the end of the line")
+            .map_err(one)?;
+        return order(&statements[1..], names::whole(&statements[0]), exactly).map(Lattice::Order);
+    }
+    let lattice = form(&mut cursor, 0).map_err(one)?;
+    cursor.expect_end("the end of the line").map_err(one)?;
+    match statements.get(1) {
+        None => Ok(lattice),
+        Some(next) => Err(one(no_part(next))),
+    }
+}
+
+fn one(error: TextError) -> Vec<TextError> {
+    vec![error]
+}
+
+/// A lattice by form; `depth` counts the products around it.
+fn form(cursor: &mut Cursor, depth: usize) -> Result<Lattice, TextError> {
+    let span = cursor.here();
+    let lattice = match cursor.peek_word() {
+        Some("chain") => Lattice::Chain(element_names(cursor)?),
+        Some("power") => Lattice::Power(element_names(cursor)?),
+        Some("panel") => {
+            cursor.take();
+            Lattice::Panel
+        }
+        Some("product") if depth < 8 => product(cursor, depth)?,
+        _ => return Err(cursor.unexpected(FORMS)),
+    };
+    match lattice.size() {
+        1..=MOST_NAMES => Ok(lattice),
+        _ => Err(TextError::new(
+            span,
+            "this lattice has too many elements to be written",
+            format!("expected at most {MOST_NAMES} (the desk takes at most 64)"),
+        )),
+    }
+}
+
+fn element_names(cursor: &mut Cursor) -> Result<Vec<String>, TextError> {
+    cursor.take();
+    let mut declared = Vec::new();
+    declare(
+        names::names(cursor, "the names of the elements")?,
+        &mut declared,
+        "element",
+    )?;
+    Ok(names::texts(declared))
+}
+
+fn product(cursor: &mut Cursor, depth: usize) -> Result<Lattice, TextError> {
+    cursor.take();
+    let mut factors = Vec::new();
+    while factors.is_empty() || cursor.at_sign("(") {
+        cursor.expect_sign("(")?;
+        factors.push(form(cursor, depth + 1)?);
+        cursor.expect_sign(")")?;
+    }
+    Ok(Lattice::Product(factors))
+}
+
+/// What the statements of an order have said so far.
+struct Order {
+    elements: Vec<Name>,
+    names: Vec<String>,
+    order: Vec<bool>,
+    complement: Vec<Option<u8>>,
+    row_given: Vec<bool>,
+}
+
+/// An order from its statements.
+fn order(
+    statements: &[Statement],
+    head: Span,
+    exactly: bool,
+) -> Result<OrderTable, Vec<TextError>> {
+    let (declarations, rest): (Vec<_>, Vec<_>) = statements
+        .iter()
+        .partition(|s| names::is_word(&s[0], "elements"));
+    let elements = names::declared(declarations, "element").map_err(one)?;
+    if elements.is_empty() {
+        let expected = "expected a line `elements` with the names of the elements after it";
+        return Err(one(TextError::new(
+            head,
+            "the order has no elements",
+            expected,
+        )));
+    }
+    let mut order = Order::new(elements);
+    let read = if exactly {
+        Order::exact_line
+    } else {
+        Order::line
+    };
+    let errors: Vec<TextError> = rest
+        .iter()
+        .filter_map(|s| read(&mut order, Cursor::new(s)).err())
+        .collect();
+    match errors.is_empty() {
+        true => order.finish(exactly, head),
+        false => Err(errors),
+    }
+}
+
+impl Order {
+    fn new(elements: Vec<Name>) -> Order {
+        let n = elements.len();
+        Order {
+            names: elements.iter().map(|e| e.text.clone()).collect(),
+            elements,
+            order: vec![false; n * n],
+            complement: vec![None; n],
+            row_given: vec![false; n],
+        }
+    }
+
+    fn element(&self, cursor: &mut Cursor) -> Result<(u8, Span), TextError> {
+        let (word, span) = cursor.expect_word("an element")?;
+        Ok((lookup(word, span, &self.names, "element")?, span))
+    }
+
+    /// `a <= b <= c`, or `not a = b`.
+    fn line(&mut self, mut cursor: Cursor) -> Result<(), TextError> {
+        if cursor.take_word("not") {
+            let (a, span) = self.element(&mut cursor)?;
+            cursor.expect_sign("=")?;
+            let (b, _) = self.element(&mut cursor)?;
+            cursor.expect_end("the end of the line")?;
+            self.set_complement(a, b, span)?;
+            return self.set_complement(b, a, span);
+        }
+        let (mut low, _) = self.element(&mut cursor)?;
+        loop {
+            cursor.expect_sign("<=")?;
+            let (high, _) = self.element(&mut cursor)?;
+            self.order[usize::from(low) * self.names.len() + usize::from(high)] = true;
+            low = high;
+            if cursor.at_end() {
+                return Ok(());
+            }
+        }
+    }
+
+    fn set_complement(&mut self, a: u8, b: u8, span: Span) -> Result<(), TextError> {
+        let given = &mut self.complement[usize::from(a)];
+        if given.is_some_and(|other| other != b) {
+            let message = format!(
+                "the complement of `{}` is given twice",
+                self.names[usize::from(a)]
+            );
+            let expected = "expected one complement for each element, and it to be the complement's complement";
+            return Err(TextError::new(span, message, expected));
+        }
+        *given = Some(b);
+        Ok(())
+    }
+
+    /// `row a: 1 0 1 not b`.
+    fn exact_line(&mut self, mut cursor: Cursor) -> Result<(), TextError> {
+        if !cursor.take_word("row") {
+            return Err(cursor.unexpected("`elements` or `row`"));
+        }
+        let (a, span) = self.element(&mut cursor)?;
+        cursor.expect_sign(":")?;
+        let (a, n) = (usize::from(a), self.names.len());
+        if std::mem::replace(&mut self.row_given[a], true) {
+            let message = format!("the row of `{}` is given twice", self.names[a]);
+            return Err(TextError::new(
+                span,
+                message,
+                "expected one row for each element",
+            ));
+        }
+        for j in 0..n {
+            let expected = format!(
+                "0 or 1: is `{}` at or below `{}`?",
+                self.names[a], self.names[j]
+            );
+            match cursor.peek_word() {
+                Some(bit @ ("0" | "1")) => self.order[a * n + j] = bit == "1",
+                _ => return Err(cursor.unexpected(&expected)),
+            }
+            cursor.take();
+        }
+        if !cursor.take_word("not") {
+            return Err(cursor.unexpected("`not` and the complement"));
+        }
+        self.complement[a] = Some(self.element(&mut cursor)?.0);
+        cursor.expect_end("the end of the line")
+    }
+
+    fn finish(mut self, exactly: bool, head: Span) -> Result<OrderTable, Vec<TextError>> {
+        let missing = self.complement.iter().position(Option::is_none);
+        if let Some(a) = missing {
+            let name = &self.names[a];
+            let (what, expected) = match exactly {
+                true => (
+                    "row",
+                    format!("expected a line `row {name}: ... not ...` after it"),
+                ),
+                false => (
+                    "complement",
+                    format!("expected a line `not {name} = ...` after it"),
+                ),
+            };
+            let message = format!("the {what} of `{name}` is missing");
+            let span = self.elements.get(a).map_or(head, |e| e.span);
+            return Err(one(TextError::new(span, message, expected)));
+        }
+        if !exactly {
+            close(&mut self.order, self.names.len());
+        }
+        Ok(OrderTable {
+            complement: self.complement.into_iter().flatten().collect(),
+            elements: self.names,
+            order: self.order,
+        })
+    }
+}
+
+/// Closes a relation so that it is reflexive and transitive.
+fn close(order: &mut [bool], n: usize) {
+    for i in 0..n {
+        order[i * n + i] = true;
+    }
+    for through in 0..n {
+        for i in 0..n {
+            for j in 0..n {
+                order[i * n + j] |= order[i * n + through] && order[through * n + j];
+            }
+        }
+    }
+}
+
+/// Reads an element of a lattice.
+pub fn element(cursor: &mut Cursor, lattice: &Lattice) -> Result<u8, TextError> {
+    let span = cursor.here();
+    let named = match lattice {
+        Lattice::Chain(names) => Some(names),
+        Lattice::Order(table) => Some(&table.elements),
+        _ => None,
+    };
+    let word = cursor.peek_word();
+    let own_name = named.is_some_and(|names| names.iter().any(|n| Some(n.as_str()) == word));
+    if let (Some(word @ ("top" | "bottom")), false) = (word, own_name) {
+        cursor.take();
+        return extreme(lattice, word, span);
+    }
+    match lattice {
+        Lattice::Chain(names)
+        | Lattice::Order(OrderTable {
+            elements: names, ..
+        }) => {
+            let (word, span) = cursor.expect_word("an element of the lattice")?;
+            lookup(word, span, names, "element")
+        }
+        Lattice::Power(names) => subset(cursor, names),
+        Lattice::Product(factors) => tuple(cursor, factors),
+        Lattice::Panel => panel_element(cursor),
+    }
+}
+
+fn extreme(lattice: &Lattice, word: &str, span: Span) -> Result<u8, TextError> {
+    let found = if word == "top" {
+        lattice.top()
+    } else {
+        lattice.bottom()
+    };
+    match found {
+        Some(element) => Ok(element as u8),
+        None => Err(TextError::new(
+            span,
+            format!("this order has no {word}"),
+            "expected the name of an element",
+        )),
+    }
+}
+
+fn subset(cursor: &mut Cursor, names: &[String]) -> Result<u8, TextError> {
+    if !cursor.take_sign("{") {
+        return Err(cursor.unexpected("a set such as `{}` or `{a, b}`, `top` or `bottom`"));
+    }
+    let mut bits = 0u8;
+    while !cursor.at_sign("}") {
+        let (word, span) = cursor.expect_word("a member of the set or `}`")?;
+        bits |= 1 << lookup(word, span, names, "member of the power set's base")?;
+        if !cursor.at_sign("}") {
+            cursor.expect_sign(",")?;
+        }
+    }
+    cursor.expect_sign("}")?;
+    Ok(bits)
+}
+
+fn tuple(cursor: &mut Cursor, factors: &[Lattice]) -> Result<u8, TextError> {
+    if !cursor.take_sign("(") {
+        let expected = format!(
+            "`(` and an element with {} places, `top` or `bottom`",
+            factors.len()
+        );
+        return Err(cursor.unexpected(&expected));
+    }
+    let mut number = 0;
+    for (i, factor) in factors.iter().enumerate() {
+        if i > 0 {
+            cursor.expect_sign(",")?;
+        }
+        number = number * factor.size() + usize::from(element(cursor, factor)?);
+    }
+    cursor.expect_sign(")")?;
+    Ok(number as u8)
+}
+
+fn panel_element(cursor: &mut Cursor) -> Result<u8, TextError> {
+    let expected =
+        "three letters of `y` (yes), `?` (unsure), `n` (no), such as `y?n`, `top` or `bottom`";
+    let letters: Vec<char> = cursor.peek_word().unwrap_or("").chars().collect();
+    let places: Option<Vec<usize>> = letters
+        .iter()
+        .map(|c| PANEL_LETTERS.iter().position(|l| l == c))
+        .collect();
+    match places.as_deref() {
+        Some([a, b, c]) => {
+            cursor.take();
+            Ok((9 * a + 3 * b + c) as u8)
+        }
+        _ => Err(cursor.unexpected(expected)),
+    }
+}
+
+/// A lattice as its statements.
+pub fn print(lattice: &Lattice) -> String {
+    match lattice {
+        Lattice::Order(table) => print_order(lattice, table),
+        other => format!("lattice {}\n", print_form(other)),
+    }
+}
+
+fn print_form(lattice: &Lattice) -> String {
+    match lattice {
+        Lattice::Chain(list) => format!("chain {}", names::written(list)),
+        Lattice::Power(list) => format!("power {}", names::written(list)),
+        Lattice::Product(factors) => {
+            let factors: Vec<String> = factors
+                .iter()
+                .map(|f| format!("({})", print_form(f)))
+                .collect();
+            format!("product {}", factors.join(" "))
+        }
+        Lattice::Panel => "panel".to_string(),
+        Lattice::Order(_) => "order".to_string(),
+    }
+}
+
+/// An order by the pairs of neighbours where it is a partial order whose complement goes back and forth; else exactly.
+fn print_order(lattice: &Lattice, table: &OrderTable) -> String {
+    let n = table.elements.len();
+    let name = |a: usize| &table.elements[a];
+    let not = |a: usize| usize::from(table.complement[a]);
+    if !(partial_order(lattice) && (0..n).all(|a| not(not(a)) == a)) {
+        return print_exactly(table);
+    }
+    let mut text = format!(
+        "lattice order\n  elements {}\n",
+        names::written(&table.elements)
+    );
+    for a in 0..n {
+        for b in (0..n).filter(|b| covers(lattice, a, *b)) {
+            text.push_str(&format!("  {} <= {}\n", name(a), name(b)));
+        }
+    }
+    for a in (0..n).filter(|a| *a <= not(*a)) {
+        text.push_str(&format!("  not {} = {}\n", name(a), name(not(a))));
+    }
+    text
+}
+
+fn print_exactly(table: &OrderTable) -> String {
+    let n = table.elements.len();
+    let mut text = format!(
+        "lattice order exactly\n  elements {}\n",
+        names::written(&table.elements)
+    );
+    for a in 0..n {
+        let bits: Vec<&str> = (0..n)
+            .map(|b| if table.order[a * n + b] { "1" } else { "0" })
+            .collect();
+        let not = &table.elements[usize::from(table.complement[a])];
+        text.push_str(&format!(
+            "  row {}: {} not {}\n",
+            table.elements[a],
+            bits.join(" "),
+            not
+        ));
+    }
+    text
+}
+
+/// Whether the order is reflexive, antisymmetric and transitive.
+pub fn partial_order(lattice: &Lattice) -> bool {
+    let n = lattice.size();
+    let le = |a, b| lattice.at_most(a, b);
+    let pair = |a, b| a == b || !(le(a, b) && le(b, a));
+    let triple = |a, b| !le(a, b) || (0..n).all(|c| !le(b, c) || le(a, c));
+    (0..n).all(|a| le(a, a) && (0..n).all(|b| pair(a, b) && triple(a, b)))
+}
+
+/// Whether b is above a with nothing between.
+pub fn covers(lattice: &Lattice, a: usize, b: usize) -> bool {
+    let below = |x: usize, y: usize| x != y && lattice.at_most(x, y);
+    below(a, b) && !(0..lattice.size()).any(|c| below(a, c) && below(c, b))
+}

@@ -1,0 +1,106 @@
+// What the case is, and small helpers.
+
+// An error is said on the page: a page that broke must not be taken for a whole one.
+function failed(message) {
+  const place = document.getElementById("errors");
+  place.hidden = false;
+  place.textContent += `This page is broken: ${message}. `;
+}
+window.addEventListener("error", (event) => failed(event.message));
+window.addEventListener("unhandledrejection", (event) => failed(String(event.reason)));
+
+// The case as the tool wrote it. All that the page says of it stands there; the script looks it up.
+const data = JSON.parse(document.getElementById("case").textContent);
+const lattice = data.lattice;
+const T = data.rounds.length - 1;
+const SVG = document.querySelector("svg").namespaceURI;
+
+// The element of the page with this id.
+function at(id) {
+  return document.getElementById(id);
+}
+
+// Sets attributes (handlers by `onclick` and the like) and puts nodes or text inside.
+function fill(node, attributes, inside) {
+  for (const [name, value] of Object.entries(attributes)) {
+    if (typeof value === "function") node.addEventListener(name.slice(2), value);
+    else if (value !== false) node.setAttribute(name, value === true ? "" : value);
+  }
+  node.append(...inside);
+  return node;
+}
+
+function make(tag, attributes = {}, ...inside) {
+  return fill(document.createElement(tag), attributes, inside);
+}
+
+function draw(tag, attributes = {}, ...inside) {
+  return fill(document.createElementNS(SVG, tag), attributes, inside);
+}
+
+// What people call a model: `model 1 (student)`.
+function modelName(m) {
+  const title = data.models[m].title;
+  return title ? `model ${m + 1} (${title})` : `model ${m + 1}`;
+}
+
+function capital(text) {
+  return text[0].toUpperCase() + text.slice(1);
+}
+
+function count(number, what) {
+  return `${number} ${what}${number === 1 ? "" : "s"}`;
+}
+
+// An element's name in its colour.
+function chip(element) {
+  return make("span", { class: `chip h${lattice.height[element]}` }, lattice.names[element]);
+}
+
+// A table of nodes or text: the first row and the first cell of each other row are headings.
+function tableOf(caption, rows) {
+  const [head, ...body] = rows;
+  const cells = (row) => row.slice(1).map((cell) => make("td", {}, cell));
+  return make(
+    "table",
+    {},
+    ...(caption ? [make("caption", {}, caption)] : []),
+    make("thead", {}, make("tr", {}, ...head.map((cell) => make("th", { scope: "col" }, cell)))),
+    make("tbody", {}, ...body.map((row) => make("tr", {}, make("th", { scope: "row" }, row[0]), ...cells(row)))),
+  );
+}
+
+// A box in which a wide or long table scrolls; it takes the focus so that keys can scroll it.
+function scrolling(label, table) {
+  return make("div", { class: "scroll", tabindex: "0", role: "region", "aria-label": label }, table);
+}
+
+// How wide a text of 18 units is in a drawing.
+const ruler = document.createElement("canvas").getContext("2d");
+function textWidth(text, bold = false) {
+  ruler.font = `${bold ? "bold " : ""}18px ${getComputedStyle(document.body).fontFamily}`;
+  return ruler.measureText(text).width;
+}
+
+// A text cut to so many characters.
+function short(text, most) {
+  const letters = [...text];
+  return letters.length > most ? `${letters.slice(0, most - 1).join("")}\u2026` : text;
+}
+
+// Arrow keys, Home and End over a list with one place in the order of Tab; `move` gives the next place or undefined.
+function roving(box, selector, move) {
+  box.addEventListener("keydown", (event) => {
+    const from = event.target.closest(selector);
+    const to = from && !event.altKey && !event.ctrlKey && !event.metaKey && move(from, event.key);
+    if (!to) return;
+    event.preventDefault();
+    to.focus();
+  });
+  box.addEventListener("focusin", (event) => {
+    const now = event.target.closest(selector);
+    if (!now) return;
+    box.querySelectorAll(`${selector}[tabindex="0"]`).forEach((node) => node.setAttribute("tabindex", "-1"));
+    now.setAttribute("tabindex", "0");
+  });
+}

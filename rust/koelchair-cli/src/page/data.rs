@@ -1,0 +1,155 @@
+//! What the page shows, as JSON. Entries of every round, scores, T and the formulas' values come from the library. Names,
+//! transitions and the order are those of the case. Heights, covering pairs and the table of (not a) joined with b come from the
+//! order, by `tables` as in `explain`: the library has no call for a single operation of the lattice.
+
+use super::json::{array, numbers, object, string, strings};
+use crate::case::{Case, NamedFormula};
+use crate::commands::{Failure, Opened};
+use crate::formula_text;
+use crate::lattice::Lattice;
+use crate::lattice_text::covers;
+use crate::model::Model;
+use crate::tables::Operations;
+use koelchair::{Desk, Element, State, StepAnswer};
+
+/// The JSON of an opened case. Afterwards the desk is settled.
+pub fn of(opened: &mut Opened) -> Result<String, Failure> {
+    let no_lattice = || {
+        Failure::Other(
+            "the library accepts this lattice, and this tool finds no meets in it".to_string(),
+        )
+    };
+    let operations = Operations::of(&opened.case.lattice).ok_or_else(no_lattice)?;
+    let first = numbers(opened.desk.show());
+    let rounds = rounds(&mut opened.desk);
+    let case = &opened.case;
+    let formula = |(f, named)| formula(case, &opened.desk, f, named);
+    let formulas: Vec<String> = case
+        .formulas
+        .iter()
+        .enumerate()
+        .map(formula)
+        .collect::<Result<_, _>>()?;
+    Ok(object(&[
+        ("title", string(case.title.as_deref().unwrap_or(""))),
+        ("about", string(&case.head.join(" "))),
+        ("lattice", lattice(&case.lattice, &operations)),
+        ("propositions", strings(&case.propositions)),
+        (
+            "models",
+            array(case.models.iter().map(|m| model(m, operations.bottom))),
+        ),
+        ("formulas", array(formulas)),
+        ("first", first),
+        ("rounds", array(rounds)),
+    ]))
+}
+
+/// For each round from 0 to T: its score, then for each entry that differs from the round before its place and its element.
+/// The last is the round that the library calls settled. An entry never rises, so there are at most N1·N2·(n − 1) changes.
+fn rounds(desk: &mut Desk) -> Vec<String> {
+    let mut rounds = vec![numbers([desk.score().0])];
+    loop {
+        let before = desk.show().to_vec();
+        let mut answer = desk.step();
+        while answer == StepAnswer::Row {
+            answer = desk.step();
+        }
+        let changes = desk
+            .show()
+            .iter()
+            .enumerate()
+            .filter(|(i, e)| before[*i] != **e);
+        let mut round = vec![usize::from(desk.score().0)];
+        round.extend(changes.flat_map(|(i, e)| [i, usize::from(*e)]));
+        rounds.push(numbers(round));
+        if matches!(answer, StepAnswer::Settled(_)) {
+            return rounds;
+        }
+    }
+}
+
+/// Names, complements, heights, covering pairs, (not a) joined with b at a·n + b, and whether a is at or below b.
+fn lattice(lattice: &Lattice, operations: &Operations) -> String {
+    let n = lattice.size();
+    let pairs = || (0..n * n).map(move |i| (i / n, i % n));
+    let element = |(a, b)| (a as u8, b as u8);
+    let implies = pairs().map(element).map(|(a, b)| operations.implies(a, b));
+    let at_most = pairs()
+        .map(element)
+        .map(|(a, b)| u8::from(operations.at_most(a, b)));
+    let covering = pairs()
+        .filter(|(a, b)| covers(lattice, *a, *b))
+        .map(|(a, b)| numbers([a, b]));
+    object(&[
+        ("names", strings((0..n).map(|a| lattice.name(a)))),
+        ("complement", numbers((0..n).map(|a| lattice.complement(a)))),
+        ("height", numbers(heights(lattice))),
+        ("covers", array(covering)),
+        ("implies", numbers(implies)),
+        ("atMost", numbers(at_most)),
+        ("bottom", operations.bottom.to_string()),
+        ("top", operations.top.to_string()),
+    ])
+}
+
+/// Each element's height: the length of the longest way up to it from bottom.
+fn heights(lattice: &Lattice) -> Vec<usize> {
+    let n = lattice.size();
+    let below = |a: usize| (0..n).filter(move |b| *b != a && lattice.at_most(*b, a));
+    let mut rising: Vec<usize> = (0..n).collect();
+    rising.sort_by_key(|a| below(*a).count());
+    let mut heights = vec![0; n];
+    for a in rising {
+        heights[a] = below(a).map(|b| heights[b] + 1).max().unwrap_or(0);
+    }
+    heights
+}
+
+/// A model; transitions of the value bottom are left out.
+fn model(model: &Model, bottom: u8) -> String {
+    let size = model.size();
+    let transitions = model
+        .transitions
+        .iter()
+        .enumerate()
+        .filter(|(_, value)| **value != bottom)
+        .map(|(i, value)| numbers([i / size, i % size, usize::from(*value)]));
+    object(&[
+        ("title", string(model.title.as_deref().unwrap_or(""))),
+        ("states", strings(&model.states)),
+        ("initial", numbers(&model.initial)),
+        ("propositions", numbers(&model.propositions)),
+        ("transitions", array(transitions)),
+    ])
+}
+
+/// A formula with its values on both whole models and at each of their states.
+fn formula(case: &Case, desk: &Desk, f: usize, named: &NamedFormula) -> Result<String, Failure> {
+    let refused = |refusal: koelchair::Refusal| Failure::Other(refusal.to_string());
+    let elements = |list: Vec<Element>| numbers(list.iter().map(|e| e.0));
+    let whole: Vec<Element> = (1..=2)
+        .map(|m| desk.whole(f as u8, m).map_err(refused))
+        .collect::<Result<_, _>>()?;
+    let values = |m: u8| {
+        let states = 0..case.models[usize::from(m) - 1].size();
+        let values = states.map(|q| desk.value(f as u8, m, State(q as u8)));
+        values
+            .collect::<Result<Vec<_>, _>>()
+            .map(elements)
+            .map_err(refused)
+    };
+    let text = formula_text::print(&named.formula, &case.propositions);
+    Ok(object(&[
+        ("name", string(&named.name)),
+        ("text", string(&text)),
+        ("universal", named.formula.universal().to_string()),
+        (
+            "fixpoints",
+            (named.formula.nested_binders() > 0).to_string(),
+        ),
+        ("nestedAx", named.formula.nested_ax().to_string()),
+        ("whole", elements(whole)),
+        ("values", array([values(1)?, values(2)?])),
+    ]))
+}

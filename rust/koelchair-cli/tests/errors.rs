@@ -1,0 +1,192 @@
+//! Each kind of wrong text and of refusal gives its message: `wrong/NAME.case` gives `wrong/NAME.message`.
+
+mod common;
+
+use common::{examples, files, folder, run, text, Random};
+
+#[test]
+fn every_wrong_text_gives_its_message() {
+    let cases = files(&folder("tests/wrong"), "case");
+    assert!(cases.len() > 80, "the wrong texts are there");
+    for case in cases {
+        let ran = run(&["check", "-"], text(&case).as_bytes());
+        assert_eq!(ran.text(), "", "{}", case.display());
+        assert_eq!(
+            ran.err,
+            text(&case.with_extension("message")),
+            "{}",
+            case.display()
+        );
+        let refused = case
+            .file_name()
+            .is_some_and(|n| n.to_string_lossy().starts_with("refused-"));
+        assert_eq!(
+            ran.status,
+            if refused { 1 } else { 2 },
+            "{}",
+            case.display()
+        );
+    }
+}
+
+#[test]
+fn every_refusal_of_open_has_a_message() {
+    let messages = files(&folder("tests/wrong"), "message");
+    for number in 1..=10 {
+        let first = format!("refused {number} ");
+        assert!(
+            messages.iter().any(|m| text(m).starts_with(&first)),
+            "refusal {number}"
+        );
+    }
+}
+
+fn usage_error(arguments: &[&str], message: &str) {
+    let ran = run(arguments, &[]);
+    assert_eq!(ran.status, 2, "{arguments:?}");
+    assert_eq!(
+        ran.err.lines().next(),
+        Some(format!("error: {message}").as_str()),
+        "{arguments:?}"
+    );
+}
+
+#[test]
+fn wrong_commands_are_said() {
+    let example = examples()[0].display().to_string();
+    usage_error(&[], "expected a sub-command");
+    usage_error(&["chek"], "`chek` is no sub-command");
+    usage_error(&["check"], "expected FILE, got 0 arguments");
+    usage_error(
+        &["check", "--all", &example],
+        "the option `--all` is not known here",
+    );
+    usage_error(&["step", "--rounds"], "`--rounds` wants a value after it");
+    usage_error(
+        &["step", "--rounds", "two", &example],
+        "`two` is no number of rounds",
+    );
+    usage_error(
+        &["explain", &example],
+        "expected FILE STATE1 STATE2, got 1 arguments",
+    );
+    usage_error(
+        &["explain", &example, "od", "old"],
+        "`od` is no state of model 1; a similar name is `old`",
+    );
+    usage_error(
+        &["explain", &example, "old", "elsewhere"],
+        "`elsewhere` is no state of model 2",
+    );
+    usage_error(
+        &["report", "--share", "", &example],
+        "`--share` wants an element",
+    );
+    usage_error(
+        &["report", "--share", "maybe", &example],
+        "`maybe` is no element",
+    );
+    usage_error(
+        &["check", "no-such-file"],
+        "no-such-file: No such file or directory (os error 2)",
+    );
+}
+
+#[test]
+fn bytes_are_no_text() {
+    let ran = run(&["check", "-"], &[3, 255]);
+    assert_eq!(ran.status, 2);
+    assert_eq!(
+        ran.err,
+        "error: <stdin>: this is no text (for the bytes of a case: --bytes)\n"
+    );
+}
+
+#[test]
+fn bytes_are_read_where_that_is_asked() {
+    for file in examples() {
+        let file = file.display().to_string();
+        let bytes = run(&["encode", &file], &[]).out;
+        let ran = run(&["check", "--bytes", "-"], &bytes);
+        assert_eq!(ran.status, run(&["check", &file], &[]).status, "{file}");
+    }
+}
+
+#[test]
+fn help_and_version_are_given() {
+    let version = run(&["--version"], &[]);
+    assert_eq!(
+        version.text(),
+        format!("koelchair {}\n", env!("CARGO_PKG_VERSION"))
+    );
+    let all = run(&["--help"], &[]).text();
+    for command in [
+        "check", "report", "step", "explain", "encode", "decode", "page",
+    ] {
+        assert!(
+            all.contains(&format!("  koelchair {command} ")),
+            "{command}"
+        );
+        let help = run(&[command, "--help"], &[]);
+        assert_eq!(help.status, 0);
+        assert!(
+            help.text().starts_with(&format!("koelchair {command} ")),
+            "{command}"
+        );
+    }
+}
+
+/// Texts with a few characters taken out, put in or replaced: each is accepted, refused or wrong, and says so.
+#[test]
+fn damaged_texts_are_said_to_be_wrong() {
+    let mut random = Random(0xbad);
+    let texts: Vec<String> = examples()
+        .iter()
+        .map(|f| text(f))
+        .filter(|t| t.len() < 4000)
+        .collect();
+    let mut seen = [0; 3];
+    for _ in 0..4000 {
+        let mut damaged: Vec<char> = random.one_of(&texts).chars().collect();
+        for _ in 0..1 + random.below(3) {
+            let at = random.below(damaged.len());
+            let character = random.one_of(&[
+                '(', ')', '{', '}', ':', '-', '>', '.', '"', '#', '\n', ' ', '0', 'q', '\u{fc}',
+                '=',
+            ]);
+            match random.below(3) {
+                0 => drop(damaged.remove(at)),
+                1 => damaged.insert(at, character),
+                _ => damaged[at] = character,
+            }
+        }
+        let damaged: String = damaged.into_iter().collect();
+        let ran = run(&["check", "-"], damaged.as_bytes());
+        seen[usize::from(ran.status)] += 1;
+        assert_eq!(ran.err.is_empty(), ran.status == 0, "{damaged}");
+        assert_eq!(
+            ran.err.contains("--> <stdin>:"),
+            ran.status == 2 || ran.err.contains(" | "),
+            "{damaged}"
+        );
+    }
+    assert!(
+        seen.iter().all(|count| *count > 50),
+        "each status occurs: {seen:?}"
+    );
+}
+
+/// A formula may be longer in a text than the desk takes it, up to a limit.
+#[test]
+fn long_formulas_go_to_the_desk_up_to_a_limit() {
+    let with = |count: usize| {
+        let formula = vec!["p"; count].join(" & ");
+        let text = format!("lattice panel\npropositions p\nmodel 1\nstates a\nmodel 2\nstates a\nformula f: {formula}\n");
+        run(&["check", "-"], text.as_bytes())
+    };
+    assert_eq!(with(85).status, 0);
+    assert!(with(2000).err.starts_with("refused 10 3: "));
+    assert!(with(2001)
+        .err
+        .starts_with("error: the formula is too long\n"));
+}

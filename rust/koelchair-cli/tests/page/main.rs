@@ -1,0 +1,319 @@
+//! `page`: what stands in the page of each example is what the library says, and no name can break out of it.
+
+mod json;
+
+use json::{read, Json};
+use koelchair::{Desk, State, StepAnswer};
+use koelchair_cli::commands::run;
+use koelchair_cli::tables::Operations;
+use std::path::PathBuf;
+use std::sync::OnceLock;
+
+/// Runs the tool; its exit status and what it printed.
+fn tool(arguments: &[&str], input: &str) -> (u8, String) {
+    let arguments: Vec<String> = arguments.iter().map(|a| a.to_string()).collect();
+    let (mut out, mut err) = (Vec::new(), Vec::new());
+    let status = run(&arguments, &mut input.as_bytes(), &mut out, &mut err);
+    (status, String::from_utf8(out).expect("text"))
+}
+
+/// An example that the desk accepts, with its page.
+struct Example {
+    name: String,
+    text: String,
+    html: String,
+    data: Json,
+}
+
+/// The examples that the desk accepts; their pages are made once.
+fn examples() -> &'static [Example] {
+    static EXAMPLES: OnceLock<Vec<Example>> = OnceLock::new();
+    EXAMPLES.get_or_init(|| {
+        let accepted = texts()
+            .into_iter()
+            .filter(|(_, text)| tool(&["check", "-"], text).0 == 0);
+        let with_page = |(name, text): (String, String)| {
+            let (html, data) = page(&text);
+            Example {
+                name,
+                text,
+                html,
+                data,
+            }
+        };
+        let examples: Vec<Example> = accepted.map(with_page).collect();
+        assert!(examples.len() > 15, "{} examples", examples.len());
+        examples
+    })
+}
+
+/// The names and texts of all examples.
+fn texts() -> Vec<(String, String)> {
+    let folder = PathBuf::from(env!("CARGO_MANIFEST_DIR")).join("../../examples");
+    let files = std::fs::read_dir(folder)
+        .expect("examples")
+        .map(|f| f.expect("file").path());
+    files
+        .filter(|f| f.extension().is_some_and(|e| e == "case"))
+        .map(|f| {
+            (
+                f.display().to_string(),
+                std::fs::read_to_string(f).expect("text"),
+            )
+        })
+        .collect()
+}
+
+/// The page of a text, and the JSON in it.
+fn page(text: &str) -> (String, Json) {
+    let (status, html) = tool(&["page", "-"], text);
+    assert_eq!(status, 0);
+    let (_, rest) = html
+        .split_once("<script type=\"application/json\" id=\"case\">")
+        .expect("the case");
+    let data = read(rest.split_once("</script>").expect("its end").0);
+    (html, data)
+}
+
+/// The table of every round, from the page's changes.
+fn tables(data: &Json) -> Vec<(usize, Vec<usize>)> {
+    let mut table = data.get("first").numbers();
+    let mut tables = Vec::new();
+    for round in data.get("rounds").items() {
+        let round = round.numbers();
+        for change in round[1..].chunks(2) {
+            assert_ne!(table[change[0]], change[1], "a change changes nothing");
+            table[change[0]] = change[1];
+        }
+        tables.push((round[0], table.clone()));
+    }
+    tables
+}
+
+/// The bytes of a text's case.
+fn bytes(text: &str) -> Vec<u8> {
+    let arguments = ["encode".to_string(), "-".to_string()];
+    let (mut out, mut err) = (Vec::new(), Vec::new());
+    assert_eq!(run(&arguments, &mut text.as_bytes(), &mut out, &mut err), 0);
+    out
+}
+
+fn shown(desk: &Desk) -> (usize, Vec<usize>) {
+    let entries = desk.show().iter().map(|e| usize::from(*e)).collect();
+    (usize::from(desk.score().0), entries)
+}
+
+#[test]
+fn rounds_are_the_librarys() {
+    for Example {
+        name, text, data, ..
+    } in examples()
+    {
+        let mut desk = Desk::open(&bytes(text)).expect("accepted");
+        let mut expected = vec![shown(&desk)];
+        loop {
+            match desk.step() {
+                StepAnswer::Row => {}
+                StepAnswer::Round(_) => expected.push(shown(&desk)),
+                StepAnswer::Settled(rounds) => {
+                    expected.push(shown(&desk));
+                    assert_eq!(expected.len(), rounds as usize + 1, "{name}");
+                    break;
+                }
+            }
+        }
+        assert!(tables(data) == expected, "{name}");
+    }
+}
+
+#[test]
+fn values_are_the_librarys() {
+    for Example {
+        name, text, data, ..
+    } in examples()
+    {
+        let desk = Desk::open(&bytes(text)).expect("accepted");
+        for (f, formula) in data.get("formulas").items().iter().enumerate() {
+            for model in 1..=2u8 {
+                let at = usize::from(model) - 1;
+                let whole = desk.whole(f as u8, model).expect("in range").0;
+                assert_eq!(
+                    formula.get("whole").items()[at],
+                    Json::Number(usize::from(whole)),
+                    "{name}"
+                );
+                for (q, value) in formula.get("values").items()[at]
+                    .numbers()
+                    .iter()
+                    .enumerate()
+                {
+                    let expected = desk
+                        .value(f as u8, model, State(q as u8))
+                        .expect("in range")
+                        .0;
+                    assert_eq!(*value, usize::from(expected), "{name}");
+                }
+            }
+        }
+    }
+}
+
+/// Whether a round covers a formula, by the page's words about it.
+fn covered(formula: &Json, round: usize, settled: bool) -> bool {
+    let plain = *formula.get("fixpoints") == Json::Bool(false);
+    let fewer = formula.get("nestedAx").number() < round;
+    *formula.get("universal") == Json::Bool(true) && (settled || plain && fewer)
+}
+
+#[test]
+fn covered_formulas_bound_every_entry() {
+    let mut covers = 0;
+    for Example { name, data, .. } in examples() {
+        let (lattice, tables) = (data.get("lattice"), tables(data));
+        let n = lattice.get("names").items().len();
+        let (implies, at_most) = (
+            lattice.get("implies").numbers(),
+            lattice.get("atMost").numbers(),
+        );
+        for (round, (_, table)) in tables.iter().enumerate() {
+            let settled = round + 1 == tables.len();
+            for formula in data
+                .get("formulas")
+                .items()
+                .iter()
+                .filter(|f| covered(f, round, settled))
+            {
+                let values: Vec<_> = formula
+                    .get("values")
+                    .items()
+                    .iter()
+                    .map(Json::numbers)
+                    .collect();
+                let columns = values[1].len();
+                for (place, entry) in table.iter().enumerate() {
+                    let bound =
+                        implies[values[1][place % columns] * n + values[0][place / columns]];
+                    assert_eq!(
+                        at_most[entry * n + bound],
+                        1,
+                        "{name}: round {round}, place {place}"
+                    );
+                }
+                covers += 1;
+            }
+        }
+    }
+    assert!(covers > 20, "{covers} formulas covered");
+}
+
+#[test]
+fn lattice_is_that_of_the_case() {
+    for Example {
+        name, text, data, ..
+    } in examples()
+    {
+        let source = koelchair_cli::errors::Source::new("example", text);
+        let lattice = koelchair_cli::parse::parse(source)
+            .ok()
+            .and_then(|t| t.case)
+            .expect("a case")
+            .lattice;
+        let operations = Operations::of(&lattice).expect("a lattice");
+        let said = data.get("lattice");
+        let (n, heights) = (lattice.size(), said.get("height").numbers());
+        let covers: Vec<_> = said
+            .get("covers")
+            .items()
+            .iter()
+            .map(Json::numbers)
+            .collect();
+        for a in 0..n {
+            assert_eq!(
+                said.get("names").items()[a].text(),
+                lattice.name(a),
+                "{name}"
+            );
+            assert_eq!(
+                said.get("complement").numbers()[a],
+                lattice.complement(a),
+                "{name}"
+            );
+            for b in 0..n {
+                let below = |x: usize, y: usize| x != y && operations.at_most(x as u8, y as u8);
+                let next = below(a, b) && !(0..n).any(|c| below(a, c) && below(c, b));
+                assert_eq!(covers.contains(&vec![a, b]), next, "{name}: {a} {b}");
+                assert!(!below(a, b) || heights[a] < heights[b], "{name}: {a} {b}");
+            }
+        }
+        assert_eq!(heights[usize::from(operations.bottom)], 0, "{name}");
+    }
+}
+
+#[test]
+fn transitions_at_bottom_are_left_out() {
+    let text = "lattice chain no unsure yes\nmodel 1\n states a b\n a -> b: unsure\n b -> a: no\nmodel 2\n states c\n c -> c\n";
+    let (_, data) = page(text);
+    let transitions = |m: usize| {
+        let list = data.get("models").items()[m].get("transitions").items();
+        list.iter().map(Json::numbers).collect::<Vec<_>>()
+    };
+    assert_eq!(
+        (transitions(0), transitions(1)),
+        (vec![vec![0, 1, 1]], vec![vec![0, 0, 2]])
+    );
+}
+
+#[test]
+fn names_cannot_break_out() {
+    let odd = "</script><!-- <script> & \\ ' \u{2028} \u{7} {title} é";
+    let text = format!(
+        "title \"{odd}\"\nlattice chain no yes\nmodel 1 \"{odd}\"\n states a\nmodel 2\n states b\n"
+    );
+    let (html, data) = page(&text);
+    assert_eq!(data.get("title").text(), odd);
+    assert_eq!(data.get("models").items()[0].get("title").text(), odd);
+    assert_eq!(html.matches("<script").count(), 2);
+    assert_eq!(html.matches("</script").count(), 2);
+    assert!(!html.contains("<!--"));
+    let (_, rest) = html.split_once("<script").expect("the case");
+    assert!(!rest.contains('\u{2028}') && !rest.contains('\u{7}'));
+    let title = html
+        .split_once("<title>")
+        .and_then(|(_, rest)| rest.split_once("</title>"));
+    assert!(title
+        .is_some_and(|(title, _)| title.starts_with("&lt;/script&gt;") && !title.contains('<')));
+}
+
+#[test]
+fn pages_ask_for_nothing_elsewhere() {
+    for Example { name, html, .. } in examples() {
+        for word in [
+            "http:",
+            "https:",
+            "//www",
+            "src=",
+            "@import",
+            "<link",
+            "fetch(",
+            "XMLHttpRequest",
+        ] {
+            assert!(!html.contains(word), "{name}: {word}");
+        }
+        assert!(html.contains("default-src 'none'"), "{name}");
+    }
+}
+
+#[test]
+fn the_greatest_page_is_small_enough() {
+    let longest = examples().iter().map(|e| e.html.len()).max();
+    assert!(
+        longest.is_some_and(|length| length < 3_000_000),
+        "{longest:?}"
+    );
+}
+
+#[test]
+fn a_refused_case_has_no_page() {
+    let text = "lattice order\n elements b x y z t\n b <= x\n b <= y\n b <= z\n x <= t\n y <= t\n z <= t\n not b = t\n not x = x\n not y = y\n not z = z\nmodel 1\n states a\nmodel 2\n states b\n";
+    assert_eq!(tool(&["page", "-"], text), (1, String::new()));
+}

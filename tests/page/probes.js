@@ -1,0 +1,132 @@
+// What the test asks of a page. Only the page's own elements are read; the script of the page is not touched.
+window.probe = {
+  standing() {
+    const rows = [...document.querySelectorAll("#table tbody tr")];
+    return {
+      entries: rows.map((row) => [...row.querySelectorAll(".cell")].map((cell) => cell.textContent)),
+      score: document.querySelector("#score .chip").textContent,
+      scoreText: document.getElementById("score").textContent,
+      banner: document.getElementById("banner-text").textContent,
+      caption: document.getElementById("table-caption").textContent,
+      settled: ["banner", "table-box"].map((id) => document.getElementById(id).dataset.settled),
+      round: document.getElementById("round").value,
+    };
+  },
+
+  // Of a table whose rows begin with a name: the elements in each row.
+  chips(box) {
+    const rows = [...document.querySelectorAll(`#${box} tbody tr`)];
+    return Object.fromEntries(rows.map((row) => [row.querySelector("th").textContent, [...row.querySelectorAll(".chip")].map((c) => c.textContent)]));
+  },
+
+  formulas() {
+    return { whole: this.chips("whole"), values: { 1: this.chips("values1"), 2: this.chips("values2") } };
+  },
+
+  pair() {
+    const cells = [...document.querySelectorAll('.cell[aria-pressed="true"]')];
+    return cells.flatMap((cell) => [cell.dataset.row, cell.dataset.column]);
+  },
+
+  pairLines() {
+    const rows = [...document.querySelectorAll("#pair tbody tr")];
+    return {
+      heading: document.getElementById("pair-heading").textContent,
+      lines: rows.map((row) => [...row.querySelectorAll("td")].map((cell) => cell.textContent)),
+    };
+  },
+
+  // Chooses every pair in turn and reads its formulas.
+  bounds() {
+    const found = [];
+    for (const cell of document.querySelectorAll(".cell")) {
+      cell.click();
+      const entry = document.querySelector("#pair-entry .chip").textContent;
+      for (const row of document.querySelectorAll("#pair tbody tr")) {
+        const [value2, value1, bound, below, covered] = [...row.querySelectorAll("td")].map((td) => td.textContent);
+        found.push({ value1, value2, bound, entry, below: below === "at or below", covered: covered.startsWith("covered") });
+      }
+    }
+    return found;
+  },
+
+  drawings() {
+    const graphs = [...document.querySelectorAll("[data-graph]")];
+    const texts = (node, selector) => [...node.querySelectorAll(selector)].map((text) => text.textContent);
+    return {
+      states: graphs.map((graph) => texts(graph, "text.name")),
+      arrows: graphs.map((graph) => graph.querySelectorAll(".edge").length),
+      values: graphs.map((graph) => texts(graph, ".value text").sort()),
+      elements: texts(document.querySelector("[data-hasse]"), ".element text"),
+      covers: document.querySelectorAll(".cover").length,
+    };
+  },
+
+  // The focused element; a place in a list where there are many of its sort, "" at the page's end.
+  focused() {
+    const node = document.activeElement;
+    if (node === document.body || node === null) return "";
+    const all = [...document.querySelectorAll("*")].indexOf(node);
+    return `${node.id ? `#${node.id}` : `.${(node.getAttribute("class") ?? node.tagName).split(" ")[0]}`} ${all}`;
+  },
+
+  seen(node) {
+    return node.checkVisibility() && node.getBoundingClientRect().width > 0;
+  },
+
+  // Nodes that hold text themselves.
+  texts() {
+    const nodes = [...document.querySelectorAll("body *")].filter((node) => !["SCRIPT", "NOSCRIPT", "title", "STYLE"].includes(node.tagName));
+    const own = (node) => [...node.childNodes].some((child) => child.nodeType === 3 && child.textContent.trim() !== "");
+    return nodes.filter((node) => own(node) && this.seen(node) && node.closest("noscript") === null);
+  },
+
+  // Text under 18px; in a drawing its size on the screen counts, and the mark in the banner's triangle does not.
+  smallText() {
+    const small = (node) => {
+      const scale = node.ownerSVGElement ? node.getScreenCTM().a : 1;
+      return parseFloat(getComputedStyle(node).fontSize) * scale < 17.9 && !node.closest(".shape");
+    };
+    return [...new Set(this.texts().filter(small).map((node) => `${node.tagName} ${node.textContent.slice(0, 20)}`))].slice(0, 5);
+  },
+
+  // Texts of one drawing that lie on each other.
+  overlaps() {
+    const found = [];
+    for (const svg of document.querySelectorAll(".drawing svg")) {
+      const boxes = [...svg.querySelectorAll("text")].map((text) => [text.textContent, text.getBoundingClientRect()]);
+      boxes.forEach(([name, a], i) => {
+        for (const [other, b] of boxes.slice(i + 1)) {
+          const apart = a.right <= b.left + 1 || b.right <= a.left + 1 || a.bottom <= b.top + 6 || b.bottom <= a.top + 6;
+          if (!apart) found.push(`${name} / ${other}`);
+        }
+      });
+    }
+    return found.slice(0, 5);
+  },
+
+  // Texts on a colour of their own with a contrast under 4.5.
+  faint() {
+    const numbers = (colour) => colour.match(/[\d.]+/g).map(Number);
+    const light = (colour) => {
+      const [r, g, b] = numbers(colour).slice(0, 3).map((value) => {
+        const part = value / 255;
+        return part <= 0.03928 ? part / 12.92 : ((part + 0.055) / 1.055) ** 2.4;
+      });
+      return 0.2126 * r + 0.7152 * g + 0.0722 * b;
+    };
+    const ground = (node) => {
+      for (let up = node; up; up = up.parentElement) {
+        const colour = getComputedStyle(up).backgroundColor;
+        if (numbers(colour)[3] !== 0) return colour;
+      }
+      return "rgb(255,255,255)";
+    };
+    const nodes = this.texts().filter((node) => !node.ownerSVGElement && !node.disabled);
+    const contrast = (node) => {
+      const [a, b] = [light(getComputedStyle(node).color), light(ground(node))];
+      return (Math.max(a, b) + 0.05) / (Math.min(a, b) + 0.05);
+    };
+    return nodes.filter((node) => contrast(node) < 4.5).map((node) => `${node.tagName} ${node.textContent.slice(0, 20)} ${contrast(node).toFixed(2)}`);
+  },
+};
