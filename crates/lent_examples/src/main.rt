@@ -4,8 +4,7 @@ use calls::Opened;
 use calls::Standing;
 use calls::StepAnswer;
 use calls::Stepped;
-use libc::STDOUT_FILENO;
-use refusal::Refusal;
+use printing::say;
 
 // ---- each call, with a standing that is lent to it
 
@@ -37,25 +36,6 @@ fn shown<'a>(mut s: Standing, store: &[u8], first: &'a [u8], second: &'a [u8]) -
 
 // ---- what is printed
 
-fn say(text: &[u8]) {
-    io::write_all(STDOUT_FILENO, text);
-}
-
-fn say_number(n: u64) {
-    io::print_decimal(STDOUT_FILENO, n);
-}
-
-fn number(x: u8) -> u64 {
-    x as u64
-}
-
-fn say_refusal(r: Refusal) {
-    say(b" refused ");
-    say_number(number(refusal::number(r)));
-    say(b" ");
-    say_number(number(refusal::part(r)));
-}
-
 // The line of an open.
 fn opened(
     s: Standing,
@@ -68,7 +48,7 @@ fn opened(
     let o = open(s, case, store, first, second);
     let a = o.answer;
     match a {
-        OpenAnswer::Refused(r) => say_refusal(r),
+        OpenAnswer::Refused(r) => printing::refused(r),
         OpenAnswer::Opened => say(b" Opened"),
     }
     say(b"\n");
@@ -77,27 +57,17 @@ fn opened(
 
 fn say_step(a: StepAnswer) {
     match a {
-        StepAnswer::Refused(r) => say_refusal(r),
+        StepAnswer::Refused(r) => printing::refused(r),
         StepAnswer::Row => say(b" Row"),
-        StepAnswer::Round(r) => {
-            say(b" Round ");
-            say_number(r as u64);
-        }
-        StepAnswer::Settled(t) => {
-            say(b" Settled ");
-            say_number(t as u64);
-        }
+        StepAnswer::Round(r) => printing::item(b" Round ", r as u64),
+        StepAnswer::Settled(t) => printing::item(b" Settled ", t as u64),
     }
 }
 
 // The bytes that a show gives.
 fn show<'a>(s: Standing, store: &[u8], first: &'a [u8], second: &'a [u8]) {
     say(b", shown");
-    let part = shown(s, store, first, second);
-    for i in 0..part.len() {
-        say(b" ");
-        say_number(number(part[i]));
-    }
+    printing::bytes(shown(s, store, first, second));
     say(b"\n");
 }
 
