@@ -1,5 +1,8 @@
 -- What a call knows of a desk that is held, how the examination gets its answer, and what a call does after it.
 -- Rests on Answer, casefile's Caller, and desk's RefusedLaws.
+--   HeldDesk, when-held: what is known of a desk that is held
+--   held-question, held-outside, refused-call: what a call does that is answered, out of range, or refused by the examination
+--   short-examined, unread-examined, spoiled-examined, held-examined: the four answers of the examination
 use Prim.Native.Nat.{ℕ, _+_, _*_, _≤_}
 use mathlib.Core.Path.{_≡_, refl, sym, ap, _∙_}
 use mathlib.Core.Bool.{Bool, true, false}

@@ -1,4 +1,7 @@
 -- What the questions are answered, from what the code found. Rests on Held, rounds' Table and Share, valuer's Values.
+--   Readable, caseScore, caseSimulation, rangeTest: the terms of the code's contracts
+--   held-show, held-score, held-share, held-judge, held-whole, held-value: each question answered
+--   share-outside, judge-long, judge-high, whole-outside, value-outside, value-state: each refused with 13
 use Prim.Native.Nat.{ℕ, _+_, _*_, _≤_, _<_}
 use mathlib.Core.Path.{_≡_, refl, ap, ap₂, _∙_}
 use mathlib.Core.Bool.{Bool, true, false, cond, _&&_}

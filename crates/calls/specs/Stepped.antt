@@ -1,4 +1,7 @@
 -- What step does, from the row that it worked. Rests on Held, desk's Moved and rounds' Table.
+--   caseRow, caseRowDiffers, Workable, movedBy: the terms of the code's contracts
+--   settled-step: a step of a settled desk
+--   into-first, into-second: a step that works a row into the first table, or into the second
 use Prim.Native.Nat.{ℕ, _*_, _-_, _≤_, _<_}
 use mathlib.Core.Path.{_≡_, refl, ap, _∙_}
 use mathlib.Core.Bool.{Bool, true, false, cond, _||_}

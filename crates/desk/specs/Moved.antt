@@ -1,4 +1,8 @@
 -- The two calls that move the desk: open and step. Rests on Desk, Case, theory's Lists, casefile's Reading and Gapless, rounds' Table.
+--   opened: the desk after an accepted opening
+--   rowWorked, changedNow: the row of F that a step works, and whether anything has changed in this round by then
+--   nextRow, nextRound, movedOn: the standing after a row
+--   stepped, stepAnswer: the desk after an accepted step, and what it answers
 use Prim.Native.Nat.{ℕ, _+_}
 use mathlib.Core.Bool.{Bool, false, cond, not, _||_}
 use mathlib.Core.List.{List}

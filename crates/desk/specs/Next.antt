@@ -1,5 +1,9 @@
 -- What a desk that stands after s accepted steps is: its standing, the call that comes next, and what it answers.
 -- Rests on Stands, RefusedLaws, Case, Refused, Moved, Perform, Run, theory's Rounds, rounds' Round.
+--   Position, at: round, next row and settled after s accepted steps
+--   stands-unspoiled, never-11-or-12: neither 11 nor 12 applies to the next call
+--   ranges-are, next-answer, next-desk: it is accepted where it is in range, and works on c
+--   shows, show-is, score-is, share-is, judge-yes-is, judge-no-is: what it answers
 use Prim.Native.Nat.{ℕ, _+_, _*_, _/_, _%_, _≤_, _<_, min}
 use mathlib.Core.Path.{_≡_, refl, sym, ap, _∙_, subst}
 use mathlib.Core.Bool.{Bool, true, false, cond}

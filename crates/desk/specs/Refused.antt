@@ -1,4 +1,9 @@
 -- Which refusal a call gets, or the content that it works on. Rests on Desk, Case, theory's Test, casefile's Reading, and refusal.
+--   short: 11, a buffer is too short
+--   Rules, rulesKept, spoiled: 12, the rules of the standing, the store and the tables, and their tests
+--   InRange, inRange: 13, the ranges of a question's arguments, and their test
+--   examined, accepted: the refusal that a call gets, or the content that it works on
+--   numberReply, refusedReply: what a refused call answers
 use Prim.Native.Nat.{ℕ, _+_, _*_, _-_, _≤_, _<_}
 use mathlib.Core.Path.{_≡_}
 use mathlib.Core.Logic.{_⊎_}

@@ -1,4 +1,9 @@
 -- The text that the program report prints for a case, in document 01's words. Rests on refusal's Number, casefile's Reading and desk's Case.
+--   decimal: a number's digits
+--   item, lastItem, heading: a word with a number
+--   refusedText, tableText, formulasText, acceptedText: the parts of the text
+--   listingText: the text of a case
+--   Lists: what the code says that it wrote
 use Prim.Native.Nat.{ℕ, zero, suc, _+_, _/_, _%_, _≤_}
 use mathlib.Core.Path.{_≡_}
 use mathlib.Core.Bool.{cond}
