@@ -8,53 +8,11 @@ use borrow.Author.Needs.{needs}
 use Rattle.codes.proofs.pair_coded.Statement.{statement}
 use Rattle.codes.proofs.pair_coded.Tie as tie
 
-meet-requires : tie.Need-meet-requires
-meet-requires c κs = search needs
-
-join-requires : tie.Need-join-requires
-join-requires c κs = search needs
-
 returns : tie.Need-returns
 returns c = λ e. absurd (false-true refl e)
 
 returns-2 : tie.Need-returns-2
 returns-2 c = λ e. absurd (false-true refl e)
-
-cast-x : tie.Need-cast-x
-cast-x c = search needs
-
-mul-x : tie.Need-mul-x
-mul-x c = search needs
-
-element-copy-out-x : tie.Need-element-copy-out-x
-element-copy-out-x c = search needs
-
-cast-y : tie.Need-cast-y
-cast-y c = search needs
-
-mul-y : tie.Need-mul-y
-mul-y c = search needs
-
-element-copy-out-y : tie.Need-element-copy-out-y
-element-copy-out-y c = search needs
-
-cast-met : tie.Need-cast-met
-cast-met c = search needs
-
-mul-met : tie.Need-mul-met
-mul-met c = search needs
-
-element-copy-out-met : tie.Need-element-copy-out-met
-element-copy-out-met c = search needs
-
-cast-joined : tie.Need-cast-joined
-cast-joined c = search needs
-
-mul-joined : tie.Need-mul-joined
-mul-joined c = search needs
-
-element-copy-out-joined : tie.Need-element-copy-out-joined
-element-copy-out-joined c = search needs
 
 returns-3 : tie.Need-returns-3
 returns-3 c = λ e. absurd (false-true refl e)
@@ -72,25 +30,7 @@ returns-6 c =
 
 pub pair-coded-spec : {M : Type 1} → statement M
 pair-coded-spec =
-    tie.close
-    (tie.spec
-    meet-requires
-    join-requires
-    returns
-    returns-2
-    cast-x
-    mul-x
-    element-copy-out-x
-    cast-y
-    mul-y
-    element-copy-out-y
-    cast-met
-    mul-met
-    element-copy-out-met
-    cast-joined
-    mul-joined
-    element-copy-out-joined
-    returns-3
-    returns-4
-    returns-5
-    returns-6)
+    tie.close (tie.spec (λ c κs. search needs) (λ c κs. search needs) returns returns-2 (λ c. search needs)
+    (λ c. search needs) (λ c. search needs) (λ c. search needs) (λ c. search needs) (λ c. search needs)
+    (λ c. search needs) (λ c. search needs) (λ c. search needs) (λ c. search needs) (λ c. search needs)
+    (λ c. search needs) returns-3 returns-4 returns-5 returns-6)

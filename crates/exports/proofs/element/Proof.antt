@@ -9,12 +9,6 @@ use Rattle.exports.proofs.element.Tie as tie
 
 pub element-spec : {M : Type 1} → statement M
 element-spec =
-    tie.close
-    (tie.spec
-    (λ c. search needs)
-    (λ c κs. search needs)
-    (λ c. search needs)
-    (λ c κs. search needs)
-    (λ c κs. search needs)
-    (λ c. by-case elementReply _ _ _ (c .before .before .a .given .1) (c .refused .ensures))
+    tie.close (tie.spec (λ c. search needs) (λ c κs. search needs) (λ c. search needs) (λ c κs. search needs)
+    (λ c κs. search needs) (λ c. by-case elementReply _ _ _ (c .before .before .a .given .1) (c .refused .ensures))
     (λ c. by-case elementReply _ _ _ (c .before .before .before .a2 .given .1) (c .plain .ensures ∙ ap (given 5) (c .before .wide .ensures))))

@@ -6,8 +6,5 @@ use Rattle.exports.proofs.koelchair_judge.Tie as tie
 
 pub koelchair-judge-spec : {M : Type 1} → statement M
 koelchair-judge-spec =
-    tie.close
-    (tie.spec
-    (λ c κs. search needs)
-    (λ c κs. search needs)
+    tie.close (tie.spec (λ c κs. search needs) (λ c κs. search needs)
     (λ c. told _ _ _ _ _ (c .before .judge .ensures) (c .judged .ensures)))

@@ -6,11 +6,6 @@ use Rattle.exports.proofs.koelchair_open.Tie as tie
 
 pub koelchair-open-spec : {M : Type 1} → statement M
 koelchair-open-spec =
-    tie.close
-    (tie.spec
-    (λ c κs. search needs)
-    (λ c κs. search needs)
-    (λ c. search needs)
-    (λ c. search needs)
+    tie.close (tie.spec (λ c κs. search needs) (λ c κs. search needs) (λ c. search needs) (λ c. search needs)
     (λ c. search needs)
     (λ c. told _ _ _ _ _ (c .before .before .before .before .before .before .before .before .«open» .ensures) (c .opened .ensures)))

@@ -6,8 +6,5 @@ use Rattle.exports.proofs.koelchair_score.Tie as tie
 
 pub koelchair-score-spec : {M : Type 1} → statement M
 koelchair-score-spec =
-    tie.close
-    (tie.spec
-    (λ c κs. search needs)
-    (λ c κs. search needs)
+    tie.close (tie.spec (λ c κs. search needs) (λ c κs. search needs)
     (λ c. told _ _ _ _ _ (c .before .score .ensures) (c .element .ensures)))

@@ -6,8 +6,5 @@ use Rattle.exports.proofs.koelchair_share.Tie as tie
 
 pub koelchair-share-spec : {M : Type 1} → statement M
 koelchair-share-spec =
-    tie.close
-    (tie.spec
-    (λ c κs. search needs)
-    (λ c κs. search needs)
+    tie.close (tie.spec (λ c κs. search needs) (λ c κs. search needs)
     (λ c. told _ _ _ _ _ (c .before .share .ensures) (c .per-cent .ensures)))

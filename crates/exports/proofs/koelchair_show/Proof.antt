@@ -8,9 +8,6 @@ use Rattle.exports.proofs.koelchair_show.Tie as tie
 
 pub koelchair-show-spec : {M : Type 1} → statement M
 koelchair-show-spec =
-    tie.close
-    (tie.spec
-    (λ c κs. search needs)
-    (λ c. empty-named _ _ (c .before .show .ensures) (c .if1 .taken))
+    tie.close (tie.spec (λ c κs. search needs) (λ c. empty-named _ _ (c .before .show .ensures) (c .if1 .taken))
     (λ c. whole-named _ _ _ _ (c .before .before .show .ensures) refl (omega (arith, c .before .if1 .left)) (rw (c .if2 .taken)))
     (λ c. whole-named _ _ _ _ (c .before .before .show .ensures) refl (omega (arith, c .before .if1 .left)) (rw (c .if2 .left))))

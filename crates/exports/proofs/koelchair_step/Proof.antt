@@ -6,10 +6,5 @@ use Rattle.exports.proofs.koelchair_step.Tie as tie
 
 pub koelchair-step-spec : {M : Type 1} → statement M
 koelchair-step-spec =
-    tie.close
-    (tie.spec
-    (λ c κs. search needs)
-    (λ c κs. search needs)
-    (λ c. search needs)
-    (λ c. search needs)
+    tie.close (tie.spec (λ c κs. search needs) (λ c κs. search needs) (λ c. search needs) (λ c. search needs)
     (λ c. told _ _ _ _ _ (c .before .before .before .before .before .before .step .ensures) (c .stepped .ensures)))

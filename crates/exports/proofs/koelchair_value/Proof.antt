@@ -6,8 +6,5 @@ use Rattle.exports.proofs.koelchair_value.Tie as tie
 
 pub koelchair-value-spec : {M : Type 1} → statement M
 koelchair-value-spec =
-    tie.close
-    (tie.spec
-    (λ c κs. search needs)
-    (λ c κs. search needs)
+    tie.close (tie.spec (λ c κs. search needs) (λ c κs. search needs)
     (λ c. told _ _ _ _ _ (c .before .value .ensures) (c .element .ensures)))

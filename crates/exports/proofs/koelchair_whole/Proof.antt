@@ -6,8 +6,5 @@ use Rattle.exports.proofs.koelchair_whole.Tie as tie
 
 pub koelchair-whole-spec : {M : Type 1} → statement M
 koelchair-whole-spec =
-    tie.close
-    (tie.spec
-    (λ c κs. search needs)
-    (λ c κs. search needs)
+    tie.close (tie.spec (λ c κs. search needs) (λ c κs. search needs)
     (λ c. told _ _ _ _ _ (c .before .whole .ensures) (c .element .ensures)))

@@ -7,11 +7,6 @@ use Rattle.exports.proofs.opened.Tie as tie
 
 pub opened-spec : {M : Type 1} → statement M
 opened-spec =
-    tie.close
-    (tie.spec
-    (λ c. search needs)
-    (λ c κs. search needs)
-    (λ c. search needs)
-    (λ c κs. search needs)
+    tie.close (tie.spec (λ c. search needs) (λ c κs. search needs) (λ c. search needs) (λ c κs. search needs)
     (λ c. by-case openReply _ _ _ (c .before .before .a .given .1) (c .refused .ensures))
     (λ c. by-case openReply _ _ _ (c .before .enum-told .given .1) (c .plain .ensures)))

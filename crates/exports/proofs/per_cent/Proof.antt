@@ -9,12 +9,6 @@ use Rattle.exports.proofs.per_cent.Tie as tie
 
 pub per-cent-spec : {M : Type 1} → statement M
 per-cent-spec =
-    tie.close
-    (tie.spec
-    (λ c. search needs)
-    (λ c κs. search needs)
-    (λ c. search needs)
-    (λ c κs. search needs)
-    (λ c κs. search needs)
-    (λ c. by-case shareReply _ _ _ (c .before .before .a .given .1) (c .refused .ensures))
+    tie.close (tie.spec (λ c. search needs) (λ c κs. search needs) (λ c. search needs) (λ c κs. search needs)
+    (λ c κs. search needs) (λ c. by-case shareReply _ _ _ (c .before .before .a .given .1) (c .refused .ensures))
     (λ c. by-case shareReply _ _ _ (c .before .before .before .a2 .given .1) (c .plain .ensures ∙ ap (given 6) (c .before .wide .ensures))))

@@ -7,16 +7,8 @@ use Rattle.exports.proofs.stepped.Tie as tie
 
 pub stepped-spec : {M : Type 1} → statement M
 stepped-spec =
-    tie.close
-    (tie.spec
-    (λ c. search needs)
-    (λ c κs. search needs)
-    (λ c. search needs)
-    (λ c κs. search needs)
-    (λ c. search needs)
-    (λ c κs. search needs)
-    (λ c. search needs)
-    (λ c κs. search needs)
+    tie.close (tie.spec (λ c. search needs) (λ c κs. search needs) (λ c. search needs) (λ c κs. search needs)
+    (λ c. search needs) (λ c κs. search needs) (λ c. search needs) (λ c κs. search needs)
     (λ c. by-case stepReply _ _ _ (c .before .before .a .given .1) (c .refused .ensures))
     (λ c. by-case stepReply _ _ _ (c .before .enum-told .given .1) (c .plain .ensures))
     (λ c. by-case stepReply _ _ _ (c .before .before .a2 .given .1) (c .plain2 .ensures))

@@ -5,18 +5,6 @@ use Rattle.lattice.specs.Scan.{better, better-not}
 use Rattle.lattice.proofs.better_of.Statement.{statement}
 use Rattle.lattice.proofs.better_of.Tie as tie
 
-is-lower-requires : tie.Need-is-lower-requires
-is-lower-requires c κs = search needs
-
-enum-known-m : tie.Need-enum-known-m
-enum-known-m c = search needs
-
-below-requires : tie.Need-below-requires
-below-requires c κs = search needs
-
-enum-told : tie.Need-enum-told
-enum-told c = search needs
-
 returns : tie.Need-returns
 unfolding better
 returns c = simp (c .before .before .before .m .given .1, sym (c .before .before .before .before .before .before .is-lower .ensures) ∙ c .before .before .before .before .before .if1 .taken, sym (c .before .below .ensures) ∙ c .if2 .taken)
@@ -34,13 +22,5 @@ returns-4 c = better-not _ _ _ _ _ (sym (c .before .is-lower .ensures) ∙ c .if
 
 pub better-of-spec : {M : Type 1} → statement M
 better-of-spec =
-    tie.close
-    (tie.spec
-    is-lower-requires
-    enum-known-m
-    below-requires
-    enum-told
-    returns
-    returns-2
-    returns-3
-    returns-4)
+    tie.close (tie.spec (λ c κs. search needs) (λ c. search needs) (λ c κs. search needs) (λ c. search needs) returns
+    returns-2 returns-3 returns-4)

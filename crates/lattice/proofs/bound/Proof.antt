@@ -5,22 +5,13 @@ use Rattle.lattice.specs.Scan.{boundFrom}
 use Rattle.lattice.proofs.bound.Statement.{statement}
 use Rattle.lattice.proofs.bound.Tie as tie
 
-below-requires : tie.Need-below-requires
-below-requires c κs = search needs
-
 returns : tie.Need-returns
 unfolding boundFrom
 returns c = simp (sym (c .before .below .ensures) ∙ c .if1 .taken)
 
-below-requires-2 : tie.Need-below-requires-2
-below-requires-2 c κs = search needs
-
 returns-2 : tie.Need-returns-2
 unfolding boundFrom
 returns-2 c = simp (sym (c .before .before .before .below .ensures) ∙ c .before .before .if1 .left, sym (c .before .below2 .ensures) ∙ c .if2 .taken)
-
-scan-requires : tie.Need-scan-requires
-scan-requires c κs = search needs
 
 returns-3 : tie.Need-returns-3
 unfolding boundFrom
@@ -28,4 +19,5 @@ returns-3 c = simp (sym (c .before .before .before .before .below .ensures) ∙ 
 
 pub bound-spec : {M : Type 1} → statement M
 bound-spec =
-    tie.close (tie.spec below-requires returns below-requires-2 returns-2 scan-requires returns-3)
+    tie.close (tie.spec (λ c κs. search needs) returns (λ c κs. search needs) returns-2 (λ c κs. search needs)
+    returns-3)

@@ -3,17 +3,11 @@ use borrow.Author.Needs.{needs}
 use Rattle.lattice.proofs.bound_in.Statement.{statement}
 use Rattle.lattice.proofs.bound_in.Tie as tie
 
-join-requires : tie.Need-join-requires
-join-requires c κs = search needs
-
 returns : tie.Need-returns
 returns c = simp (c .before .if1 .taken) (c .join .ensures)
-
-meet-requires : tie.Need-meet-requires
-meet-requires c κs = search needs
 
 returns-2 : tie.Need-returns-2
 returns-2 c = simp (c .before .if1 .left) (c .meet .ensures)
 
 pub bound-in-spec : {M : Type 1} → statement M
-bound-in-spec = tie.close (tie.spec join-requires returns meet-requires returns-2)
+bound-in-spec = tie.close (tie.spec (λ c κs. search needs) returns (λ c κs. search needs) returns-2)

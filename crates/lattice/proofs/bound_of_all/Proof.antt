@@ -20,15 +20,6 @@ abbrev μ-loop : tie.MeasureT-loop
 loop-holds : tie.Need-loop-holds Inv-loop μ-loop
 loop-holds c = (omega arith, bound-none _)
 
-bound-in-requires : tie.Need-bound-in-requires Inv-loop μ-loop
-bound-in-requires c κs = search needs
-
-add-c : tie.Need-add-c Inv-loop μ-loop
-add-c c = omega arith
-
-loop-less : tie.Need-loop-less Inv-loop μ-loop
-loop-less c = omega arith
-
 loop-again : tie.Need-loop-again Inv-loop μ-loop
 loop-again c = (omega arith, c .bound-in .ensures ∙ ap (λ x. joinOrMeet (c .before .before .before .args .up) (joinIn (now (c .before .before .before .args .t))) (meetIn (now (c .before .before .before .args .t))) x (c .before .before .loop .c)) (c .before .before .loop .inv .1) ∙ sym (bound-more _ _))
 
@@ -37,5 +28,5 @@ returns c = c .before .loop .inv .1 ∙ reached (boundUpTo _) (c .before .loop .
 
 pub bound-of-all-spec : {M : Type 1} → statement M
 bound-of-all-spec =
-    tie.close
-    (tie.spec Inv-loop μ-loop loop-holds bound-in-requires add-c loop-less loop-again returns)
+    tie.close (tie.spec Inv-loop μ-loop loop-holds (λ c κs. search needs) (λ c. omega arith) (λ c. omega arith)
+    loop-again returns)

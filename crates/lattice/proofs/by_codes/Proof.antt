@@ -10,23 +10,11 @@ use borrow.Author.Needs.{needs}
 use Rattle.lattice.proofs.by_codes.Statement.{statement}
 use Rattle.lattice.proofs.by_codes.Tie as tie
 
-size-requires : tie.Need-size-requires
-size-requires c κs = search needs
-
-index-requires : tie.Need-index-requires
-index-requires c κs = search needs
-
 guess-bounds-requires : tie.Need-guess-bounds-requires
 guess-bounds-requires c κs = omega (arith, formed (c .before .before .before .before .args .part .now) (c .before .before .before .before .pre .0) .most, c .index .ensures .0, c .before .before .size .ensures)
 
-find-requires : tie.Need-find-requires
-find-requires c κs = search needs
-
 returns : tie.Need-returns
 returns c = λ e. absurd (false-true refl e)
-
-passes-requires : tie.Need-passes-requires
-passes-requires c κs = search needs
 
 returns-2 : tie.Need-returns-2
 returns-2 c = λ e. absurd (false-true refl e)
@@ -49,14 +37,5 @@ returns-3 c =
 
 pub by-codes-spec : {M : Type 1} → statement M
 by-codes-spec =
-    tie.close
-    (tie.spec
-    size-requires
-    index-requires
-    guess-bounds-requires
-    find-requires
-    returns
-    passes-requires
-    returns-2
-    repeats-requires
-    returns-3)
+    tie.close (tie.spec (λ c κs. search needs) (λ c κs. search needs) guess-bounds-requires (λ c κs. search needs)
+    returns (λ c κs. search needs) returns-2 repeats-requires returns-3)

@@ -18,15 +18,6 @@ abbrev μ-loop : tie.MeasureT-loop
 loop-holds : tie.Need-loop-holds Inv-loop μ-loop
 loop-holds c = (omega arith, candidate-none _ _ _)
 
-better-of-requires : tie.Need-better-of-requires Inv-loop μ-loop
-better-of-requires c κs = search needs
-
-add-c : tie.Need-add-c Inv-loop μ-loop
-add-c c = omega arith
-
-loop-less : tie.Need-loop-less Inv-loop μ-loop
-loop-less c = omega arith
-
 loop-again : tie.Need-loop-again Inv-loop μ-loop
 loop-again c = (omega arith, c .better-of .ensures ∙ ap (better _ _ _ _) (c .before .before .loop .inv .1) ∙ sym (candidate-more _ _ _ _))
 
@@ -35,5 +26,5 @@ returns c = c .before .loop .inv .1 ∙ reached (candidate _ _ _) (c .before .lo
 
 pub candidate-of-spec : {M : Type 1} → statement M
 candidate-of-spec =
-    tie.close
-    (tie.spec Inv-loop μ-loop loop-holds better-of-requires add-c loop-less loop-again returns)
+    tie.close (tie.spec Inv-loop μ-loop loop-holds (λ c κs. search needs) (λ c. omega arith) (λ c. omega arith)
+    loop-again returns)

@@ -7,9 +7,6 @@ use borrow.Author.Needs.{needs}
 use Rattle.lattice.proofs.check.Statement.{statement}
 use Rattle.lattice.proofs.check.Tie as tie
 
-has-form-requires : tie.Need-has-form-requires
-has-form-requires c κs = search needs
-
 returns : tie.Need-returns
 unfolding latticeReading
 returns c = answered-here _ _ _ _ (sym (c .before .has-form .ensures) ∙ not-true _ (c .if1 .taken))
@@ -27,21 +24,7 @@ returns-2 : tie.Need-returns-2
 unfolding latticeReading
 returns-2 c = answered-next _ _ _ _ _ (sym (c .before .before .before .before .before .before .before .before .has-form .ensures) ∙ not-false _ (c .before .before .before .before .before .before .before .if1 .left)) (c .check-complements .ensures)
 
-check-by-search-requires : tie.Need-check-by-search-requires
-check-by-search-requires c κs = search needs
-
-returns-3 : tie.Need-returns-3
-returns-3 c = search needs
-
 pub check-spec : {M : Type 1} → statement M
 check-spec =
-    tie.close
-    (tie.spec
-    has-form-requires
-    returns
-    fill-order-requires
-    by-codes-requires
-    check-complements-requires
-    returns-2
-    check-by-search-requires
-    returns-3)
+    tie.close (tie.spec (λ c κs. search needs) returns fill-order-requires by-codes-requires check-complements-requires
+    returns-2 (λ c κs. search needs) (λ c. search needs))

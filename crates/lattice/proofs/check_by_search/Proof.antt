@@ -9,9 +9,6 @@ use Rattle.lattice.specs.Check.{tables-hold, order-same, distributive-sa
 use Rattle.lattice.proofs.check_by_search.Statement.{statement}
 use Rattle.lattice.proofs.check_by_search.Tie as tie
 
-has-form-requires : tie.Need-has-form-requires
-has-form-requires c κs = search needs
-
 returns : tie.Need-returns
 unfolding latticeReading
 returns c = answered-here _ _ _ _ (sym (c .before .has-form .ensures) ∙ not-true _ (c .if1 .taken))
@@ -21,9 +18,6 @@ fill-order-requires c κs = sym (c .before .before .has-form .ensures) ∙ not-f
 
 size-requires : tie.Need-size-requires
 size-requires c κs = sym (c .before .before .before .has-form .ensures) ∙ not-false _ (c .before .before .if1 .left)
-
-passes-requires : tie.Need-passes-requires
-passes-requires c κs = search needs
 
 returns-2 : tie.Need-returns-2
 unfolding latticeReading partReading
@@ -47,9 +41,6 @@ returns-3 c =
     let f = sym (c .before .before .before .before .before .before .before .before .before .before .has-form .ensures) ∙ not-false _ (c .before .before .before .before .before .before .before .before .before .if1 .left) in
     let h = tables-hold p f (c .before .before .before .before .before .before .size .ensures) (c .before .before .before .before .before .before .before .fill-order .ensures) in
     answered-next _ _ _ _ _ f (answered-next _ _ _ _ _ (sym (order-same h (le-refl _)) ∙ sym (c .before .before .before .before .passes .ensures) ∙ not-false _ (c .before .before .before .if2 .left)) (answered-here _ _ _ _ (sym (c .before .fill-bounds .ensures .says) ∙ not-true _ (c .if3 .taken))))
-
-passes-requires-2 : tie.Need-passes-requires-2
-passes-requires-2 c κs = search needs
 
 returns-4 : tie.Need-returns-4
 unfolding latticeReading partReading
@@ -82,17 +73,5 @@ returns-5 c = answered-next _ _ _ _ _ (sym (c .before .before .before .before .b
 
 pub check-by-search-spec : {M : Type 1} → statement M
 check-by-search-spec =
-    tie.close
-    (tie.spec
-    has-form-requires
-    returns
-    fill-order-requires
-    size-requires
-    passes-requires
-    returns-2
-    fill-bounds-requires
-    returns-3
-    passes-requires-2
-    returns-4
-    check-complements-requires
-    returns-5)
+    tie.close (tie.spec (λ c κs. search needs) returns fill-order-requires size-requires (λ c κs. search needs)
+    returns-2 fill-bounds-requires returns-3 (λ c κs. search needs) returns-4 check-complements-requires returns-5)

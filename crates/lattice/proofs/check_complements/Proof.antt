@@ -10,15 +10,6 @@ use borrow.Author.Needs.{needs}
 use Rattle.lattice.proofs.check_complements.Statement.{statement}
 use Rattle.lattice.proofs.check_complements.Tie as tie
 
-fill-complements-requires : tie.Need-fill-complements-requires
-fill-complements-requires c κs = search needs
-
-size-requires : tie.Need-size-requires
-size-requires c κs = search needs
-
-passes-requires : tie.Need-passes-requires
-passes-requires c κs = search needs
-
 returns : tie.Need-returns
 unfolding partReading
 returns c =
@@ -27,12 +18,6 @@ returns c =
     let h = tables-hold (s .args .part .now) (s .pre .0) (c .before .before .before .size .ensures) (c .before .before .before .before .fill-complements .ensures) in
     answered-next _ _ _ _ _ (ordered-in _ (w .ordered)) (answered-next _ _ _ _ _ (bounded-in _ (w .bounds)) (answered-next _ _ _ _ _ (w .distributes)
     (answered-here _ _ _ _ (sym (complement-same h (le-refl _)) ∙ sym (c .before .passes .ensures) ∙ not-true _ (c .if1 .taken)))))
-
-bound-of-all-requires : tie.Need-bound-of-all-requires
-bound-of-all-requires c κs = search needs
-
-bound-of-all-requires-2 : tie.Need-bound-of-all-requires-2
-bound-of-all-requires-2 c κs = search needs
 
 returns-2 : tie.Need-returns-2
 unfolding partReading
@@ -46,12 +31,5 @@ returns-2 c =
 
 pub check-complements-spec : {M : Type 1} → statement M
 check-complements-spec =
-    tie.close
-    (tie.spec
-    fill-complements-requires
-    size-requires
-    passes-requires
-    returns
-    bound-of-all-requires
-    bound-of-all-requires-2
-    returns-2)
+    tie.close (tie.spec (λ c κs. search needs) (λ c κs. search needs) (λ c κs. search needs) returns
+    (λ c κs. search needs) (λ c κs. search needs) returns-2)

@@ -5,20 +5,11 @@ use Rattle.lattice.specs.Form.{panel-complement, explicit-complement}
 use Rattle.lattice.proofs.complement_entry.Statement.{statement}
 use Rattle.lattice.proofs.complement_entry.Tie as tie
 
-is-panel-requires : tie.Need-is-panel-requires
-is-panel-requires c κs = search needs
-
 sub-t5 : tie.Need-sub-t5
 sub-t5 c = panel-complement _ _ (sym (c .before .before .is-panel .ensures) ∙ c .before .if1 .taken) (c .before .before .before .before .pre .1) .0
 
 returns : tie.Need-returns
 returns c = panel-complement _ _ (sym (c .before .before .is-panel .ensures) ∙ c .before .if1 .taken) (c .before .before .before .before .pre .1) .1
-
-index-requires : tie.Need-index-requires
-index-requires c κs = search needs
-
-add-t6 : tie.Need-add-t6
-add-t6 c = search needs
 
 shared-slice-read-t8 : tie.Need-shared-slice-read-t8
 shared-slice-read-t8 c = rw (c .before .index .ensures .0) (explicit-complement _ _ (c .before .before .before .before .before .pre .0) (sym (c .before .before .before .is-panel .ensures) ∙ c .before .before .if1 .left) (c .before .before .before .before .before .pre .1) .0)
@@ -28,12 +19,5 @@ returns-2 c = rw (c .before .index .ensures .0) (explicit-complement _ _ (c .bef
 
 pub complement-entry-spec : {M : Type 1} → statement M
 complement-entry-spec =
-    tie.close
-    (tie.spec
-    is-panel-requires
-    sub-t5
-    returns
-    index-requires
-    add-t6
-    shared-slice-read-t8
-    returns-2)
+    tie.close (tie.spec (λ c κs. search needs) sub-t5 returns (λ c κs. search needs) (λ c. search needs)
+    shared-slice-read-t8 returns-2)

@@ -18,24 +18,12 @@ Inv-loop t n b c bc a₀ a = (a ≤ n) × (allBelow a (distributesAt (meetIn t) 
 abbrev μ-loop : tie.MeasureT-loop
 μ-loop t n b c bc a₀ a = n - a
 
-join-requires : tie.Need-join-requires Inv-loop μ-loop
-join-requires c κs = search needs
-
 loop-holds : tie.Need-loop-holds Inv-loop μ-loop
 loop-holds c = (omega arith, all-none _)
-
-distributes-at-requires : tie.Need-distributes-at-requires Inv-loop μ-loop
-distributes-at-requires c κs = search needs
 
 returns : tie.Need-returns Inv-loop μ-loop
 unfolding distributes
 returns c = rw (← c .before .before .before .before .join .ensures) (sym (all-fails _ _ _ (c .before .before .loop-test .taken) (sym (c .before .distributes-at .ensures) ∙ not-true _ (c .if1 .taken))))
-
-add-a : tie.Need-add-a Inv-loop μ-loop
-add-a c = omega arith
-
-loop-less : tie.Need-loop-less Inv-loop μ-loop
-loop-less c = omega arith
 
 loop-again : tie.Need-loop-again Inv-loop μ-loop
 loop-again c = (omega arith, all-more _ _ (c .before .before .before .loop .inv .1) (sym (c .before .distributes-at .ensures) ∙ not-false _ (c .if1 .left)))
@@ -46,15 +34,5 @@ returns-2 c = rw (← c .before .before .join .ensures) (sym (all-done _ _ _ (c 
 
 pub does-distribute-spec : {M : Type 1} → statement M
 does-distribute-spec =
-    tie.close
-    (tie.spec
-    Inv-loop
-    μ-loop
-    join-requires
-    loop-holds
-    distributes-at-requires
-    returns
-    add-a
-    loop-less
-    loop-again
-    returns-2)
+    tie.close (tie.spec Inv-loop μ-loop (λ c κs. search needs) loop-holds (λ c κs. search needs) returns
+    (λ c. omega arith) (λ c. omega arith) loop-again returns-2)

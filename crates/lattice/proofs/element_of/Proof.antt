@@ -5,9 +5,6 @@ use Rattle.theory.specs.Part.{element}
 use Rattle.lattice.proofs.element_of.Statement.{statement}
 use Rattle.lattice.proofs.element_of.Tie as tie
 
-cast-r : tie.Need-cast-r
-cast-r c = search needs
-
 returns : tie.Need-returns
 unfolding element
 returns c = simp (lt-ltb _ _ (c .if1 .taken))
@@ -17,4 +14,4 @@ unfolding element
 returns-2 c = simp (le-ltb _ _ (c .if1 .left))
 
 pub element-of-spec : {M : Type 1} → statement M
-element-of-spec = tie.close (tie.spec cast-r returns returns-2)
+element-of-spec = tie.close (tie.spec (λ c. search needs) returns returns-2)

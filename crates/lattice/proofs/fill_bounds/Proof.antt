@@ -17,23 +17,11 @@ Inv-loop part t₀ n k₀ t k = (4096 ≤ k) × (k ≤ 12288) × (length t ≡ 1
 abbrev μ-loop : tie.MeasureT-loop
 μ-loop part t₀ n k₀ t k = 12288 - k
 
-entries-requires : tie.Need-entries-requires Inv-loop μ-loop
-entries-requires c κs = search needs
-
 size-requires : tie.Need-size-requires Inv-loop μ-loop
 size-requires c κs = c .before .before .before .before .pre .0
 
 loop-holds : tie.Need-loop-holds Inv-loop μ-loop
 loop-holds c = (omega arith, omega arith, c .before .before .entries-arg2 .given .0, bounds-none _ _ (c .before .before .before .before .before .pre .2))
-
-bound-at-requires : tie.Need-bound-at-requires Inv-loop μ-loop
-bound-at-requires c κs = omega arith
-
-enum-known-e : tie.Need-enum-known-e Inv-loop μ-loop
-enum-known-e c = search needs
-
-enum-told : tie.Need-enum-told Inv-loop μ-loop
-enum-told c = search needs
 
 returns : tie.Need-returns Inv-loop μ-loop
 returns c =
@@ -43,15 +31,6 @@ returns c =
       says = bounds-fail _ (formed _ (p .0)) (ordered-out _ (p .1)) _ _ _ _ (i .0) (c .before .before .before .before .loop-test .taken) (i .3) (c .before .before .before .before .before .before .size .ensures) (c .before .before .bound-at .ensures) (c .enum-told .given .1);
       filled = λ x. absurd (false-true refl x);
     }
-
-element-write-t : tie.Need-element-write-t Inv-loop μ-loop
-element-write-t c = omega arith
-
-add-k : tie.Need-add-k Inv-loop μ-loop
-add-k c = omega arith
-
-loop-less : tie.Need-loop-less Inv-loop μ-loop
-loop-less c = omega arith
 
 loop-again : tie.Need-loop-again Inv-loop μ-loop
 loop-again c =
@@ -66,19 +45,6 @@ returns-2 c =
 
 pub fill-bounds-spec : {M : Type 1} → statement M
 fill-bounds-spec =
-    tie.close
-    (tie.spec
-    Inv-loop
-    μ-loop
-    entries-requires
-    size-requires
-    loop-holds
-    bound-at-requires
-    enum-known-e
-    enum-told
-    returns
-    element-write-t
-    add-k
-    loop-less
-    loop-again
+    tie.close (tie.spec Inv-loop μ-loop (λ c κs. search needs) size-requires loop-holds (λ c κs. omega arith)
+    (λ c. search needs) (λ c. search needs) returns (λ c. omega arith) (λ c. omega arith) (λ c. omega arith) loop-again
     returns-2)

@@ -20,31 +20,16 @@ Inv-loop part t₀ n k₀ t k = (12288 ≤ k) × (k ≤ 12352) × (length t ≡ 
 abbrev μ-loop : tie.MeasureT-loop
 μ-loop part t₀ n k₀ t k = 12352 - k
 
-entries-requires : tie.Need-entries-requires Inv-loop μ-loop
-entries-requires c κs = search needs
-
 size-requires : tie.Need-size-requires Inv-loop μ-loop
 size-requires c κs = c .before .before .before .before .pre .0
 
 loop-holds : tie.Need-loop-holds Inv-loop μ-loop
 loop-holds c = (omega arith, omega arith, c .before .before .entries-arg2 .given .0, c .before .before .before .before .before .pre .1)
 
-element-of-requires : tie.Need-element-of-requires Inv-loop μ-loop
-element-of-requires c κs = search needs
-
 complement-entry-requires : tie.Need-complement-entry-requires Inv-loop μ-loop
 complement-entry-requires c κs =
     let f = formed _ (c .before .before .before .before .before .before .before .before .pre .0) in
     (c .before .before .before .before .before .before .before .before .pre .0, rw (c .element-of .ensures, c .before .before .before .size .ensures) (element-lt _ _ (f .some)))
-
-element-write-t : tie.Need-element-write-t Inv-loop μ-loop
-element-write-t c = omega arith
-
-add-k : tie.Need-add-k Inv-loop μ-loop
-add-k c = omega arith
-
-loop-less : tie.Need-loop-less Inv-loop μ-loop
-loop-less c = omega arith
 
 loop-again : tie.Need-loop-again Inv-loop μ-loop
 loop-again c =
@@ -56,17 +41,5 @@ returns c = filled-reached (c .before .loop .inv .3) (c .loop-test .left)
 
 pub fill-complements-spec : {M : Type 1} → statement M
 fill-complements-spec =
-    tie.close
-    (tie.spec
-    Inv-loop
-    μ-loop
-    entries-requires
-    size-requires
-    loop-holds
-    element-of-requires
-    complement-entry-requires
-    element-write-t
-    add-k
-    loop-less
-    loop-again
-    returns)
+    tie.close (tie.spec Inv-loop μ-loop (λ c κs. search needs) size-requires loop-holds (λ c κs. search needs)
+    complement-entry-requires (λ c. omega arith) (λ c. omega arith) (λ c. omega arith) loop-again returns)

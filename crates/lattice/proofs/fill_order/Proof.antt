@@ -20,34 +20,16 @@ Inv-loop part t₀ n k₀ t k = (k ≤ 4096) × (length t ≡ 12352) × Filled (
 abbrev μ-loop : tie.MeasureT-loop
 μ-loop part t₀ n k₀ t k = 4096 - k
 
-entries-requires : tie.Need-entries-requires Inv-loop μ-loop
-entries-requires c κs = search needs
-
 size-requires : tie.Need-size-requires Inv-loop μ-loop
 size-requires c κs = c .before .before .before .before .pre
 
 loop-holds : tie.Need-loop-holds Inv-loop μ-loop
 loop-holds c = (omega arith, c .before .before .entries-arg2 .given .0, filled-none)
 
-element-of-requires : tie.Need-element-of-requires Inv-loop μ-loop
-element-of-requires c κs = search needs
-
-element-of-requires-2 : tie.Need-element-of-requires-2 Inv-loop μ-loop
-element-of-requires-2 c κs = search needs
-
 order-entry-requires : tie.Need-order-entry-requires Inv-loop μ-loop
 order-entry-requires c κs =
     let f = formed _ (c .before .before .before .before .before .before .before .before .before .pre) in
     (c .before .before .before .before .before .before .before .before .before .pre, rw (c .before .element-of .ensures, c .before .before .before .before .size .ensures) (element-lt _ _ (f .some)), rw (c .element-of2 .ensures, c .before .before .before .before .size .ensures) (element-lt _ _ (f .some)))
-
-element-write-t : tie.Need-element-write-t Inv-loop μ-loop
-element-write-t c = omega arith
-
-add-k : tie.Need-add-k Inv-loop μ-loop
-add-k c = omega arith
-
-loop-less : tie.Need-loop-less Inv-loop μ-loop
-loop-less c = omega arith
 
 loop-again : tie.Need-loop-again Inv-loop μ-loop
 loop-again c =
@@ -59,18 +41,6 @@ returns c = filled-reached (c .before .loop .inv .2) (c .loop-test .left)
 
 pub fill-order-spec : {M : Type 1} → statement M
 fill-order-spec =
-    tie.close
-    (tie.spec
-    Inv-loop
-    μ-loop
-    entries-requires
-    size-requires
-    loop-holds
-    element-of-requires
-    element-of-requires-2
-    order-entry-requires
-    element-write-t
-    add-k
-    loop-less
-    loop-again
+    tie.close (tie.spec Inv-loop μ-loop (λ c κs. search needs) size-requires loop-holds (λ c κs. search needs)
+    (λ c κs. search needs) order-entry-requires (λ c. omega arith) (λ c. omega arith) (λ c. omega arith) loop-again
     returns)

@@ -11,26 +11,14 @@ use Rattle.lattice.proofs.has_form.Tie as tie
 returns : tie.Need-returns
 returns c = sym (not-passed _ (λ f. omega (arith, form-length _ f)))
 
-is-panel-requires : tie.Need-is-panel-requires
-is-panel-requires c κs = search needs
-
 returns-2 : tie.Need-returns-2
 returns-2 c = sym (form-panel _ (sym (c .before .is-panel .ensures) ∙ c .if2 .taken))
-
-shared-slice-read-limit : tie.Need-shared-slice-read-limit
-shared-slice-read-limit c = omega arith
-
-index-requires : tie.Need-index-requires
-index-requires c κs = search needs
 
 returns-3 : tie.Need-returns-3
 returns-3 c = sym (not-passed _ (λ f. omega (arith, form-out _ (c .before .index .result) (sym (c .before .before .before .before .is-panel .ensures) ∙ c .before .before .before .if2 .left) (c .before .index .ensures .0) f)))
 
 returns-4 : tie.Need-returns-4
 returns-4 c = sym (not-passed _ (λ f. omega (arith, form-out _ (c .before .before .index .result) (sym (c .before .before .before .before .before .is-panel .ensures) ∙ c .before .before .before .before .if2 .left) (c .before .before .index .ensures .0) f)))
-
-add-if5 : tie.Need-add-if5
-add-if5 c = omega arith
 
 mul-if5 : tie.Need-mul-if5
 mul-if5 c = omega (arith, square-le (c .before .before .index .result) (c .if4 .left))
@@ -41,42 +29,17 @@ add-if5-2 c = omega (arith, square-le (c .before .before .index .result) (c .if4
 returns-5 : tie.Need-returns-5
 returns-5 c = sym (not-passed _ (λ f. c .if5 .taken (form-out _ (c .before .before .before .index .result) (sym (c .before .before .before .before .before .before .is-panel .ensures) ∙ c .before .before .before .before .before .if2 .left) (c .before .before .before .index .ensures .0) f .exact)))
 
-below-requires : tie.Need-below-requires
-below-requires c κs = omega arith
-
 returns-6 : tie.Need-returns-6
 returns-6 c = sym (form-complements _ _ (sym (c .before .before .before .before .before .before .before .before .is-panel .ensures) ∙ c .before .before .before .before .before .before .before .if2 .left) (c .before .before .before .before .before .index .ensures .0) (sym (c .before .below .ensures) ∙ not-true _ (c .if6 .taken)))
 
-add-below : tie.Need-add-below
-add-below c = omega arith
-
 mul-below : tie.Need-mul-below
 mul-below c = omega (arith, square-le (c .before .before .before .before .before .index .result) (c .before .before .before .if4 .left))
-
-below-requires-2 : tie.Need-below-requires-2
-below-requires-2 c κs = omega arith
 
 returns-7 : tie.Need-returns-7
 returns-7 c = c .below2 .ensures ∙ sym (form-last _ _ (sym (c .before .before .before .before .before .before .before .before .before .is-panel .ensures) ∙ c .before .before .before .before .before .before .before .before .if2 .left) (c .before .before .before .before .before .before .index .ensures .0) (c .before .before .before .before .before .if3 .left) (c .before .before .before .before .if4 .left) (c .before .before .before .if5 .left) (sym (c .before .before .below .ensures) ∙ not-false _ (c .before .if6 .left)))
 
 pub has-form-spec : {M : Type 1} → statement M
 has-form-spec =
-    tie.close
-    (tie.spec
-    returns
-    is-panel-requires
-    returns-2
-    shared-slice-read-limit
-    index-requires
-    returns-3
-    returns-4
-    add-if5
-    mul-if5
-    add-if5-2
-    returns-5
-    below-requires
-    returns-6
-    add-below
-    mul-below
-    below-requires-2
-    returns-7)
+    tie.close (tie.spec returns (λ c κs. search needs) returns-2 (λ c. omega arith) (λ c κs. search needs) returns-3
+    returns-4 (λ c. omega arith) mul-if5 add-if5-2 returns-5 (λ c κs. omega arith) returns-6 (λ c. omega arith)
+    mul-below (λ c κs. omega arith) returns-7)

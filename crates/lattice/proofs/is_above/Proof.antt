@@ -21,9 +21,6 @@ abbrev μ-loop : tie.MeasureT-loop
 loop-holds : tie.Need-loop-holds Inv-loop μ-loop
 loop-holds c = (omega arith, all-none _)
 
-steps-to-requires : tie.Need-steps-to-requires Inv-loop μ-loop
-steps-to-requires c κs = search needs
-
 -- the test of c is that of a, b and c
 tested : (c : tie.After-steps-to Inv-loop μ-loop) → c .steps-to .result ≡ stepsTo (atMostIn (c .before .before .before .args .t .now)) (c .before .before .before .args .a .0) (c .before .before .before .args .b .0) (c .before .before .loop .c)
 tested c = c .steps-to .ensures
@@ -31,12 +28,6 @@ tested c = c .steps-to .ensures
 returns : tie.Need-returns Inv-loop μ-loop
 unfolding above
 returns c = sym (all-fails _ _ _ (c .before .before .loop-test .taken) (sym (tested (c .before)) ∙ not-true _ (c .if1 .taken)))
-
-add-c : tie.Need-add-c Inv-loop μ-loop
-add-c c = omega arith
-
-loop-less : tie.Need-loop-less Inv-loop μ-loop
-loop-less c = omega arith
 
 loop-again : tie.Need-loop-again Inv-loop μ-loop
 loop-again c = (omega arith, all-more _ _ (c .before .before .before .loop .inv .1) (sym (tested (c .before)) ∙ not-false _ (c .if1 .left)))
@@ -47,14 +38,5 @@ returns-2 c = sym (all-done _ _ _ (c .before .loop .inv .0) (c .loop-test .left)
 
 pub is-above-spec : {M : Type 1} → statement M
 is-above-spec =
-    tie.close
-    (tie.spec
-    Inv-loop
-    μ-loop
-    loop-holds
-    steps-to-requires
-    returns
-    add-c
-    loop-less
-    loop-again
-    returns-2)
+    tie.close (tie.spec Inv-loop μ-loop loop-holds (λ c κs. search needs) returns (λ c. omega arith) (λ c. omega arith)
+    loop-again returns-2)

@@ -6,24 +6,9 @@ use Rattle.lattice.specs.Pairs.{complementPair}
 use Rattle.lattice.proofs.is_complement.Statement.{statement}
 use Rattle.lattice.proofs.is_complement.Tie as tie
 
-complement-requires : tie.Need-complement-requires
-complement-requires c κs = search needs
-
-complement-requires-2 : tie.Need-complement-requires-2
-complement-requires-2 c κs = search needs
-
 returns : tie.Need-returns
 unfolding complementPair
 returns c = simp (← c .before .before .before .before .complement .ensures, ← c .before .before .before .complement2 .ensures, ne-eqb _ _ (c .if1 .taken))
-
-at-most-requires : tie.Need-at-most-requires
-at-most-requires c κs = search needs
-
-complement-requires-3 : tie.Need-complement-requires-3
-complement-requires-3 c κs = search needs
-
-at-most-requires-2 : tie.Need-at-most-requires-2
-at-most-requires-2 c κs = search needs
 
 returns-2 : tie.Need-returns-2
 unfolding complementPair
@@ -35,13 +20,5 @@ returns-3 c = simp (← c .before .before .before .before .before .before .compl
 
 pub is-complement-spec : {M : Type 1} → statement M
 is-complement-spec =
-    tie.close
-    (tie.spec
-    complement-requires
-    complement-requires-2
-    returns
-    at-most-requires
-    complement-requires-3
-    at-most-requires-2
-    returns-2
-    returns-3)
+    tie.close (tie.spec (λ c κs. search needs) (λ c κs. search needs) returns (λ c κs. search needs)
+    (λ c κs. search needs) (λ c κs. search needs) returns-2 returns-3)

@@ -12,22 +12,13 @@ returns c =
     let a = c .before .before .before .args in
     simp (le-leb (a .b .0) (a .c .0) (c .if1 .taken))
 
-at-most-requires : tie.Need-at-most-requires
-at-most-requires c κs = search needs
-
 returns-2 : tie.Need-returns-2
 unfolding distributePair
 returns-2 c = simp (lt-leb _ _ (c .before .before .if1 .left), sym (c .before .at-most .ensures) ∙ c .if2 .taken)
 
-at-most-requires-2 : tie.Need-at-most-requires-2
-at-most-requires-2 c κs = search needs
-
 returns-3 : tie.Need-returns-3
 unfolding distributePair
 returns-3 c = simp (lt-leb _ _ (c .before .before .before .before .if1 .left), sym (c .before .before .before .at-most .ensures) ∙ c .before .before .if2 .left, sym (c .before .at-most2 .ensures) ∙ c .if3 .taken)
-
-does-distribute-requires : tie.Need-does-distribute-requires
-does-distribute-requires c κs = search needs
 
 returns-4 : tie.Need-returns-4
 unfolding distributePair
@@ -35,12 +26,5 @@ returns-4 c = simp (lt-leb _ _ (c .before .before .before .before .before .if1 .
 
 pub is-distributive-spec : {M : Type 1} → statement M
 is-distributive-spec =
-    tie.close
-    (tie.spec
-    returns
-    at-most-requires
-    returns-2
-    at-most-requires-2
-    returns-3
-    does-distribute-requires
+    tie.close (tie.spec returns (λ c κs. search needs) returns-2 (λ c κs. search needs) returns-3 (λ c κs. search needs)
     returns-4)

@@ -21,18 +21,9 @@ abbrev μ-loop : tie.MeasureT-loop
 loop-holds : tie.Need-loop-holds Inv-loop μ-loop
 loop-holds c = (omega arith, all-none _)
 
-is-under-requires : tie.Need-is-under-requires Inv-loop μ-loop
-is-under-requires c κs = search needs
-
 returns : tie.Need-returns Inv-loop μ-loop
 unfolding greatest
 returns c = sym (all-fails _ _ _ (c .before .before .loop-test .taken) (sym (c .before .is-under .ensures) ∙ not-true _ (c .if1 .taken)))
-
-add-c : tie.Need-add-c Inv-loop μ-loop
-add-c c = omega arith
-
-loop-less : tie.Need-loop-less Inv-loop μ-loop
-loop-less c = omega arith
 
 loop-again : tie.Need-loop-again Inv-loop μ-loop
 loop-again c = (omega arith, all-more _ _ (c .before .before .before .loop .inv .1) (sym (c .before .is-under .ensures) ∙ not-false _ (c .if1 .left)))
@@ -43,14 +34,5 @@ returns-2 c = sym (all-done _ _ _ (c .before .loop .inv .0) (c .loop-test .left)
 
 pub is-greatest-spec : {M : Type 1} → statement M
 is-greatest-spec =
-    tie.close
-    (tie.spec
-    Inv-loop
-    μ-loop
-    loop-holds
-    is-under-requires
-    returns
-    add-c
-    loop-less
-    loop-again
-    returns-2)
+    tie.close (tie.spec Inv-loop μ-loop loop-holds (λ c κs. search needs) returns (λ c. omega arith) (λ c. omega arith)
+    loop-again returns-2)

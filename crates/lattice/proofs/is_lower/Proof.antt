@@ -4,12 +4,6 @@ use borrow.Author.Needs.{needs}
 use Rattle.lattice.proofs.is_lower.Statement.{statement}
 use Rattle.lattice.proofs.is_lower.Tie as tie
 
-below-requires : tie.Need-below-requires
-below-requires c κs = search needs
-
-below-requires-2 : tie.Need-below-requires-2
-below-requires-2 c κs = search needs
-
 returns : tie.Need-returns
 returns c = simp (sym (c .before .before .below .ensures) ∙ c .before .if1 .taken) (c .below2 .ensures)
 
@@ -17,4 +11,4 @@ returns-2 : tie.Need-returns-2
 returns-2 c = simp (sym (c .before .below .ensures) ∙ c .if1 .left)
 
 pub is-lower-spec : {M : Type 1} → statement M
-is-lower-spec = tie.close (tie.spec below-requires below-requires-2 returns returns-2)
+is-lower-spec = tie.close (tie.spec (λ c κs. search needs) (λ c κs. search needs) returns returns-2)

@@ -5,12 +5,6 @@ use borrow.Author.Needs.{needs}
 use Rattle.lattice.proofs.is_met.Statement.{statement}
 use Rattle.lattice.proofs.is_met.Tie as tie
 
-meet-requires : tie.Need-meet-requires
-meet-requires c κs = search needs
-
-at-most-requires : tie.Need-at-most-requires
-at-most-requires c κs = search needs
-
 returns : tie.Need-returns
 unfolding metPair
 returns c = simp (← c .before .before .before .before .meet .ensures, sym (c .before .before .before .at-most .ensures) ∙ c .before .before .if1 .taken)
@@ -20,4 +14,4 @@ unfolding metPair
 returns-2 c = simp (← c .before .before .before .before .meet .ensures, sym (c .before .before .before .at-most .ensures) ∙ c .before .before .if1 .left)
 
 pub is-met-spec : {M : Type 1} → statement M
-is-met-spec = tie.close (tie.spec meet-requires at-most-requires returns returns-2)
+is-met-spec = tie.close (tie.spec (λ c κs. search needs) (λ c κs. search needs) returns returns-2)

@@ -6,29 +6,17 @@ use Rattle.lattice.specs.Pairs.{orderPair}
 use Rattle.lattice.proofs.is_order.Statement.{statement}
 use Rattle.lattice.proofs.is_order.Tie as tie
 
-at-most-requires : tie.Need-at-most-requires
-at-most-requires c κs = search needs
-
 returns : tie.Need-returns
 unfolding orderPair
 returns c = simp (sym (c .before .at-most .ensures) ∙ not-true _ (c .if1 .taken))
-
-at-most-requires-2 : tie.Need-at-most-requires-2
-at-most-requires-2 c κs = search needs
 
 returns-2 : tie.Need-returns-2
 unfolding orderPair
 returns-2 c = simp (sym (c .before .before .before .at-most .ensures) ∙ not-false _ (c .before .before .if1 .left), sym (c .before .at-most2 .ensures) ∙ not-true _ (c .if2 .taken))
 
-at-most-requires-3 : tie.Need-at-most-requires-3
-at-most-requires-3 c κs = search needs
-
 returns-3 : tie.Need-returns-3
 unfolding orderPair
 returns-3 c = simp (sym (c .before .before .before .before .before .before .before .at-most .ensures) ∙ not-false _ (c .before .before .before .before .before .before .if1 .left), sym (c .before .before .before .before .before .at-most2 .ensures) ∙ not-false _ (c .before .before .before .before .if2 .left), sym (c .before .before .before .at-most3 .ensures) ∙ c .before .before .if3 .taken)
-
-is-above-requires : tie.Need-is-above-requires
-is-above-requires c κs = search needs
 
 returns-4 : tie.Need-returns-4
 unfolding orderPair
@@ -36,13 +24,5 @@ returns-4 c = simp (sym (c .before .before .before .before .before .before .at-m
 
 pub is-order-spec : {M : Type 1} → statement M
 is-order-spec =
-    tie.close
-    (tie.spec
-    at-most-requires
-    returns
-    at-most-requires-2
-    returns-2
-    at-most-requires-3
-    returns-3
-    is-above-requires
-    returns-4)
+    tie.close (tie.spec (λ c κs. search needs) returns (λ c κs. search needs) returns-2 (λ c κs. search needs) returns-3
+    (λ c κs. search needs) returns-4)

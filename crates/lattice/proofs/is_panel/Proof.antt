@@ -5,9 +5,6 @@ use Rattle.lattice.specs.Reading.{isPanel}
 use Rattle.lattice.proofs.is_panel.Statement.{statement}
 use Rattle.lattice.proofs.is_panel.Tie as tie
 
-shared-slice-read-result : tie.Need-shared-slice-read-result
-shared-slice-read-result c = search needs
-
 returns : tie.Need-returns
 unfolding isPanel
 returns c = simp (eq-eqb _ _ (c .before .if1 .taken))
@@ -17,4 +14,4 @@ unfolding isPanel
 returns-2 c = simp (ne-eqb _ _ (c .if1 .left))
 
 pub is-panel-spec : {M : Type 1} → statement M
-is-panel-spec = tie.close (tie.spec shared-slice-read-result returns returns-2)
+is-panel-spec = tie.close (tie.spec (λ c. search needs) returns returns-2)

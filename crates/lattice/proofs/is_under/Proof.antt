@@ -4,12 +4,6 @@ use borrow.Author.Needs.{needs}
 use Rattle.lattice.proofs.is_under.Statement.{statement}
 use Rattle.lattice.proofs.is_under.Tie as tie
 
-is-lower-requires : tie.Need-is-lower-requires
-is-lower-requires c κs = search needs
-
-below-requires : tie.Need-below-requires
-below-requires c κs = search needs
-
 returns : tie.Need-returns
 returns c = simp (sym (c .before .before .is-lower .ensures) ∙ c .before .if1 .taken) (c .below .ensures)
 
@@ -17,4 +11,4 @@ returns-2 : tie.Need-returns-2
 returns-2 c = simp (sym (c .before .is-lower .ensures) ∙ c .if1 .left)
 
 pub is-under-spec : {M : Type 1} → statement M
-is-under-spec = tie.close (tie.spec is-lower-requires below-requires returns returns-2)
+is-under-spec = tie.close (tie.spec (λ c κs. search needs) (λ c κs. search needs) returns returns-2)

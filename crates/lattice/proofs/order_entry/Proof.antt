@@ -24,21 +24,6 @@ panel c =
     let p = c .before .before .before .before .before .pre in
     panel-at _ _ _ (sym (c .before .is-panel .ensures) ∙ c .if1 .taken) (rw (c .before .before .before .index .ensures .0) (p .1)) (rw (c .before .before .index2 .ensures .0) (p .2))
 
-index-requires : tie.Need-index-requires
-index-requires c κs = search needs
-
-index-requires-2 : tie.Need-index-requires-2
-index-requires-2 c κs = search needs
-
-is-panel-requires : tie.Need-is-panel-requires
-is-panel-requires c κs = search needs
-
-mul-result : tie.Need-mul-result
-mul-result c = search needs
-
-add-result : tie.Need-add-result
-add-result c = search needs
-
 array-read-result : tie.Need-array-read-result
 array-read-result c = panel c .0
 
@@ -48,12 +33,6 @@ returns c = rw (← c .before .before .before .index .ensures .0, ← c .before 
 
 shared-slice-read-index : tie.Need-shared-slice-read-index
 shared-slice-read-index c = omega (arith, form-explicit _ (c .before .before .before .before .before .before .pre .0) (sym (c .before .before .is-panel .ensures) ∙ c .before .if1 .left) .exact)
-
-index-requires-3 : tie.Need-index-requires-3
-index-requires-3 c κs = search needs
-
-add-result-2 : tie.Need-add-result-2
-add-result-2 c = search needs
 
 mul-result-2 : tie.Need-mul-result-2
 mul-result-2 c = omega (arith, entry c)
@@ -72,20 +51,6 @@ returns-2 c = rw (← c .before .before .before .before .before .before .index .
 
 pub order-entry-spec : {M : Type 1} → statement M
 order-entry-spec =
-    tie.close
-    (tie.spec
-    index-requires
-    index-requires-2
-    is-panel-requires
-    mul-result
-    add-result
-    array-read-result
-    returns
-    shared-slice-read-index
-    index-requires-3
-    add-result-2
-    mul-result-2
-    add-result-3
-    add-result-4
-    shared-slice-read-result
-    returns-2)
+    tie.close (tie.spec (λ c κs. search needs) (λ c κs. search needs) (λ c κs. search needs) (λ c. search needs)
+    (λ c. search needs) array-read-result returns shared-slice-read-index (λ c κs. search needs) (λ c. search needs)
+    mul-result-2 add-result-3 add-result-4 shared-slice-read-result returns-2)

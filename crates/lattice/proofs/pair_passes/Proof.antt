@@ -4,30 +4,6 @@ use Rattle.lattice.specs.Pairs.{pairTest}
 use Rattle.lattice.proofs.pair_passes.Statement.{statement}
 use Rattle.lattice.proofs.pair_passes.Tie as tie
 
-enum-told : tie.Need-enum-told
-enum-told c = search needs
-
-is-order-requires : tie.Need-is-order-requires
-is-order-requires c κs = search needs
-
-enum-told-2 : tie.Need-enum-told-2
-enum-told-2 c = search needs
-
-is-met-requires : tie.Need-is-met-requires
-is-met-requires c κs = search needs
-
-enum-told-3 : tie.Need-enum-told-3
-enum-told-3 c = search needs
-
-is-distributive-requires : tie.Need-is-distributive-requires
-is-distributive-requires c κs = search needs
-
-enum-told-4 : tie.Need-enum-told-4
-enum-told-4 c = search needs
-
-is-complement-requires : tie.Need-is-complement-requires
-is-complement-requires c κs = search needs
-
 returns : tie.Need-returns
 unfolding pairTest
 returns c = rw (c .before .enum-told .given .1) (c .is-order .ensures)
@@ -46,17 +22,6 @@ returns-4 c = rw (c .before .enum-told4 .given .1) (c .is-complement .ensures)
 
 pub pair-passes-spec : {M : Type 1} → statement M
 pair-passes-spec =
-    tie.close
-    (tie.spec
-    enum-told
-    is-order-requires
-    enum-told-2
-    is-met-requires
-    enum-told-3
-    is-distributive-requires
-    enum-told-4
-    is-complement-requires
-    returns
-    returns-2
-    returns-3
+    tie.close (tie.spec (λ c. search needs) (λ c κs. search needs) (λ c. search needs) (λ c κs. search needs)
+    (λ c. search needs) (λ c κs. search needs) (λ c. search needs) (λ c κs. search needs) returns returns-2 returns-3
     returns-4)

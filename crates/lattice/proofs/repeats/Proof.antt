@@ -19,17 +19,8 @@ abbrev μ-loop : tie.MeasureT-loop
 loop-holds : tie.Need-loop-holds Inv-loop μ-loop
 loop-holds c = (omega arith, omega arith, λ i l m. absurd (omega arith))
 
-row-repeats-requires : tie.Need-row-repeats-requires Inv-loop μ-loop
-row-repeats-requires c κs = search needs
-
 returns : tie.Need-returns Inv-loop μ-loop
 returns c = λ e. absurd (false-true refl e)
-
-add-row : tie.Need-add-row Inv-loop μ-loop
-add-row c = search needs
-
-loop-less : tie.Need-loop-less Inv-loop μ-loop
-loop-less c = search needs
 
 loop-again : tie.Need-loop-again Inv-loop μ-loop
 loop-again c = (omega arith, omega arith, below-more _ _ (c .before .before .before .loop .inv .2) (λ l. c .before .row-repeats .ensures (not-false _ (c .if1 .left))))
@@ -39,14 +30,5 @@ returns-2 c = λ e. record { at = λ i l m. c .before .loop .inv .2 i (omega ari
 
 pub repeats-spec : {M : Type 1} → statement M
 repeats-spec =
-    tie.close
-    (tie.spec
-    Inv-loop
-    μ-loop
-    loop-holds
-    row-repeats-requires
-    returns
-    add-row
-    loop-less
-    loop-again
-    returns-2)
+    tie.close (tie.spec Inv-loop μ-loop loop-holds (λ c κs. search needs) returns (λ c. search needs)
+    (λ c. search needs) loop-again returns-2)

@@ -21,18 +21,9 @@ abbrev μ-loop : tie.MeasureT-loop
 loop-holds : tie.Need-loop-holds Inv-loop μ-loop
 loop-holds c = (omega arith, all-none _)
 
-pair-passes-requires : tie.Need-pair-passes-requires Inv-loop μ-loop
-pair-passes-requires c κs = search needs
-
 returns : tie.Need-returns Inv-loop μ-loop
 unfolding rowTest
 returns c = sym (all-fails _ _ _ (c .before .before .loop-test .taken) (sym (c .before .pair-passes .ensures) ∙ not-true _ (c .if1 .taken)))
-
-add-b : tie.Need-add-b Inv-loop μ-loop
-add-b c = omega arith
-
-loop-less : tie.Need-loop-less Inv-loop μ-loop
-loop-less c = omega arith
 
 loop-again : tie.Need-loop-again Inv-loop μ-loop
 loop-again c = (omega arith, all-more _ _ (c .before .before .before .loop .inv .1) (sym (c .before .pair-passes .ensures) ∙ not-false _ (c .if1 .left)))
@@ -43,14 +34,5 @@ returns-2 c = sym (all-done _ _ _ (c .before .loop .inv .0) (c .loop-test .left)
 
 pub row-passes-spec : {M : Type 1} → statement M
 row-passes-spec =
-    tie.close
-    (tie.spec
-    Inv-loop
-    μ-loop
-    loop-holds
-    pair-passes-requires
-    returns
-    add-b
-    loop-less
-    loop-again
-    returns-2)
+    tie.close (tie.spec Inv-loop μ-loop loop-holds (λ c κs. search needs) returns (λ c. omega arith) (λ c. omega arith)
+    loop-again returns-2)

@@ -19,51 +19,12 @@ Inv-loop t n row home start b₀ b = (start ≤ b) × (b ≤ 64) × ((i : ℕ) �
 abbrev μ-loop : tie.MeasureT-loop
 μ-loop t n row home start b₀ b = 64 - b
 
-mul-home : tie.Need-mul-home Inv-loop μ-loop
-mul-home c = search needs
-
-element-of-requires : tie.Need-element-of-requires Inv-loop μ-loop
-element-of-requires c κs = search needs
-
-index-requires : tie.Need-index-requires Inv-loop μ-loop
-index-requires c κs = search needs
-
-add-home : tie.Need-add-home Inv-loop μ-loop
-add-home c = search needs
-
-mul-home-2 : tie.Need-mul-home-2 Inv-loop μ-loop
-mul-home-2 c = search needs
-
-index-requires-2 : tie.Need-index-requires-2 Inv-loop μ-loop
-index-requires-2 c κs = search needs
-
-index-requires-3 : tie.Need-index-requires-3 Inv-loop μ-loop
-index-requires-3 c κs = search needs
-
 loop-holds : tie.Need-loop-holds Inv-loop μ-loop
 loop-holds c =
     let s = c .before .before .before .before in
     ⊎-elim (λ w. (omega arith, omega arith, λ i l. repeats-inside (s .args .n) (s .args .row) i (s .args .t .now) (s .pre .1) (omega arith) (omega arith)))
     (λ w. (omega arith, omega arith, λ i l. absurd (omega arith)))
     (c .if1 .came)
-
-mul-x : tie.Need-mul-x Inv-loop μ-loop
-mul-x c = search needs
-
-add-x : tie.Need-add-x Inv-loop μ-loop
-add-x c = search needs
-
-element-copy-out-x : tie.Need-element-copy-out-x Inv-loop μ-loop
-element-copy-out-x c = search needs
-
-element-of-requires-2 : tie.Need-element-of-requires-2 Inv-loop μ-loop
-element-of-requires-2 c κs = search needs
-
-index-requires-4 : tie.Need-index-requires-4 Inv-loop μ-loop
-index-requires-4 c κs = search needs
-
-add-y : tie.Need-add-y Inv-loop μ-loop
-add-y c = search needs
 
 element-copy-out-y : tie.Need-element-copy-out-y Inv-loop μ-loop
 element-copy-out-y c =
@@ -72,12 +33,6 @@ element-copy-out-y c =
 
 returns : tie.Need-returns Inv-loop μ-loop
 returns c = λ e. absurd (false-true refl e)
-
-add-b : tie.Need-add-b Inv-loop μ-loop
-add-b c = search needs
-
-loop-less : tie.Need-loop-less Inv-loop μ-loop
-loop-less c = search needs
 
 loop-again : tie.Need-loop-again Inv-loop μ-loop
 loop-again c =
@@ -90,27 +45,7 @@ returns-2 c = λ e. record { at = λ i l. c .before .loop .inv .2 i (omega arith
 
 pub row-repeats-spec : {M : Type 1} → statement M
 row-repeats-spec =
-    tie.close
-    (tie.spec
-    Inv-loop
-    μ-loop
-    mul-home
-    element-of-requires
-    index-requires
-    add-home
-    mul-home-2
-    index-requires-2
-    index-requires-3
-    loop-holds
-    mul-x
-    add-x
-    element-copy-out-x
-    element-of-requires-2
-    index-requires-4
-    add-y
-    element-copy-out-y
-    returns
-    add-b
-    loop-less
-    loop-again
-    returns-2)
+    tie.close (tie.spec Inv-loop μ-loop (λ c. search needs) (λ c κs. search needs) (λ c κs. search needs)
+    (λ c. search needs) (λ c. search needs) (λ c κs. search needs) (λ c κs. search needs) loop-holds (λ c. search needs)
+    (λ c. search needs) (λ c. search needs) (λ c κs. search needs) (λ c κs. search needs) (λ c. search needs)
+    element-copy-out-y returns (λ c. search needs) (λ c. search needs) loop-again returns-2)

@@ -5,18 +5,6 @@ use Rattle.lattice.specs.Scan.{scanFrom, tested}
 use Rattle.lattice.proofs.scan.Statement.{statement}
 use Rattle.lattice.proofs.scan.Tie as tie
 
-candidate-of-requires : tie.Need-candidate-of-requires
-candidate-of-requires c κs = search needs
-
-enum-known-m : tie.Need-enum-known-m
-enum-known-m c = search needs
-
-is-greatest-requires : tie.Need-is-greatest-requires
-is-greatest-requires c κs = search needs
-
-enum-told : tie.Need-enum-told
-enum-told c = search needs
-
 returns : tie.Need-returns
 unfolding scanFrom tested
 returns c = simp (← c .before .before .before .before .before .candidate-of .ensures, c .before .before .before .m .given .1, sym (c .before .is-greatest .ensures) ∙ c .if1 .taken)
@@ -31,12 +19,5 @@ returns-3 c = simp (← c .before .before .candidate-of .ensures, c .enum-told .
 
 pub scan-spec : {M : Type 1} → statement M
 scan-spec =
-    tie.close
-    (tie.spec
-    candidate-of-requires
-    enum-known-m
-    is-greatest-requires
-    enum-told
-    returns
-    returns-2
-    returns-3)
+    tie.close (tie.spec (λ c κs. search needs) (λ c. search needs) (λ c κs. search needs) (λ c. search needs) returns
+    returns-2 returns-3)

@@ -6,9 +6,6 @@ use Rattle.lattice.specs.Form.{part-panel, part-explicit, form-explicit}
 use Rattle.lattice.proofs.size.Statement.{statement}
 use Rattle.lattice.proofs.size.Tie as tie
 
-is-panel-requires : tie.Need-is-panel-requires
-is-panel-requires c κs = search needs
-
 returns : tie.Need-returns
 returns c = sym (ap (λ P. P .size) (part-panel _ (sym (c .before .is-panel .ensures) ∙ c .if1 .taken)))
 
@@ -19,4 +16,4 @@ returns-2 : tie.Need-returns-2
 returns-2 c = sym (ap (λ P. P .size) (part-explicit _ (sym (c .before .before .is-panel .ensures) ∙ c .before .if1 .left)))
 
 pub size-spec : {M : Type 1} → statement M
-size-spec = tie.close (tie.spec is-panel-requires returns shared-slice-read-result returns-2)
+size-spec = tie.close (tie.spec (λ c κs. search needs) returns shared-slice-read-result returns-2)

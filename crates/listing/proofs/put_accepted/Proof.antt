@@ -4,12 +4,6 @@ use borrow.Author.Needs.{needs}
 use Rattle.listing.proofs.put_accepted.Statement.{statement}
 use Rattle.listing.proofs.put_accepted.Tie as tie
 
-part-requires : tie.Need-part-requires
-part-requires c κs = search needs
-
-part-requires-2 : tie.Need-part-requires-2
-part-requires-2 c κs = search needs
-
 put-settled-requires : tie.Need-put-settled-requires
 put-settled-requires c κs =
     let p = c .before .before .before .before .before .before .pre in
@@ -20,9 +14,6 @@ put-formulas-requires c κs =
     let p = c .before .before .before .before .before .before .before .before .before .before .pre in
     formulas-fit (p .0) _ _ _ (p .1) (settled-part (p .0) _ _ _ _ _ (c .before .before .before .before .before .before .part .ensures) (c .before .before .before .before .before .part2 .ensures) (c .before .before .before .put-settled .ensures))
 
-same-length : tie.Need-same-length
-same-length c = search needs
-
 returns : tie.Need-returns
 returns c =
     let p = c .before .before .before .before .before .before .before .before .before .before .before .before .before .pre in
@@ -32,11 +23,5 @@ returns c =
 
 pub put-accepted-spec : {M : Type 1} → statement M
 put-accepted-spec =
-    tie.close
-    (tie.spec
-    part-requires
-    part-requires-2
-    put-settled-requires
-    put-formulas-requires
-    same-length
-    returns)
+    tie.close (tie.spec (λ c κs. search needs) (λ c κs. search needs) put-settled-requires put-formulas-requires
+    (λ c. search needs) returns)

@@ -30,12 +30,6 @@ put-formula-requires c κs =
       room = each-room (s .args .text .now) (s .args .at) (s .args .z .formulas) (formulaLine (s .pre .case .holds)) (formulas-room (s .pre) (s .pre .case .holds) (s .pre .case .reads)) (l .f) (l .text) (l .next) (omega arith) (l .inv .2 (s .pre .case .holds) (s .pre .case .reads));
     }
 
-add-f : tie.Need-add-f Inv-loop μ-loop
-add-f c = omega arith
-
-loop-less : tie.Need-loop-less Inv-loop μ-loop
-loop-less c = omega arith
-
 loop-again : tie.Need-loop-again Inv-loop μ-loop
 loop-again c =
     let s = c .before .before .before .before .before .before .before .before in
@@ -56,14 +50,5 @@ returns c d e =
 
 pub put-formulas-spec : {M : Type 1} → statement M
 put-formulas-spec =
-    tie.close
-    (tie.spec
-    Inv-loop
-    μ-loop
-    loop-holds
-    put-formula-requires
-    add-f
-    loop-less
-    loop-again
-    same-length
-    returns)
+    tie.close (tie.spec Inv-loop μ-loop loop-holds put-formula-requires (λ c. omega arith) (λ c. omega arith) loop-again
+    same-length returns)

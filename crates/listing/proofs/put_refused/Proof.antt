@@ -13,26 +13,8 @@ use Rattle.listing.proofs.put_refused.Tie as tie
 few : (c : tie.After-index2) → (length (decimal (c .before .before .index .result)) ≤ 3) × (length (decimal (c .index2 .result)) ≤ 3)
 few c = (decimal-three (c .before .before .index .result) (omega arith), decimal-three (c .index2 .result) (omega arith))
 
-number-requires : tie.Need-number-requires
-number-requires c κs = search needs
-
-index-requires : tie.Need-index-requires
-index-requires c κs = search needs
-
-part-requires : tie.Need-part-requires
-part-requires c κs = search needs
-
-index-requires-2 : tie.Need-index-requires-2
-index-requires-2 c κs = search needs
-
-slice-aggregate-put-item : tie.Need-slice-aggregate-put-item
-slice-aggregate-put-item c = search needs
-
 put-item-requires : tie.Need-put-item-requires
 put-item-requires c κs = omega (arith, few (c .before .before) .0, few (c .before .before) .1)
-
-slice-aggregate-put-last : tie.Need-slice-aggregate-put-last
-slice-aggregate-put-last c = search needs
 
 put-last-requires : tie.Need-put-last-requires
 put-last-requires c κs =
@@ -48,9 +30,6 @@ put-last-requires c κs =
       wrote-length w (omega (arith, few i .0, few i .1)),
     )
 
-same-length : tie.Need-same-length
-same-length c = search needs
-
 returns : tie.Need-returns
 unfolding refusedText
 returns c =
@@ -60,15 +39,5 @@ returns c =
 
 pub put-refused-spec : {M : Type 1} → statement M
 put-refused-spec =
-    tie.close
-    (tie.spec
-    number-requires
-    index-requires
-    part-requires
-    index-requires-2
-    slice-aggregate-put-item
-    put-item-requires
-    slice-aggregate-put-last
-    put-last-requires
-    same-length
-    returns)
+    tie.close (tie.spec (λ c κs. search needs) (λ c κs. search needs) (λ c κs. search needs) (λ c κs. search needs)
+    (λ c. search needs) put-item-requires (λ c. search needs) put-last-requires (λ c. search needs) returns)

@@ -18,12 +18,6 @@ value1 s = item blank (s .args .v1)
 abbrev value2 : tie.Start → List ℕ
 value2 s = lastItem blank (s .args .v2)
 
-index-requires : tie.Need-index-requires
-index-requires c κs = search needs
-
-slice-aggregate-put-heading : tie.Need-slice-aggregate-put-heading
-slice-aggregate-put-heading c = search needs
-
 put-heading-requires : tie.Need-put-heading-requires
 unfolding formulaText
 put-heading-requires c κs =
@@ -36,18 +30,12 @@ put-entry-requires c κs =
     let s = c .before .before .before .before .before .before .before .before in
     fits-then (value1 s) (fits-first (s .args .text .now) (s .args .at) (head s ++ value1 s) (value2 s) (s .pre)) (c .before .before .before .put-heading .ensures)
 
-slice-aggregate-put-last : tie.Need-slice-aggregate-put-last
-slice-aggregate-put-last c = search needs
-
 put-last-requires : tie.Need-put-last-requires
 unfolding formulaText
 put-last-requires c κs =
     let s = c .before .before .before .before .before .before .before .before .before .before .before .before .before in
     rw (c .before .before .before .before .before .before .before .before .before .before .before .index .ensures .0)
     (fits-then (value2 s) (s .pre) (wrote-then (value1 s) (omega (arith, s .pre)) (c .before .before .before .before .before .before .before .before .put-heading .ensures) (c .before .before .before .before .put-entry .ensures)))
-
-same-length : tie.Need-same-length
-same-length c = search needs
 
 returns : tie.Need-returns
 unfolding formulaText
@@ -59,13 +47,5 @@ returns c =
 
 pub put-values-spec : {M : Type 1} → statement M
 put-values-spec =
-    tie.close
-    (tie.spec
-    index-requires
-    slice-aggregate-put-heading
-    put-heading-requires
-    put-entry-requires
-    slice-aggregate-put-last
-    put-last-requires
-    same-length
-    returns)
+    tie.close (tie.spec (λ c κs. search needs) (λ c. search needs) put-heading-requires put-entry-requires
+    (λ c. search needs) put-last-requires (λ c. search needs) returns)

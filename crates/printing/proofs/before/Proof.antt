@@ -16,15 +16,6 @@ abbrev μ-loop : tie.MeasureT-loop
 
 pub before-spec : {M : Type 1} → statement M
 before-spec =
-    tie.close
-    (tie.spec
-    Inv-loop
-    μ-loop
-    (λ c. search needs)
-    (λ c. search needs)
-    (λ c. search needs)
-    (λ c. counts _ _ (omega arith))
-    (λ c. search needs)
-    (λ c. search needs)
-    (λ c. search needs)
+    tie.close (tie.spec Inv-loop μ-loop (λ c. search needs) (λ c. search needs) (λ c. search needs)
+    (λ c. counts _ _ (omega arith)) (λ c. search needs) (λ c. search needs) (λ c. search needs)
     (λ c. counts _ _ (omega arith)))

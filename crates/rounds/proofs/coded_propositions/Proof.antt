@@ -16,65 +16,8 @@ Inv-loop top codes negated m1 m2 k row1 row2 x₀ p₀ x p = (p ≤ k) × Folded
 abbrev μ-loop : tie.MeasureT-loop
 μ-loop top codes negated m1 m2 k row1 row2 x₀ p₀ x p = k - p
 
-propositions-requires : tie.Need-propositions-requires Inv-loop μ-loop
-propositions-requires c κs = search needs
-
-label-row-requires : tie.Need-label-row-requires Inv-loop μ-loop
-label-row-requires c κs = search needs
-
-label-row-requires-2 : tie.Need-label-row-requires-2 Inv-loop μ-loop
-label-row-requires-2 c κs = search needs
-
 loop-holds : tie.Need-loop-holds Inv-loop μ-loop
 loop-holds c = (omega arith, folded-none)
-
-add-a : tie.Need-add-a Inv-loop μ-loop
-add-a c = search needs
-
-shared-slice-read-a : tie.Need-shared-slice-read-a Inv-loop μ-loop
-shared-slice-read-a c = search needs
-
-cast-a : tie.Need-cast-a Inv-loop μ-loop
-cast-a c = search needs
-
-add-b : tie.Need-add-b Inv-loop μ-loop
-add-b c = search needs
-
-shared-slice-read-b : tie.Need-shared-slice-read-b Inv-loop μ-loop
-shared-slice-read-b c = search needs
-
-cast-b : tie.Need-cast-b Inv-loop μ-loop
-cast-b c = search needs
-
-mul-x : tie.Need-mul-x Inv-loop μ-loop
-mul-x c = search needs
-
-element-copy-out-x : tie.Need-element-copy-out-x Inv-loop μ-loop
-element-copy-out-x c = search needs
-
-mul-x-2 : tie.Need-mul-x-2 Inv-loop μ-loop
-mul-x-2 c = search needs
-
-element-copy-out-x-2 : tie.Need-element-copy-out-x-2 Inv-loop μ-loop
-element-copy-out-x-2 c = search needs
-
-mul-x-3 : tie.Need-mul-x-3 Inv-loop μ-loop
-mul-x-3 c = search needs
-
-element-copy-out-x-3 : tie.Need-element-copy-out-x-3 Inv-loop μ-loop
-element-copy-out-x-3 c = search needs
-
-mul-x-4 : tie.Need-mul-x-4 Inv-loop μ-loop
-mul-x-4 c = search needs
-
-element-copy-out-x-4 : tie.Need-element-copy-out-x-4 Inv-loop μ-loop
-element-copy-out-x-4 c = search needs
-
-add-p : tie.Need-add-p Inv-loop μ-loop
-add-p c = search needs
-
-loop-less : tie.Need-loop-less Inv-loop μ-loop
-loop-less c = search needs
 
 loop-again : tie.Need-loop-again Inv-loop μ-loop
 loop-again c = (omega arith, folded-more (c .before .before .before .before .before .before .before .loop .inv .1) refl refl)
@@ -86,29 +29,8 @@ returns c =
 
 pub coded-propositions-spec : {M : Type 1} → statement M
 coded-propositions-spec =
-    tie.close
-    (tie.spec
-    Inv-loop
-    μ-loop
-    propositions-requires
-    label-row-requires
-    label-row-requires-2
-    loop-holds
-    add-a
-    shared-slice-read-a
-    cast-a
-    add-b
-    shared-slice-read-b
-    cast-b
-    mul-x
-    element-copy-out-x
-    mul-x-2
-    element-copy-out-x-2
-    mul-x-3
-    element-copy-out-x-3
-    mul-x-4
-    element-copy-out-x-4
-    add-p
-    loop-less
-    loop-again
-    returns)
+    tie.close (tie.spec Inv-loop μ-loop (λ c κs. search needs) (λ c κs. search needs) (λ c κs. search needs) loop-holds
+    (λ c. search needs) (λ c. search needs) (λ c. search needs) (λ c. search needs) (λ c. search needs)
+    (λ c. search needs) (λ c. search needs) (λ c. search needs) (λ c. search needs) (λ c. search needs)
+    (λ c. search needs) (λ c. search needs) (λ c. search needs) (λ c. search needs) (λ c. search needs)
+    (λ c. search needs) loop-again returns)

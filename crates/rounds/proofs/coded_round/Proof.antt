@@ -18,26 +18,8 @@ Inv-loop t l m1 m2 s codes negated joins out₀ n1 changed₀ q1₀ out changed 
 abbrev μ-loop : tie.MeasureT-loop
 μ-loop t l m1 m2 s codes negated joins out₀ n1 changed₀ q1₀ out changed q1 = n1 - q1
 
-states-requires : tie.Need-states-requires Inv-loop μ-loop
-states-requires c κs = search needs
-
 loop-holds : tie.Need-loop-holds Inv-loop μ-loop
 loop-holds c = (omega arith, round-none)
-
-cast-t17 : tie.Need-cast-t17 Inv-loop μ-loop
-cast-t17 c = search needs
-
-coded-row-requires : tie.Need-coded-row-requires Inv-loop μ-loop
-coded-row-requires c κs = search needs
-
-either-requires : tie.Need-either-requires Inv-loop μ-loop
-either-requires c κs = search needs
-
-add-q1 : tie.Need-add-q1 Inv-loop μ-loop
-add-q1 c = search needs
-
-loop-less : tie.Need-loop-less Inv-loop μ-loop
-loop-less c = search needs
 
 loop-again : tie.Need-loop-again Inv-loop μ-loop
 loop-again c =
@@ -55,17 +37,5 @@ returns c = let i = c .before .loop .inv in round-reached (i .1) (omega arith) (
 
 pub coded-round-spec : {M : Type 1} → statement M
 coded-round-spec =
-    tie.close
-    (tie.spec
-    Inv-loop
-    μ-loop
-    states-requires
-    loop-holds
-    cast-t17
-    coded-row-requires
-    either-requires
-    add-q1
-    loop-less
-    loop-again
-    same-length
-    returns)
+    tie.close (tie.spec Inv-loop μ-loop (λ c κs. search needs) loop-holds (λ c. search needs) (λ c κs. search needs)
+    (λ c κs. search needs) (λ c. search needs) (λ c. search needs) loop-again same-length returns)

@@ -27,12 +27,6 @@ Inv-loop t l m1 m2 s codes negated joins out₀ q1 n2 at left from changed₀ q2
 abbrev μ-loop : tie.MeasureT-loop
 μ-loop t l m1 m2 s codes negated joins out₀ q1 n2 at left from changed₀ q2₀ out changed q2 = n2 - q2
 
-states-requires : tie.Need-states-requires Inv-loop μ-loop
-states-requires c κs = search needs
-
-index-requires : tie.Need-index-requires Inv-loop μ-loop
-index-requires c κs = search needs
-
 -- where the row stands
 place : (c : tie.After-index Inv-loop μ-loop) → RowAt (c .before .before .before .before .before .before .args .m1 .now) (c .before .before .before .before .before .before .args .m2 .now) (c .before .before .before .before .before .before .args .q1 .0) (c .before .states .result) (c .index .result * c .before .states .result)
 place c =
@@ -41,18 +35,6 @@ place c =
 
 mul-at : tie.Need-mul-at Inv-loop μ-loop
 mul-at c = omega (arith, place c, c .before .before .before .before .before .before .pre .2)
-
-transition-row-requires : tie.Need-transition-row-requires Inv-loop μ-loop
-transition-row-requires c κs = search needs
-
-states-requires-2 : tie.Need-states-requires-2 Inv-loop μ-loop
-states-requires-2 c κs = search needs
-
-slice-aggregate-encode : tie.Need-slice-aggregate-encode Inv-loop μ-loop
-slice-aggregate-encode c = search needs
-
-encode-requires : tie.Need-encode-requires Inv-loop μ-loop
-encode-requires c κs = search needs
 
 loop-holds : tie.Need-loop-holds Inv-loop μ-loop
 loop-holds c = (
@@ -63,32 +45,14 @@ loop-holds c = (
   row-none,
 )
 
-cast-old : tie.Need-cast-old Inv-loop μ-loop
-cast-old c = search needs
-
 coded-entry-requires : tie.Need-coded-entry-requires Inv-loop μ-loop
 coded-entry-requires c κs = (c .before .before .before .before .before .before .before .before .before .before .before .before .before .before .pre .0, c .before .before .before .before .before .before .before .before .before .before .before .before .before .before .pre .1, c .before .before .loop .inv .3, c .before .before .before .before .before .before .before .before .before .before .before .before .before .before .pre .3, search needs)
 
 add-old : tie.Need-add-old Inv-loop μ-loop
 add-old c = omega (arith, c .before .before .before .loop .inv .0, few-entries (c .before .before .before .before .before .before .before .before .before .before .before .before .before .before .before .pre .0))
 
-shared-slice-read-old : tie.Need-shared-slice-read-old Inv-loop μ-loop
-shared-slice-read-old c = search needs
-
-changed-or-requires : tie.Need-changed-or-requires Inv-loop μ-loop
-changed-or-requires c κs = search needs
-
 add-out : tie.Need-add-out Inv-loop μ-loop
 add-out c = omega (arith, c .before .before .before .before .before .loop .inv .0, few-entries (c .before .before .before .before .before .before .before .before .before .before .before .before .before .before .before .before .before .pre .0))
-
-slice-write-out : tie.Need-slice-write-out Inv-loop μ-loop
-slice-write-out c = search needs
-
-add-q2 : tie.Need-add-q2 Inv-loop μ-loop
-add-q2 c = search needs
-
-loop-less : tie.Need-loop-less Inv-loop μ-loop
-loop-less c = search needs
 
 loop-again : tie.Need-loop-again Inv-loop μ-loop
 loop-again c =
@@ -112,27 +76,7 @@ returns c =
 
 pub coded-row-spec : {M : Type 1} → statement M
 coded-row-spec =
-    tie.close
-    (tie.spec
-    Inv-loop
-    μ-loop
-    states-requires
-    index-requires
-    mul-at
-    transition-row-requires
-    states-requires-2
-    slice-aggregate-encode
-    encode-requires
-    loop-holds
-    cast-old
-    coded-entry-requires
-    add-old
-    shared-slice-read-old
-    changed-or-requires
-    add-out
-    slice-write-out
-    add-q2
-    loop-less
-    loop-again
-    same-length
-    returns)
+    tie.close (tie.spec Inv-loop μ-loop (λ c κs. search needs) (λ c κs. search needs) mul-at (λ c κs. search needs)
+    (λ c κs. search needs) (λ c. search needs) (λ c κs. search needs) loop-holds (λ c. search needs)
+    coded-entry-requires add-old (λ c. search needs) (λ c κs. search needs) add-out (λ c. search needs)
+    (λ c. search needs) (λ c. search needs) loop-again same-length returns)

@@ -22,17 +22,8 @@ loop-holds c = (omega arith, c .before .before .pre .3, rows-none)
 mul-encode : tie.Need-mul-encode Inv-loop μ-loop
 mul-encode c = omega (arith, row-le (c .before .loop .q) (c .before .before .before .before .args .n1) (c .before .before .before .before .args .n2) (c .loop-test .taken))
 
-mul-encode-2 : tie.Need-mul-encode-2 Inv-loop μ-loop
-mul-encode-2 c = search needs
-
 encode-requires : tie.Need-encode-requires Inv-loop μ-loop
 encode-requires c κs = omega (arith, row-le (c .before .before .loop .q) (c .before .before .before .before .before .args .n1) (c .before .before .before .before .before .args .n2) (c .before .loop-test .taken))
-
-add-q : tie.Need-add-q Inv-loop μ-loop
-add-q c = search needs
-
-loop-less : tie.Need-loop-less Inv-loop μ-loop
-loop-less c = search needs
 
 loop-again : tie.Need-loop-again Inv-loop μ-loop
 loop-again c =
@@ -40,24 +31,10 @@ loop-again c =
     let a = c .before .before .before .before .before .before .before .before .args in
     (omega arith, search needs, rows-more (λ r. wordOf (a .codes .now) (getD (a .s .now) (c .before .before .before .before .before .loop .q * a .n2 + r) 0)) (i .2) (c .before .before .before .before .before .before .before .before .pre .1) (omega arith) (c .before .before .encode .ensures) (λ r l. refl))
 
-same-length : tie.Need-same-length Inv-loop μ-loop
-same-length c = search needs
-
 returns : tie.Need-returns Inv-loop μ-loop
 returns c = rows-all (c .before .loop .inv .2) (omega arith) (omega arith)
 
 pub encode-table-spec : {M : Type 1} → statement M
 encode-table-spec =
-    tie.close
-    (tie.spec
-    Inv-loop
-    μ-loop
-    loop-holds
-    mul-encode
-    mul-encode-2
-    encode-requires
-    add-q
-    loop-less
-    loop-again
-    same-length
-    returns)
+    tie.close (tie.spec Inv-loop μ-loop loop-holds mul-encode (λ c. search needs) encode-requires (λ c. search needs)
+    (λ c. search needs) loop-again (λ c. search needs) returns)

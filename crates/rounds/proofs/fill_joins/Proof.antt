@@ -14,35 +14,8 @@ Inv-loop codes bottom m2 table n1 joins₀ n2 row₀ q2₀ joins row q2 = (q2 �
 abbrev μ-loop : tie.MeasureT-loop
 μ-loop codes bottom m2 table n1 joins₀ n2 row₀ q2₀ joins row q2 = n2 - q2
 
-states-requires : tie.Need-states-requires Inv-loop μ-loop
-states-requires c κs = search needs
-
 loop-holds : tie.Need-loop-holds Inv-loop μ-loop
 loop-holds c = (omega arith, c .before .before .before .pre .2, search needs, rows-none)
-
-cast-t12 : tie.Need-cast-t12 Inv-loop μ-loop
-cast-t12 c = search needs
-
-transition-row-requires : tie.Need-transition-row-requires Inv-loop μ-loop
-transition-row-requires c κs = search needs
-
-slice-aggregate-encode : tie.Need-slice-aggregate-encode Inv-loop μ-loop
-slice-aggregate-encode c = search needs
-
-encode-requires : tie.Need-encode-requires Inv-loop μ-loop
-encode-requires c κs = search needs
-
-mul-join-row : tie.Need-mul-join-row Inv-loop μ-loop
-mul-join-row c = search needs
-
-join-row-requires : tie.Need-join-row-requires Inv-loop μ-loop
-join-row-requires c κs = search needs
-
-add-q2 : tie.Need-add-q2 Inv-loop μ-loop
-add-q2 c = search needs
-
-loop-less : tie.Need-loop-less Inv-loop μ-loop
-loop-less c = search needs
 
 loop-again : tie.Need-loop-again Inv-loop μ-loop
 loop-again c =
@@ -54,28 +27,11 @@ loop-again c =
       inner-more (a .bottom) (a .table .now) _ (row-words (a .codes .now) (a .m2 .now) _ _ _ _ (c .before .before .before .before .before .before .encode .ensures) (omega arith) (c .before .before .before .before .before .before .before .before .transition-row .ensures .0) (c .before .before .before .before .before .before .before .before .before .before .before .states .ensures)) (i .3) (c .before .before .before .before .before .before .before .before .before .before .before .states .ensures) (c .before .before .before .before .before .before .before .before .before .before .before .before .before .before .pre .1) (omega arith) (c .before .before .join-row .ensures),
     )
 
-same-length : tie.Need-same-length Inv-loop μ-loop
-same-length c = search needs
-
 returns : tie.Need-returns Inv-loop μ-loop
 returns c = rows-all (c .before .loop .inv .3) (omega arith) (omega arith)
 
 pub fill-joins-spec : {M : Type 1} → statement M
 fill-joins-spec =
-    tie.close
-    (tie.spec
-    Inv-loop
-    μ-loop
-    states-requires
-    loop-holds
-    cast-t12
-    transition-row-requires
-    slice-aggregate-encode
-    encode-requires
-    mul-join-row
-    join-row-requires
-    add-q2
-    loop-less
-    loop-again
-    same-length
-    returns)
+    tie.close (tie.spec Inv-loop μ-loop (λ c κs. search needs) loop-holds (λ c. search needs) (λ c κs. search needs)
+    (λ c. search needs) (λ c κs. search needs) (λ c. search needs) (λ c κs. search needs) (λ c. search needs)
+    (λ c. search needs) loop-again (λ c. search needs) returns)

@@ -17,24 +17,6 @@ abbrev μ-loop : tie.MeasureT-loop
 loop-holds : tie.Need-loop-holds Inv-loop μ-loop
 loop-holds c = (omega arith, refl, written-start)
 
-joined-requires : tie.Need-joined-requires Inv-loop μ-loop
-joined-requires c κs = search needs
-
-add-joins : tie.Need-add-joins Inv-loop μ-loop
-add-joins c = search needs
-
-mul-joins : tie.Need-mul-joins Inv-loop μ-loop
-mul-joins c = search needs
-
-slice-write-joins : tie.Need-slice-write-joins Inv-loop μ-loop
-slice-write-joins c = search needs
-
-add-q : tie.Need-add-q Inv-loop μ-loop
-add-q c = search needs
-
-loop-less : tie.Need-loop-less Inv-loop μ-loop
-loop-less c = search needs
-
 loop-again : tie.Need-loop-again Inv-loop μ-loop
 loop-again c =
     let i = c .before .before .loop .inv in
@@ -48,17 +30,5 @@ returns c = written-all (c .before .loop .inv .2) (omega arith) (omega arith)
 
 pub join-row-spec : {M : Type 1} → statement M
 join-row-spec =
-    tie.close
-    (tie.spec
-    Inv-loop
-    μ-loop
-    loop-holds
-    joined-requires
-    add-joins
-    mul-joins
-    slice-write-joins
-    add-q
-    loop-less
-    loop-again
-    same-length
-    returns)
+    tie.close (tie.spec Inv-loop μ-loop loop-holds (λ c κs. search needs) (λ c. search needs) (λ c. search needs)
+    (λ c. search needs) (λ c. search needs) (λ c. search needs) loop-again same-length returns)

@@ -30,24 +30,6 @@ mul-join-of-meets c = omega (arith, row-le (c .before .loop .q) (c .before .befo
 join-of-meets-requires : tie.Need-join-of-meets-requires Inv-loop μ-loop
 join-of-meets-requires c κs = omega (arith, row-le (c .before .loop .q) (c .before .before .before .before .before .before .args .n1) (c .before .before .before .before .before .before .args .n2) (c .loop-test .taken))
 
-add-t14 : tie.Need-add-t14 Inv-loop μ-loop
-add-t14 c = search needs
-
-shared-slice-read-t17 : tie.Need-shared-slice-read-t17 Inv-loop μ-loop
-shared-slice-read-t17 c = search needs
-
-implies-requires : tie.Need-implies-requires Inv-loop μ-loop
-implies-requires c κs = search needs
-
-meet-requires : tie.Need-meet-requires Inv-loop μ-loop
-meet-requires c κs = search needs
-
-add-q : tie.Need-add-q Inv-loop μ-loop
-add-q c = search needs
-
-loop-less : tie.Need-loop-less Inv-loop μ-loop
-loop-less c = search needs
-
 loop-again : tie.Need-loop-again Inv-loop μ-loop
 loop-again c =
     let a = c .before .before .before .before .before .before .before .before .before .before .args in
@@ -66,18 +48,6 @@ returns c =
 
 pub matching-spec : {M : Type 1} → statement M
 matching-spec =
-    tie.close
-    (tie.spec
-    Inv-loop
-    μ-loop
-    loop-holds
-    mul-join-of-meets
-    join-of-meets-requires
-    add-t14
-    shared-slice-read-t17
-    implies-requires
-    meet-requires
-    add-q
-    loop-less
-    loop-again
+    tie.close (tie.spec Inv-loop μ-loop loop-holds mul-join-of-meets join-of-meets-requires (λ c. search needs)
+    (λ c. search needs) (λ c κs. search needs) (λ c κs. search needs) (λ c. search needs) (λ c. search needs) loop-again
     returns)

@@ -17,38 +17,14 @@ returns c = λ e. absurd (false-true refl e)
 returns-2 : tie.Need-returns-2
 returns-2 c = λ e. absurd (false-true refl e)
 
-index-requires : tie.Need-index-requires
-index-requires c κs = search needs
-
-below-requires : tie.Need-below-requires
-below-requires c κs = search needs
-
 returns-3 : tie.Need-returns-3
 returns-3 c = λ e. absurd (false-true refl e)
-
-sub-below : tie.Need-sub-below
-sub-below c = search needs
-
-below-requires-2 : tie.Need-below-requires-2
-below-requires-2 c κs = search needs
 
 returns-4 : tie.Need-returns-4
 returns-4 c = λ e. absurd (false-true refl e)
 
-sub-below-2 : tie.Need-sub-below-2
-sub-below-2 c = search needs
-
-below-requires-3 : tie.Need-below-requires-3
-below-requires-3 c κs = search needs
-
 returns-5 : tie.Need-returns-5
 returns-5 c = λ e. absurd (false-true refl e)
-
-states-requires : tie.Need-states-requires
-states-requires c κs = search needs
-
-states-requires-2 : tie.Need-states-requires-2
-states-requires-2 c κs = search needs
 
 mul-below : tie.Need-mul-below
 mul-below c = omega (arith, prod-le (c .before .states .result) (c .states2 .result) 64 64 (omega arith) (omega arith))
@@ -72,21 +48,6 @@ returns-6 c =
 
 pub only-elements-spec : {M : Type 1} → statement M
 only-elements-spec =
-    tie.close
-    (tie.spec
-    returns
-    returns-2
-    index-requires
-    below-requires
-    returns-3
-    sub-below
-    below-requires-2
-    returns-4
-    sub-below-2
-    below-requires-3
-    returns-5
-    states-requires
-    states-requires-2
-    mul-below
-    below-requires-4
-    returns-6)
+    tie.close (tie.spec returns returns-2 (λ c κs. search needs) (λ c κs. search needs) returns-3 (λ c. search needs)
+    (λ c κs. search needs) returns-4 (λ c. search needs) (λ c κs. search needs) returns-5 (λ c κs. search needs)
+    (λ c κs. search needs) mul-below below-requires-4 returns-6)

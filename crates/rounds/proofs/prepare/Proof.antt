@@ -9,9 +9,6 @@ use native.Mathlib.Omega.{arith}
 use Rattle.rounds.proofs.prepare.Statement.{statement}
 use Rattle.rounds.proofs.prepare.Tie as tie
 
-find-requires : tie.Need-find-requires
-find-requires c κs = search needs
-
 returns : tie.Need-returns
 returns c = λ e. absurd (false-true refl e)
 
@@ -21,29 +18,8 @@ only-elements-requires c κs = (c .before .before .before .before .before .befor
 returns-2 : tie.Need-returns-2
 returns-2 c = λ e. absurd (false-true refl e)
 
-states-requires : tie.Need-states-requires
-states-requires c κs = search needs
-
-cast-bottom : tie.Need-cast-bottom
-cast-bottom c = search needs
-
-mul-bottom : tie.Need-mul-bottom
-mul-bottom c = search needs
-
-element-copy-out-bottom : tie.Need-element-copy-out-bottom
-element-copy-out-bottom c = search needs
-
-index-requires : tie.Need-index-requires
-index-requires c κs = search needs
-
 encode-requires : tie.Need-encode-requires
 encode-requires c κs = let m = c .before .before .before .before .before .before .before .before .before .before .find .ensures (not-false _ (c .before .before .before .before .before .before .before .before .before .if1 .left)) .most in search needs
-
-states-requires-2 : tie.Need-states-requires-2
-states-requires-2 c κs = search needs
-
-slice-aggregate-encode-table : tie.Need-slice-aggregate-encode-table
-slice-aggregate-encode-table c = search needs
 
 encode-table-requires : tie.Need-encode-table-requires
 encode-table-requires c κs =
@@ -52,9 +28,6 @@ encode-table-requires c κs =
 
 fill-joins-requires : tie.Need-fill-joins-requires
 fill-joins-requires c κs = (c .before .before .before .before .before .before .before .before .before .before .before .before .before .before .before .before .before .before .before .before .before .before .before .before .before .pre .0 .second, omega (arith, c .before .before .before .before .before .before .before .before .before .before .before .before .before .before .before .states .ensures, c .before .before .before .before .before .before .before .before .before .before .before .before .before .before .before .before .before .before .before .before .before .before .before .before .before .pre .0 .first .states-most), c .before .before .before .before .before .before .before .before .before .before .before .before .before .before .before .before .before .before .before .before .before .before .before .before .before .pre .1)
-
-same-length : tie.Need-same-length
-same-length c = search needs
 
 returns-3 : tie.Need-returns-3
 returns-3 c =
@@ -65,21 +38,6 @@ returns-3 c =
 
 pub prepare-spec : {M : Type 1} → statement M
 prepare-spec =
-    tie.close
-    (tie.spec
-    find-requires
-    returns
-    only-elements-requires
-    returns-2
-    states-requires
-    cast-bottom
-    mul-bottom
-    element-copy-out-bottom
-    index-requires
-    encode-requires
-    states-requires-2
-    slice-aggregate-encode-table
-    encode-table-requires
-    fill-joins-requires
-    same-length
-    returns-3)
+    tie.close (tie.spec (λ c κs. search needs) returns only-elements-requires returns-2 (λ c κs. search needs)
+    (λ c. search needs) (λ c. search needs) (λ c. search needs) (λ c κs. search needs) encode-requires
+    (λ c κs. search needs) (λ c. search needs) encode-table-requires fill-joins-requires (λ c. search needs) returns-3)

@@ -18,41 +18,8 @@ Inv-loop t m1 m2 k row1 row2 x₀ p₀ x p =
 abbrev μ-loop : tie.MeasureT-loop
 μ-loop t m1 m2 k row1 row2 x₀ p₀ x p = k - p
 
-propositions-requires : tie.Need-propositions-requires Inv-loop μ-loop
-propositions-requires c κs = search needs
-
-label-row-requires : tie.Need-label-row-requires Inv-loop μ-loop
-label-row-requires c κs = search needs
-
-label-row-requires-2 : tie.Need-label-row-requires-2 Inv-loop μ-loop
-label-row-requires-2 c κs = search needs
-
 loop-holds : tie.Need-loop-holds Inv-loop μ-loop
 loop-holds c = (omega arith, folded-none)
-
-add-t14 : tie.Need-add-t14 Inv-loop μ-loop
-add-t14 c = search needs
-
-shared-slice-read-t16 : tie.Need-shared-slice-read-t16 Inv-loop μ-loop
-shared-slice-read-t16 c = search needs
-
-add-t18 : tie.Need-add-t18 Inv-loop μ-loop
-add-t18 c = search needs
-
-shared-slice-read-t20 : tie.Need-shared-slice-read-t20 Inv-loop μ-loop
-shared-slice-read-t20 c = search needs
-
-equivalent-requires : tie.Need-equivalent-requires Inv-loop μ-loop
-equivalent-requires c κs = search needs
-
-meet-requires : tie.Need-meet-requires Inv-loop μ-loop
-meet-requires c κs = search needs
-
-add-p : tie.Need-add-p Inv-loop μ-loop
-add-p c = search needs
-
-loop-less : tie.Need-loop-less Inv-loop μ-loop
-loop-less c = search needs
 
 loop-again : tie.Need-loop-again Inv-loop μ-loop
 loop-again c = (omega arith, folded-more (c .before .before .before .before .before .loop .inv .1) (c .before .equivalent .ensures) (c .meet .ensures))
@@ -68,21 +35,6 @@ returns c =
 
 pub proposition-part-spec : {M : Type 1} → statement M
 proposition-part-spec =
-    tie.close
-    (tie.spec
-    Inv-loop
-    μ-loop
-    propositions-requires
-    label-row-requires
-    label-row-requires-2
-    loop-holds
-    add-t14
-    shared-slice-read-t16
-    add-t18
-    shared-slice-read-t20
-    equivalent-requires
-    meet-requires
-    add-p
-    loop-less
-    loop-again
-    returns)
+    tie.close (tie.spec Inv-loop μ-loop (λ c κs. search needs) (λ c κs. search needs) (λ c κs. search needs) loop-holds
+    (λ c. search needs) (λ c. search needs) (λ c. search needs) (λ c. search needs) (λ c κs. search needs)
+    (λ c κs. search needs) (λ c. search needs) (λ c. search needs) loop-again returns)

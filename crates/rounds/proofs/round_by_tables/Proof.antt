@@ -18,26 +18,8 @@ Inv-loop t l m1 m2 s out₀ n1 changed₀ q1₀ out changed q1 =
 abbrev μ-loop : tie.MeasureT-loop
 μ-loop t l m1 m2 s out₀ n1 changed₀ q1₀ out changed q1 = n1 - q1
 
-states-requires : tie.Need-states-requires Inv-loop μ-loop
-states-requires c κs = search needs
-
 loop-holds : tie.Need-loop-holds Inv-loop μ-loop
 loop-holds c = (omega arith, round-none)
-
-cast-t14 : tie.Need-cast-t14 Inv-loop μ-loop
-cast-t14 c = search needs
-
-row-by-tables-requires : tie.Need-row-by-tables-requires Inv-loop μ-loop
-row-by-tables-requires c κs = search needs
-
-either-requires : tie.Need-either-requires Inv-loop μ-loop
-either-requires c κs = search needs
-
-add-q1 : tie.Need-add-q1 Inv-loop μ-loop
-add-q1 c = search needs
-
-loop-less : tie.Need-loop-less Inv-loop μ-loop
-loop-less c = search needs
 
 loop-again : tie.Need-loop-again Inv-loop μ-loop
 loop-again c =
@@ -55,17 +37,5 @@ returns c = let i = c .before .loop .inv in round-reached (i .1) (omega arith) (
 
 pub round-by-tables-spec : {M : Type 1} → statement M
 round-by-tables-spec =
-    tie.close
-    (tie.spec
-    Inv-loop
-    μ-loop
-    states-requires
-    loop-holds
-    cast-t14
-    row-by-tables-requires
-    either-requires
-    add-q1
-    loop-less
-    loop-again
-    same-length
-    returns)
+    tie.close (tie.spec Inv-loop μ-loop (λ c κs. search needs) loop-holds (λ c. search needs) (λ c κs. search needs)
+    (λ c κs. search needs) (λ c. search needs) (λ c. search needs) loop-again same-length returns)

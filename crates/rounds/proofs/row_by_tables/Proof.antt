@@ -31,44 +31,11 @@ place c =
     let b = c .before .before .before .before .before .before in
     row-at _ _ (b .args .s .now) _ _ _ (b .pre .0) (b .pre .2) (c .before .states .ensures) (c .index .ensures .0)
 
-states-requires : tie.Need-states-requires Inv-loop μ-loop
-states-requires c κs = search needs
-
-index-requires : tie.Need-index-requires Inv-loop μ-loop
-index-requires c κs = search needs
-
 mul-at : tie.Need-mul-at Inv-loop μ-loop
 mul-at c = omega (arith, place c, c .before .before .before .before .before .before .pre .1)
 
 loop-holds : tie.Need-loop-holds Inv-loop μ-loop
 loop-holds c = (place c, omega arith, refl, row-none)
-
-cast-changed-or : tie.Need-cast-changed-or Inv-loop μ-loop
-cast-changed-or c = search needs
-
-entry-requires : tie.Need-entry-requires Inv-loop μ-loop
-entry-requires c κs = search needs
-
-add-changed-or : tie.Need-add-changed-or Inv-loop μ-loop
-add-changed-or c = search needs
-
-shared-slice-read-changed-or : tie.Need-shared-slice-read-changed-or Inv-loop μ-loop
-shared-slice-read-changed-or c = search needs
-
-changed-or-requires : tie.Need-changed-or-requires Inv-loop μ-loop
-changed-or-requires c κs = search needs
-
-add-out : tie.Need-add-out Inv-loop μ-loop
-add-out c = search needs
-
-slice-write-out : tie.Need-slice-write-out Inv-loop μ-loop
-slice-write-out c = search needs
-
-add-q2 : tie.Need-add-q2 Inv-loop μ-loop
-add-q2 c = search needs
-
-loop-less : tie.Need-loop-less Inv-loop μ-loop
-loop-less c = search needs
 
 loop-again : tie.Need-loop-again Inv-loop μ-loop
 loop-again c =
@@ -92,23 +59,6 @@ returns c =
 
 pub row-by-tables-spec : {M : Type 1} → statement M
 row-by-tables-spec =
-    tie.close
-    (tie.spec
-    Inv-loop
-    μ-loop
-    states-requires
-    index-requires
-    mul-at
-    loop-holds
-    cast-changed-or
-    entry-requires
-    add-changed-or
-    shared-slice-read-changed-or
-    changed-or-requires
-    add-out
-    slice-write-out
-    add-q2
-    loop-less
-    loop-again
-    same-length
-    returns)
+    tie.close (tie.spec Inv-loop μ-loop (λ c κs. search needs) (λ c κs. search needs) mul-at loop-holds
+    (λ c. search needs) (λ c κs. search needs) (λ c. search needs) (λ c. search needs) (λ c κs. search needs)
+    (λ c. search needs) (λ c. search needs) (λ c. search needs) (λ c. search needs) loop-again same-length returns)

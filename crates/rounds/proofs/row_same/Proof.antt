@@ -29,29 +29,11 @@ place c =
     let b = c .before .before .before .before .before in
     row-at _ _ (b .args .s .now) _ _ _ (b .pre .0) (b .pre .1) (c .before .states .ensures) (c .index .ensures .0)
 
-states-requires : tie.Need-states-requires Inv-loop μ-loop
-states-requires c κs = search needs
-
-index-requires : tie.Need-index-requires Inv-loop μ-loop
-index-requires c κs = search needs
-
 mul-at : tie.Need-mul-at Inv-loop μ-loop
 mul-at c = omega (arith, place c, c .before .before .before .before .before .pre .0 .held)
 
 loop-holds : tie.Need-loop-holds Inv-loop μ-loop
 loop-holds c = (place c, omega arith, passed-none)
-
-cast-if1 : tie.Need-cast-if1 Inv-loop μ-loop
-cast-if1 c = search needs
-
-entry-requires : tie.Need-entry-requires Inv-loop μ-loop
-entry-requires c κs = search needs
-
-add-if1 : tie.Need-add-if1 Inv-loop μ-loop
-add-if1 c = search needs
-
-shared-slice-read-if1 : tie.Need-shared-slice-read-if1 Inv-loop μ-loop
-shared-slice-read-if1 c = search needs
 
 returns : tie.Need-returns Inv-loop μ-loop
 unfolding rowSame
@@ -61,12 +43,6 @@ returns c =
     sym
     (all-fails _ _ _ (omega arith)
     (differ-eqb (row-entry (a .m1 .now) (a .m2 .now) (a .s .now) (a .q1 .0) _ _ _ (i .0)) (c .before .before .before .entry .ensures) (c .if1 .taken)))
-
-add-q2 : tie.Need-add-q2 Inv-loop μ-loop
-add-q2 c = search needs
-
-loop-less : tie.Need-loop-less Inv-loop μ-loop
-loop-less c = search needs
 
 loop-again : tie.Need-loop-again Inv-loop μ-loop
 loop-again c =
@@ -84,20 +60,6 @@ returns-2 c = let i = c .before .loop .inv in passed-all (i .2) (omega arith) (o
 
 pub row-same-spec : {M : Type 1} → statement M
 row-same-spec =
-    tie.close
-    (tie.spec
-    Inv-loop
-    μ-loop
-    states-requires
-    index-requires
-    mul-at
-    loop-holds
-    cast-if1
-    entry-requires
-    add-if1
-    shared-slice-read-if1
-    returns
-    add-q2
-    loop-less
-    loop-again
-    returns-2)
+    tie.close (tie.spec Inv-loop μ-loop (λ c κs. search needs) (λ c κs. search needs) mul-at loop-holds
+    (λ c. search needs) (λ c κs. search needs) (λ c. search needs) (λ c. search needs) returns (λ c. search needs)
+    (λ c. search needs) loop-again returns-2)

@@ -6,12 +6,6 @@ use borrow.Author.Needs.{needs}
 use Rattle.rounds.proofs.score.Statement.{statement}
 use Rattle.rounds.proofs.score.Tie as tie
 
-states-requires : tie.Need-states-requires
-states-requires c κs = search needs
-
-states-requires-2 : tie.Need-states-requires-2
-states-requires-2 c κs = search needs
-
 matching-requires : tie.Need-matching-requires
 matching-requires c κs =
     let b = c .before .before .before .before .before in
@@ -24,4 +18,4 @@ returns c =
     ∙ score-whole (a .t .now) (a .l) (a .m1 .now) (a .m2 .now) (a .s .now) _ _ (c .before .before .states .ensures) (c .before .states2 .ensures)
 
 pub score-spec : {M : Type 1} → statement M
-score-spec = tie.close (tie.spec states-requires states-requires-2 matching-requires returns)
+score-spec = tie.close (tie.spec (λ c κs. search needs) (λ c κs. search needs) matching-requires returns)

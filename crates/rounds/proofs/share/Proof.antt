@@ -6,21 +6,6 @@ use borrow.Author.Needs.{needs}
 use Rattle.rounds.proofs.share.Statement.{statement}
 use Rattle.rounds.proofs.share.Tie as tie
 
-count-from-requires : tie.Need-count-from-requires
-count-from-requires c κs = search needs
-
-mul-result : tie.Need-mul-result
-mul-result c = search needs
-
-add-result : tie.Need-add-result
-add-result c = search needs
-
-mul-result-2 : tie.Need-mul-result-2
-mul-result-2 c = search needs
-
-div-result : tie.Need-div-result
-div-result c = search needs
-
 cast-result : tie.Need-cast-result
 cast-result c =
     let b = c .before .before in
@@ -33,12 +18,5 @@ returns c =
 
 pub share-spec : {M : Type 1} → statement M
 share-spec =
-    tie.close
-    (tie.spec
-    count-from-requires
-    mul-result
-    add-result
-    mul-result-2
-    div-result
-    cast-result
-    returns)
+    tie.close (tie.spec (λ c κs. search needs) (λ c. search needs) (λ c. search needs) (λ c. search needs)
+    (λ c. search needs) cast-result returns)

@@ -21,27 +21,12 @@ Inv-loop t l m1 m2 s n1 q1₀ q1 =
 abbrev μ-loop : tie.MeasureT-loop
 μ-loop t l m1 m2 s n1 q1₀ q1 = n1 - q1
 
-states-requires : tie.Need-states-requires Inv-loop μ-loop
-states-requires c κs = search needs
-
 loop-holds : tie.Need-loop-holds Inv-loop μ-loop
 loop-holds c = (omega arith, passed-none)
-
-cast-t9 : tie.Need-cast-t9 Inv-loop μ-loop
-cast-t9 c = search needs
-
-row-same-requires : tie.Need-row-same-requires Inv-loop μ-loop
-row-same-requires c κs = search needs
 
 returns : tie.Need-returns Inv-loop μ-loop
 unfolding simulationTest
 returns c = sym (all-fails _ _ _ (omega arith) (sym (c .before .row-same .ensures) ∙ not-true _ (c .if1 .taken)))
-
-add-q1 : tie.Need-add-q1 Inv-loop μ-loop
-add-q1 c = search needs
-
-loop-less : tie.Need-loop-less Inv-loop μ-loop
-loop-less c = search needs
 
 loop-again : tie.Need-loop-again Inv-loop μ-loop
 loop-again c =
@@ -54,16 +39,5 @@ returns-2 c = let i = c .before .loop .inv in passed-all (i .1) (omega arith) (o
 
 pub simulation-by-tables-spec : {M : Type 1} → statement M
 simulation-by-tables-spec =
-    tie.close
-    (tie.spec
-    Inv-loop
-    μ-loop
-    states-requires
-    loop-holds
-    cast-t9
-    row-same-requires
-    returns
-    add-q1
-    loop-less
-    loop-again
-    returns-2)
+    tie.close (tie.spec Inv-loop μ-loop (λ c κs. search needs) loop-holds (λ c. search needs) (λ c κs. search needs)
+    returns (λ c. search needs) (λ c. search needs) loop-again returns-2)

@@ -6,18 +6,6 @@ use borrow.Author.Needs.{needs}
 use Rattle.rounds.proofs.successor_part.Statement.{statement}
 use Rattle.rounds.proofs.successor_part.Tie as tie
 
-states-requires : tie.Need-states-requires
-states-requires c κs = search needs
-
-states-requires-2 : tie.Need-states-requires-2
-states-requires-2 c κs = search needs
-
-transition-row-requires : tie.Need-transition-row-requires
-transition-row-requires c κs = search needs
-
-transition-row-requires-2 : tie.Need-transition-row-requires-2
-transition-row-requires-2 c κs = search needs
-
 matching-requires : tie.Need-matching-requires
 matching-requires c κs =
     let b = c .before .before .before .before .before .before .before in
@@ -35,11 +23,5 @@ returns c =
 
 pub successor-part-spec : {M : Type 1} → statement M
 successor-part-spec =
-    tie.close
-    (tie.spec
-    states-requires
-    states-requires-2
-    transition-row-requires
-    transition-row-requires-2
-    matching-requires
-    returns)
+    tie.close (tie.spec (λ c κs. search needs) (λ c κs. search needs) (λ c κs. search needs) (λ c κs. search needs)
+    matching-requires returns)

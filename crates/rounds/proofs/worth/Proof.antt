@@ -6,15 +6,6 @@ use native.Mathlib.Omega.{arith}
 use Rattle.rounds.proofs.worth.Statement.{statement}
 use Rattle.rounds.proofs.worth.Tie as tie
 
-index-requires : tie.Need-index-requires
-index-requires c κs = search needs
-
-states-requires : tie.Need-states-requires
-states-requires c κs = search needs
-
-states-requires-2 : tie.Need-states-requires-2
-states-requires-2 c κs = search needs
-
 mul-result : tie.Need-mul-result
 mul-result c = omega (arith, prod-le (c .before .before .index .result) (c .before .before .index .result) 255 255 (omega arith) (omega arith))
 
@@ -36,19 +27,7 @@ mul-result-3 c = omega (arith, cube c)
 mul-result-4 : tie.Need-mul-result-4
 mul-result-4 c = omega (arith, prod-le (c .before .before .before .before .before .args .rows) (c .before .states .result * (c .states2 .result * c .states2 .result)) 64 262144 (omega arith) (cube c))
 
-returns : tie.Need-returns
-returns c = search needs
-
 pub worth-spec : {M : Type 1} → statement M
 worth-spec =
-    tie.close
-    (tie.spec
-    index-requires
-    states-requires
-    states-requires-2
-    mul-result
-    add-result
-    mul-result-2
-    mul-result-3
-    mul-result-4
-    returns)
+    tie.close (tie.spec (λ c κs. search needs) (λ c κs. search needs) (λ c κs. search needs) mul-result add-result
+    mul-result-2 mul-result-3 mul-result-4 (λ c. search needs))

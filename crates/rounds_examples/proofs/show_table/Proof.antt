@@ -24,14 +24,5 @@ show-row-requires c κs =
 
 pub show-table-spec : {M : Type 1} → statement M
 show-table-spec =
-    tie.close
-    (tie.spec
-    Inv-loop
-    μ-loop
-    (λ c. search needs)
-    mul-show-row
-    show-row-requires
-    (λ c. search needs)
-    (λ c. search needs)
-    (λ c. search needs)
-    (λ c. search needs))
+    tie.close (tie.spec Inv-loop μ-loop (λ c. search needs) mul-show-row show-row-requires (λ c. search needs)
+    (λ c. search needs) (λ c. search needs) (λ c. search needs))

@@ -6,15 +6,6 @@ use native.Mathlib.Omega.{arith}
 use Rattle.rounds_timing.proofs.part_length.Statement.{statement}
 use Rattle.rounds_timing.proofs.part_length.Tie as tie
 
-add-result : tie.Need-add-result
-add-result c = search needs
-
-mul-result : tie.Need-mul-result
-mul-result c = search needs
-
-add-result-2 : tie.Need-add-result-2
-add-result-2 c = search needs
-
 mul-result-2 : tie.Need-mul-result-2
 mul-result-2 c = omega (arith, prod-le (c .args .states) (c .args .states) 64 64 (c .pre) (c .pre))
 
@@ -26,4 +17,4 @@ returns c = (refl, omega (arith, prod-le (c .args .states) (c .args .states) 64 
 
 pub part-length-spec : {M : Type 1} → statement M
 part-length-spec =
-    tie.close (tie.spec add-result mul-result add-result-2 mul-result-2 add-result-3 returns)
+    tie.close (tie.spec (λ c. search needs) (λ c. search needs) (λ c. search needs) mul-result-2 add-result-3 returns)

@@ -29,33 +29,13 @@ row-requires c κs =
     let p = c .before .before .before .before .before .before .before .pre in
     (sized-shaped _ _ _ _ (p .0) (p .1) (p .2), sized-held _ _ _ (c .before .before .loop .out) (p .0) (p .1) (c .before .before .loop .inv .1 ∙ p .3), omega (arith, mod-lt (c .before .before .loop .i) (c .before .before .before .before .before .before .before .pre .0 .some), c .before .before .before .before .before .before .before .pre .0 .states))
 
-add-i : tie.Need-add-i Inv-loop μ-loop
-add-i c = search needs
-
-loop-less : tie.Need-loop-less Inv-loop μ-loop
-loop-less c = search needs
-
 loop-again : tie.Need-loop-again Inv-loop μ-loop
 loop-again c = (omega arith, search needs)
 
 same-length : tie.Need-same-length Inv-loop μ-loop
 same-length c = c .before .loop .inv .1
 
-returns : tie.Need-returns Inv-loop μ-loop
-returns c = search needs
-
 pub rows-spec : {M : Type 1} → statement M
 rows-spec =
-    tie.close
-    (tie.spec
-    Inv-loop
-    μ-loop
-    loop-holds
-    rem-t14
-    cast-t15
-    row-requires
-    add-i
-    loop-less
-    loop-again
-    same-length
-    returns)
+    tie.close (tie.spec Inv-loop μ-loop loop-holds rem-t14 cast-t15 row-requires (λ c. search needs) (λ c. search needs)
+    loop-again same-length (λ c. search needs))

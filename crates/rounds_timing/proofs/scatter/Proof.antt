@@ -17,26 +17,8 @@ abbrev μ-loop : tie.MeasureT-loop
 loop-holds : tie.Need-loop-holds Inv-loop μ-loop
 loop-holds c = (omega arith, omega arith, refl, refl)
 
-mul-x : tie.Need-mul-x Inv-loop μ-loop
-mul-x c = search needs
-
-add-x : tie.Need-add-x Inv-loop μ-loop
-add-x c = search needs
-
-rem-m : tie.Need-rem-m Inv-loop μ-loop
-rem-m c = search needs
-
 cast-m : tie.Need-cast-m Inv-loop μ-loop
 cast-m c = omega (arith, mod-lt ((c .before .loop .x * 37 + 11) % 1009) (c .before .before .pre .1))
-
-slice-write-m : tie.Need-slice-write-m Inv-loop μ-loop
-slice-write-m c = search needs
-
-add-i : tie.Need-add-i Inv-loop μ-loop
-add-i c = search needs
-
-loop-less : tie.Need-loop-less Inv-loop μ-loop
-loop-less c = search needs
 
 loop-again : tie.Need-loop-again Inv-loop μ-loop
 loop-again c = let i = c .before .loop .inv in (omega arith, omega arith, i .2, simp length-set (i .3))
@@ -44,23 +26,7 @@ loop-again c = let i = c .before .loop .inv in (omega arith, omega arith, i .2, 
 same-length : tie.Need-same-length Inv-loop μ-loop
 same-length c = c .before .loop .inv .3
 
-returns : tie.Need-returns Inv-loop μ-loop
-returns c = search needs
-
 pub scatter-spec : {M : Type 1} → statement M
 scatter-spec =
-    tie.close
-    (tie.spec
-    Inv-loop
-    μ-loop
-    loop-holds
-    mul-x
-    add-x
-    rem-m
-    cast-m
-    slice-write-m
-    add-i
-    loop-less
-    loop-again
-    same-length
-    returns)
+    tie.close (tie.spec Inv-loop μ-loop loop-holds (λ c. search needs) (λ c. search needs) (λ c. search needs) cast-m
+    (λ c. search needs) (λ c. search needs) (λ c. search needs) loop-again same-length (λ c. search needs))

@@ -12,11 +12,8 @@ slice-write-m c = omega (arith, c .pre .0)
 slice-write-m-2 : tie.Need-slice-write-m-2
 slice-write-m-2 c = simp length-set (omega (arith, c .pre .0))
 
-same-length : tie.Need-same-length
-same-length c = search needs
-
 returns : tie.Need-returns
 returns c = sized-set _ (c .args .m .now) (c .pre .0) (c .pre .1) (c .pre .2)
 
 pub set-sizes-spec : {M : Type 1} → statement M
-set-sizes-spec = tie.close (tie.spec slice-write-m slice-write-m-2 same-length returns)
+set-sizes-spec = tie.close (tie.spec slice-write-m slice-write-m-2 (λ c. search needs) returns)

@@ -9,11 +9,5 @@ round-requires c κs =
     let p = c .before .before .before .before .before .pre in
     (full-shaped _ _ _ (p .0) (p .1) (p .2), full-held _ _ (c .before .before .before .before .before .args .out .now) (p .0) (p .1) (p .3))
 
-same-length : tie.Need-same-length
-same-length c = search needs
-
-returns : tie.Need-returns
-returns c = search needs
-
 pub by-round-spec : {M : Type 1} → statement M
-by-round-spec = tie.close (tie.spec round-requires same-length returns)
+by-round-spec = tie.close (tie.spec round-requires (λ c. search needs) (λ c. search needs))

@@ -22,31 +22,13 @@ row-requires c κs =
     let p = c .before .before .before .before .before .before .before .pre in
     (full-shaped _ _ _ (p .0) (p .1) (p .2), full-held _ _ (c .before .before .loop .out) (p .0) (p .1) (c .before .before .loop .inv .1 ∙ p .3), omega arith)
 
-add-q1 : tie.Need-add-q1 Inv-loop μ-loop
-add-q1 c = search needs
-
-loop-less : tie.Need-loop-less Inv-loop μ-loop
-loop-less c = search needs
-
 loop-again : tie.Need-loop-again Inv-loop μ-loop
 loop-again c = (omega arith, search needs)
 
 same-length : tie.Need-same-length Inv-loop μ-loop
 same-length c = c .before .loop .inv .1
 
-returns : tie.Need-returns Inv-loop μ-loop
-returns c = search needs
-
 pub by-rows-spec : {M : Type 1} → statement M
 by-rows-spec =
-    tie.close
-    (tie.spec
-    Inv-loop
-    μ-loop
-    loop-holds
-    row-requires
-    add-q1
-    loop-less
-    loop-again
-    same-length
-    returns)
+    tie.close (tie.spec Inv-loop μ-loop loop-holds row-requires (λ c. search needs) (λ c. search needs) loop-again
+    same-length (λ c. search needs))

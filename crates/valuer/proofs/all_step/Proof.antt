@@ -3,11 +3,8 @@ use borrow.Author.Needs.{needs}
 use Rattle.valuer.proofs.all_step.Statement.{statement}
 use Rattle.valuer.proofs.all_step.Tie as tie
 
-implies-requires : tie.Need-implies-requires
-implies-requires c κs = search needs
-
 returns : tie.Need-returns
 returns c = c .implies .ensures
 
 pub all-step-spec : {M : Type 1} → statement M
-all-step-spec = tie.close (tie.spec implies-requires returns)
+all-step-spec = tie.close (tie.spec (λ c κs. search needs) returns)

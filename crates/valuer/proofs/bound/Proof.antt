@@ -4,19 +4,13 @@ use borrow.Author.Needs.{needs}
 use Rattle.valuer.proofs.bound.Statement.{statement}
 use Rattle.valuer.proofs.bound.Tie as tie
 
-join-requires : tie.Need-join-requires
-join-requires c κs = search needs
-
 returns : tie.Need-returns
 unfolding bound
 returns c = rw (c .before .if1 .taken) (c .join .ensures)
-
-meet-requires : tie.Need-meet-requires
-meet-requires c κs = search needs
 
 returns-2 : tie.Need-returns-2
 unfolding bound
 returns-2 c = rw (c .before .if1 .left) (c .meet .ensures)
 
 pub bound-spec : {M : Type 1} → statement M
-bound-spec = tie.close (tie.spec join-requires returns meet-requires returns-2)
+bound-spec = tie.close (tie.spec (λ c κs. search needs) returns (λ c κs. search needs) returns-2)

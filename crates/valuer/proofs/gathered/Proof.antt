@@ -15,27 +15,6 @@ abbrev μ-loop : tie.MeasureT-loop
 loop-holds : tie.Need-loop-holds Inv-loop μ-loop
 loop-holds c = (omega arith, gathered-none _)
 
-add-t12 : tie.Need-add-t12 Inv-loop μ-loop
-add-t12 c = search needs
-
-shared-slice-read-t14 : tie.Need-shared-slice-read-t14 Inv-loop μ-loop
-shared-slice-read-t14 c = search needs
-
-element-copy-out-t18 : tie.Need-element-copy-out-t18 Inv-loop μ-loop
-element-copy-out-t18 c = search needs
-
-step-requires : tie.Need-step-requires Inv-loop μ-loop
-step-requires c κs = search needs
-
-bound-requires : tie.Need-bound-requires Inv-loop μ-loop
-bound-requires c κs = search needs
-
-add-s : tie.Need-add-s Inv-loop μ-loop
-add-s c = search needs
-
-loop-less : tie.Need-loop-less Inv-loop μ-loop
-loop-less c = search needs
-
 loop-again : tie.Need-loop-again Inv-loop μ-loop
 loop-again c = (omega arith, gathered-more _ (c .before .before .before .before .before .loop .inv .1) (c .before .step .ensures) (c .bound .ensures))
 
@@ -43,4 +22,6 @@ returns : tie.Need-returns Inv-loop μ-loop
 returns c = gathered-all (c .before .loop .inv .1) (c .before .loop .inv .0) (c .loop-test .left)
 
 pub gathered-spec : {M : Type 1} → statement M
-gathered-spec = tie.close (tie.spec Inv-loop μ-loop loop-holds add-t12 shared-slice-read-t14 element-copy-out-t18 step-requires bound-requires add-s loop-less loop-again returns)
+gathered-spec =
+    tie.close (tie.spec Inv-loop μ-loop loop-holds (λ c. search needs) (λ c. search needs) (λ c. search needs)
+    (λ c κs. search needs) (λ c κs. search needs) (λ c. search needs) (λ c. search needs) loop-again returns)

@@ -9,12 +9,9 @@ returns : tie.Need-returns
 unfolding literal
 returns c = rw (c .if1 .taken)
 
-complement-requires : tie.Need-complement-requires
-complement-requires c κs = search needs
-
 returns-2 : tie.Need-returns-2
 unfolding literal
 returns-2 c = rw (ne-eqb _ _ (c .before .if1 .left)) (c .complement .ensures)
 
 pub literal-spec : {M : Type 1} → statement M
-literal-spec = tie.close (tie.spec returns complement-requires returns-2)
+literal-spec = tie.close (tie.spec returns (λ c κs. search needs) returns-2)

@@ -18,29 +18,11 @@ Inv-loop t m code p next out₀ n q₀ out q = (q ≤ n) × (length out ≡ 64) 
 abbrev μ-loop : tie.MeasureT-loop
 μ-loop t m code p next out₀ n q₀ out q = n - q
 
-states-requires : tie.Need-states-requires Inv-loop μ-loop
-states-requires c κs = search needs
-
 loop-holds : tie.Need-loop-holds Inv-loop μ-loop
 loop-holds c = (omega arith, refl, filled-none)
 
-state-requires : tie.Need-state-requires Inv-loop μ-loop
-state-requires c κs = omega arith
-
 label-requires : tie.Need-label-requires Inv-loop μ-loop
 label-requires c κs = (c .before .before .before .before .before .before .pre .0, omega arith, c .before .before .before .before .before .before .pre .1)
-
-literal-requires : tie.Need-literal-requires Inv-loop μ-loop
-literal-requires c κs = search needs
-
-element-write-out : tie.Need-element-write-out Inv-loop μ-loop
-element-write-out c = omega arith
-
-add-q : tie.Need-add-q Inv-loop μ-loop
-add-q c = search needs
-
-loop-less : tie.Need-loop-less Inv-loop μ-loop
-loop-less c = search needs
 
 loop-again : tie.Need-loop-again Inv-loop μ-loop
 loop-again c =
@@ -51,4 +33,6 @@ returns : tie.Need-returns Inv-loop μ-loop
 returns c = (refl, filled-to (c .before .loop .inv .2) (omega arith))
 
 pub literals-spec : {M : Type 1} → statement M
-literals-spec = tie.close (tie.spec Inv-loop μ-loop states-requires loop-holds state-requires label-requires literal-requires element-write-out add-q loop-less loop-again returns)
+literals-spec =
+    tie.close (tie.spec Inv-loop μ-loop (λ c κs. search needs) loop-holds (λ c κs. omega arith) label-requires
+    (λ c κs. search needs) (λ c. omega arith) (λ c. search needs) (λ c. search needs) loop-again returns)

@@ -21,24 +21,6 @@ Inv-loop t m codes words y code x out₀ n all from first q₀ out q = (q ≤ n)
 abbrev μ-loop : tie.MeasureT-loop
 μ-loop t m codes words y code x out₀ n all from first q₀ out q = n - q
 
-states-requires : tie.Need-states-requires Inv-loop μ-loop
-states-requires c κs = search needs
-
-place-requires : tie.Need-place-requires Inv-loop μ-loop
-place-requires c κs = search needs
-
-start-of-requires : tie.Need-start-of-requires Inv-loop μ-loop
-start-of-requires c κs = search needs
-
-cast-first : tie.Need-cast-first Inv-loop μ-loop
-cast-first c = search needs
-
-mul-first : tie.Need-mul-first Inv-loop μ-loop
-mul-first c = search needs
-
-element-copy-out-first : tie.Need-element-copy-out-first Inv-loop μ-loop
-element-copy-out-first c = search needs
-
 encode-requires : tie.Need-encode-requires Inv-loop μ-loop
 encode-requires c κs = omega (arith, c .before .before .before .before .before .before .before .before .before .pre .0 .states-most)
 
@@ -54,18 +36,6 @@ add-gathered-word c = omega (arith, place-most (eqb (c .before .before .before .
 gathered-word-requires : tie.Need-gathered-word-requires Inv-loop μ-loop
 gathered-word-requires c κs = omega (arith, place-most (eqb (c .before .before .before .before .before .before .before .before .before .before .before .before .before .before .args .code) 7), c .before .before .before .before .before .before .before .before .before .before .place .ensures, row-le (c .before .before .loop .q) (c .before .before .before .before .before .before .before .before .before .before .before .states .result) (c .before .before .before .before .before .before .before .before .before .before .before .states .result) (omega arith), prod-le (c .before .before .before .before .before .before .before .before .before .before .before .states .result) (c .before .before .before .before .before .before .before .before .before .before .before .states .result) 64 64 (omega arith) (omega arith), c .before .before .before .before .before .before .before .before .before .before .before .before .before .before .pre .2)
 
-decode-requires : tie.Need-decode-requires Inv-loop μ-loop
-decode-requires c κs = search needs
-
-element-write-out : tie.Need-element-write-out Inv-loop μ-loop
-element-write-out c = search needs
-
-add-q : tie.Need-add-q Inv-loop μ-loop
-add-q c = search needs
-
-loop-less : tie.Need-loop-less Inv-loop μ-loop
-loop-less c = search needs
-
 loop-again : tie.Need-loop-again Inv-loop μ-loop
 loop-again c =
     let i = c .before .before .before .before .loop .inv in
@@ -78,4 +48,8 @@ returns c =
     (λ q b. coded-next (c .before .before .before .before .before .before .before .before .before .before .before .before .before .pre .1) (c .before .before .before .before .before .before .before .before .before .before .before .before .before .pre .3) (c .before .before .before .before .before .before .before .before .before .before .states .result) (c .before .before .before .encode .ensures) (a .code) q _ _ (record { is = refl }) (ap (wordOf (a .codes .now)) (c .before .before .before .before .before .before .before .before .start-of .ensures)) (ap (λ (j : ℕ). j + q * c .before .before .before .before .before .before .before .before .before .before .states .result) (c .before .before .before .before .before .before .before .before .before .place .ensures)) (c .before .before .before .before .before .before .before .before .before .before .states .ensures) b refl)
 
 pub next-by-codes-spec : {M : Type 1} → statement M
-next-by-codes-spec = tie.close (tie.spec Inv-loop μ-loop states-requires place-requires start-of-requires cast-first mul-first element-copy-out-first encode-requires loop-holds mul-gathered-word add-gathered-word gathered-word-requires decode-requires element-write-out add-q loop-less loop-again returns)
+next-by-codes-spec =
+    tie.close (tie.spec Inv-loop μ-loop (λ c κs. search needs) (λ c κs. search needs) (λ c κs. search needs)
+    (λ c. search needs) (λ c. search needs) (λ c. search needs) encode-requires loop-holds mul-gathered-word
+    add-gathered-word gathered-word-requires (λ c κs. search needs) (λ c. search needs) (λ c. search needs)
+    (λ c. search needs) loop-again returns)

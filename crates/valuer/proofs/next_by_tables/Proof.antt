@@ -15,32 +15,14 @@ Inv-loop t m code x out₀ n all first q₀ out q = (q ≤ n) × (length out ≡
 abbrev μ-loop : tie.MeasureT-loop
 μ-loop t m code x out₀ n all first q₀ out q = n - q
 
-states-requires : tie.Need-states-requires Inv-loop μ-loop
-states-requires c κs = search needs
-
-start-of-requires : tie.Need-start-of-requires Inv-loop μ-loop
-start-of-requires c κs = search needs
-
 loop-holds : tie.Need-loop-holds Inv-loop μ-loop
 loop-holds c = (omega arith, refl, next-none)
-
-state-requires : tie.Need-state-requires Inv-loop μ-loop
-state-requires c κs = omega arith
 
 transition-row-requires : tie.Need-transition-row-requires Inv-loop μ-loop
 transition-row-requires c κs = (c .before .before .before .before .before .before .before .pre, omega arith)
 
 gathered-requires : tie.Need-gathered-requires Inv-loop μ-loop
 gathered-requires c κs = omega (arith, c .before .before .before .before .before .before .before .before .pre .states-most, c .transition-row .ensures .1)
-
-element-write-out : tie.Need-element-write-out Inv-loop μ-loop
-element-write-out c = search needs
-
-add-q : tie.Need-add-q Inv-loop μ-loop
-add-q c = search needs
-
-loop-less : tie.Need-loop-less Inv-loop μ-loop
-loop-less c = search needs
 
 loop-again : tie.Need-loop-again Inv-loop μ-loop
 loop-again c =
@@ -51,4 +33,7 @@ returns : tie.Need-returns Inv-loop μ-loop
 returns c = filled-to (c .before .loop .inv .2 .is (c .before .before .before .before .before .before .args .l) (sym (c .before .before .before .start-of .ensures))) (omega arith)
 
 pub next-by-tables-spec : {M : Type 1} → statement M
-next-by-tables-spec = tie.close (tie.spec Inv-loop μ-loop states-requires start-of-requires loop-holds state-requires transition-row-requires gathered-requires element-write-out add-q loop-less loop-again returns)
+next-by-tables-spec =
+    tie.close (tie.spec Inv-loop μ-loop (λ c κs. search needs) (λ c κs. search needs) loop-holds (λ c κs. omega arith)
+    transition-row-requires gathered-requires (λ c. search needs) (λ c. search needs) (λ c. search needs) loop-again
+    returns)

@@ -6,9 +6,6 @@ use native.Mathlib.Omega.{arith}
 use Rattle.valuer.proofs.next_values.Statement.{statement}
 use Rattle.valuer.proofs.next_values.Tie as tie
 
-states-requires : tie.Need-states-requires
-states-requires c κs = search needs
-
 below-requires : tie.Need-below-requires
 below-requires c κs = omega (arith, c .before .before .before .before .before .pre .0 .states-most)
 
@@ -17,14 +14,10 @@ next-by-codes-requires c κs =
     let a = c .before .before .before .before .before .before .before .before .before .args in
     (c .before .before .before .before .before .before .before .before .before .pre .0, c .before .before .before .before .before .before .before .before .before .pre .1 .when (c .before .before .before .before .before .before .if1 .taken), c .before .before .before .before .before .before .if1 .taken, record { at = λ s b. below-at (a .x .now) 0 (c .before .before .before .before .states .result) (a .l .size) (sym (c .before .before .before .below .ensures) ∙ c .before .before .if2 .taken) s (omega arith) (omega (arith, c .before .before .before .before .states .ensures)) })
 
-returns : tie.Need-returns
-returns c = search needs
-
 next-by-tables-requires : tie.Need-next-by-tables-requires
 next-by-tables-requires c κs = c .before .before .before .before .pre .0
 
-returns-2 : tie.Need-returns-2
-returns-2 c = search needs
-
 pub next-values-spec : {M : Type 1} → statement M
-next-values-spec = tie.close (tie.spec states-requires below-requires next-by-codes-requires returns next-by-tables-requires returns-2)
+next-values-spec =
+    tie.close (tie.spec (λ c κs. search needs) below-requires next-by-codes-requires (λ c. search needs)
+    next-by-tables-requires (λ c. search needs))

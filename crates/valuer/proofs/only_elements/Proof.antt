@@ -15,20 +15,8 @@ returns c = λ e. absurd (false-true refl e)
 returns-2 : tie.Need-returns-2
 returns-2 c = λ e. absurd (false-true refl e)
 
-index-requires : tie.Need-index-requires
-index-requires c κs = search needs
-
-below-requires : tie.Need-below-requires
-below-requires c κs = search needs
-
 returns-3 : tie.Need-returns-3
 returns-3 c = λ e. absurd (false-true refl e)
-
-sub-below : tie.Need-sub-below
-sub-below c = search needs
-
-below-requires-2 : tie.Need-below-requires-2
-below-requires-2 c κs = search needs
 
 returns-4 : tie.Need-returns-4
 returns-4 c =
@@ -43,4 +31,6 @@ returns-4 c =
     }
 
 pub only-elements-spec : {M : Type 1} → statement M
-only-elements-spec = tie.close (tie.spec returns returns-2 index-requires below-requires returns-3 sub-below below-requires-2 returns-4)
+only-elements-spec =
+    tie.close (tie.spec returns returns-2 (λ c κs. search needs) (λ c κs. search needs) returns-3 (λ c. search needs)
+    (λ c κs. search needs) returns-4)

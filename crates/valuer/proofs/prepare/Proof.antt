@@ -9,9 +9,6 @@ use native.Mathlib.Omega.{arith}
 use Rattle.valuer.proofs.prepare.Statement.{statement}
 use Rattle.valuer.proofs.prepare.Tie as tie
 
-find-requires : tie.Need-find-requires
-find-requires c κs = search needs
-
 returns : tie.Need-returns
 returns c = λ e. absurd (false-true refl e)
 
@@ -21,20 +18,8 @@ only-elements-requires c κs = (c .before .before .before .before .before .pre .
 returns-2 : tie.Need-returns-2
 returns-2 c = λ e. absurd (false-true refl e)
 
-states-requires : tie.Need-states-requires
-states-requires c κs = search needs
-
-state-requires : tie.Need-state-requires
-state-requires c κs = search needs
-
 transition-row-requires : tie.Need-transition-row-requires
 transition-row-requires c κs = (c .before .before .before .before .before .before .before .before .before .pre .0, omega (arith, c .before .before .before .before .before .before .before .before .before .pre .0 .some))
-
-slice-aggregate-encode : tie.Need-slice-aggregate-encode
-slice-aggregate-encode c = search needs
-
-encode-requires : tie.Need-encode-requires
-encode-requires c κs = search needs
 
 mul-encode : tie.Need-mul-encode
 mul-encode c = omega (arith, prod-le (c .before .before .before .before .before .before .before .before .states .result) (c .before .before .before .before .before .before .before .before .states .result) 64 64 (omega (arith, c .before .before .before .before .before .before .before .before .before .before .before .before .before .before .before .before .pre .0 .states-most)) (omega (arith, c .before .before .before .before .before .before .before .before .before .before .before .before .before .before .before .before .pre .0 .states-most)))
@@ -48,9 +33,6 @@ mul-encode-2 c = omega (arith, prod-le (c .before .before .before .before .befor
 encode-requires-3 : tie.Need-encode-requires-3
 encode-requires-3 c κs = (all-fit (c .before .before .before .before .before .before .before .before .before .before .before .before .before .before .before .before .before .before .before .before .before .before .pre .0) (rw (c .before .before .before .before .before .before .before .before .before .before .before .before .before .state .ensures) at (c .before .before .before .before .before .before .before .before .before .before .before .before .transition-row .ensures .0)) (c .before .before .before .before .before .before .before .before .before .before .before .before .before .before .states .ensures), omega (arith, c .before .before .before .before .before .before .before .before .before .before .before .before .before .before .before .before .before .before .before .before .before .before .pre .1, prod-le (c .before .before .before .before .before .before .before .before .before .before .before .before .before .before .states .result) (c .before .before .before .before .before .before .before .before .before .before .before .before .before .before .states .result) 64 64 (omega (arith, c .before .before .before .before .before .before .before .before .before .before .before .before .before .before .before .before .before .before .before .before .before .before .pre .0 .states-most)) (omega (arith, c .before .before .before .before .before .before .before .before .before .before .before .before .before .before .before .before .before .before .before .before .before .before .pre .0 .states-most))))
 
-same-length : tie.Need-same-length
-same-length c = search needs
-
 returns-3 : tie.Need-returns-3
 returns-3 c =
     λ e.
@@ -58,4 +40,7 @@ returns-3 c =
     (prod-le (c .before .before .before .before .before .before .before .before .before .before .before .before .before .before .before .before .before .states .result) (c .before .before .before .before .before .before .before .before .before .before .before .before .before .before .before .before .before .states .result) 64 64 (omega (arith, c .before .before .before .before .before .before .before .before .before .before .before .before .before .before .before .before .before .before .before .before .before .before .before .before .before .pre .0 .states-most)) (omega (arith, c .before .before .before .before .before .before .before .before .before .before .before .before .before .before .before .before .before .before .before .before .before .before .before .before .before .pre .0 .states-most)))
 
 pub prepare-spec : {M : Type 1} → statement M
-prepare-spec = tie.close (tie.spec find-requires returns only-elements-requires returns-2 states-requires state-requires transition-row-requires slice-aggregate-encode encode-requires mul-encode encode-requires-2 mul-encode-2 encode-requires-3 same-length returns-3)
+prepare-spec =
+    tie.close (tie.spec (λ c κs. search needs) returns only-elements-requires returns-2 (λ c κs. search needs)
+    (λ c κs. search needs) transition-row-requires (λ c. search needs) (λ c κs. search needs) mul-encode
+    encode-requires-2 mul-encode-2 encode-requires-3 (λ c. search needs) returns-3)

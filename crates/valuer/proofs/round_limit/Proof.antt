@@ -9,17 +9,8 @@ use Rattle.model.specs.Places.{prod-le}
 use Rattle.valuer.proofs.round_limit.Statement.{statement}
 use Rattle.valuer.proofs.round_limit.Tie as tie
 
-states-requires : tie.Need-states-requires
-states-requires c κs = search needs
-
-index-requires : tie.Need-index-requires
-index-requires c κs = search needs
-
 returns : tie.Need-returns
 returns c = let z : c .before .before .before .before .args .l .size - 1 ≡ 0 = omega arith in let n = getD (c .before .before .before .before .args .m .now) 0 0 in sym (ap (λ (i : ℕ). n * i) z ∙ mul-zero n)
-
-sub-result : tie.Need-sub-result
-sub-result c = search needs
 
 mul-result : tie.Need-mul-result
 mul-result c = omega (arith, prod-le (c .before .before .states .result) (c .before .index .result - 1) 64 255 (omega (arith, c .before .before .before .before .pre .states-most)) (omega arith))
@@ -29,4 +20,4 @@ returns-2 c = ap₂ _*_ (c .before .before .states .ensures) (ap (λ (i : ℕ). 
 
 pub round-limit-spec : {M : Type 1} → statement M
 round-limit-spec =
-    tie.close (tie.spec states-requires index-requires returns sub-result mul-result returns-2)
+    tie.close (tie.spec (λ c κs. search needs) (λ c κs. search needs) returns (λ c. search needs) mul-result returns-2)

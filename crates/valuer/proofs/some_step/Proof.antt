@@ -3,11 +3,8 @@ use borrow.Author.Needs.{needs}
 use Rattle.valuer.proofs.some_step.Statement.{statement}
 use Rattle.valuer.proofs.some_step.Tie as tie
 
-meet-requires : tie.Need-meet-requires
-meet-requires c κs = search needs
-
 returns : tie.Need-returns
 returns c = c .meet .ensures
 
 pub some-step-spec : {M : Type 1} → statement M
-some-step-spec = tie.close (tie.spec meet-requires returns)
+some-step-spec = tie.close (tie.spec (λ c κs. search needs) returns)

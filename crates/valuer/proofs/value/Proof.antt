@@ -6,18 +6,9 @@ use borrow.Author.Needs.{needs}
 use Rattle.valuer.proofs.value.Statement.{statement}
 use Rattle.valuer.proofs.value.Tie as tie
 
-values-requires : tie.Need-values-requires
-values-requires c κs = search needs
-
-index-requires : tie.Need-index-requires
-index-requires c κs = search needs
-
-array-read-t11 : tie.Need-array-read-t11
-array-read-t11 c = search needs
-
 returns : tie.Need-returns
 returns c =
     record { is = λ φ e. ap (λ (i : ℕ). getD (c .before .values .result) i 0) (c .index .ensures .0) ∙ c .before .values .ensures .are φ e .at (c .before .before .before .before .args .q .0) (c .before .before .before .before .pre .2) }
 
 pub value-spec : {M : Type 1} → statement M
-value-spec = tie.close (tie.spec values-requires index-requires array-read-t11 returns)
+value-spec = tie.close (tie.spec (λ c κs. search needs) (λ c κs. search needs) (λ c. search needs) returns)

@@ -4,9 +4,6 @@ use borrow.Author.Needs.{needs}
 use Rattle.valuer.proofs.valued.Statement.{statement}
 use Rattle.valuer.proofs.valued.Tie as tie
 
-round-limit-requires : tie.Need-round-limit-requires
-round-limit-requires c κs = search needs
-
 value-node-requires : tie.Need-value-node-requires
 value-node-requires c κs = (c .before .before .before .before .before .before .before .before .before .pre .0, here-read (c .before .before .before .before .before .before .before .before .before .args .m .now) _ (c .before .before .before .before .before .before .before .before .before .pre .1), c .before .before .before .before .before .before .before .before .before .pre .2)
 
@@ -14,4 +11,4 @@ returns : tie.Need-returns
 returns c = part-values (c .value-node .ensures) (c .before .before .before .before .before .before .round-limit .ensures)
 
 pub valued-spec : {M : Type 1} → statement M
-valued-spec = tie.close (tie.spec round-limit-requires value-node-requires returns)
+valued-spec = tie.close (tie.spec (λ c κs. search needs) value-node-requires returns)

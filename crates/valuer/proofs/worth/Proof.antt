@@ -23,23 +23,8 @@ size c = prod-le (c .index .result) (c .index .result) 255 255 (omega arith) (om
 steps : (c : tie.After-count2) → c .before .count .result * (1 + 2 * c .count2 .result) ≤ 130305
 steps c = prod-le (c .before .count .result) (1 + 2 * c .count2 .result) 255 511 (omega (arith, bytes c)) (omega (arith, bytes c))
 
-states-requires : tie.Need-states-requires
-states-requires c κs = search needs
-
-returns : tie.Need-returns
-returns c = search needs
-
-index-requires : tie.Need-index-requires
-index-requires c κs = search needs
-
 mul-square : tie.Need-mul-square
 mul-square c = omega (arith, square c)
-
-count-requires : tie.Need-count-requires
-count-requires c κs = search needs
-
-count-requires-2 : tie.Need-count-requires-2
-count-requires-2 c κs = search needs
 
 mul-steps : tie.Need-mul-steps
 mul-steps c = omega (arith, bytes c)
@@ -62,8 +47,8 @@ add-result-2 c = omega (arith, size (c .before .before), square (c .before .befo
 mul-result-2 : tie.Need-mul-result-2
 mul-result-2 c = omega (arith, prod-le (c .before .before .before .before .states .result * c .before .before .before .before .states .result) (c .before .count .result * (1 + 2 * c .count2 .result)) 4096 130305 (square (c .before .before)) (steps c))
 
-returns-2 : tie.Need-returns-2
-returns-2 c = search needs
-
 pub worth-spec : {M : Type 1} → statement M
-worth-spec = tie.close (tie.spec states-requires returns index-requires mul-square count-requires count-requires-2 mul-steps add-steps mul-steps-2 mul-result add-result add-result-2 mul-result-2 returns-2)
+worth-spec =
+    tie.close (tie.spec (λ c κs. search needs) (λ c. search needs) (λ c κs. search needs) mul-square
+    (λ c κs. search needs) (λ c κs. search needs) mul-steps add-steps mul-steps-2 mul-result add-result add-result-2
+    mul-result-2 (λ c. search needs))

@@ -25,26 +25,8 @@ Inv-loop m₀ i₀ m i = (2 ≤ i) × (i ≤ 4226) × (length m ≡ 4226) × (ge
 abbrev μ-loop : tie.MeasureT-loop
 μ-loop m₀ i₀ m i = 4226 - i
 
-array-write-m : tie.Need-array-write-m Inv-loop μ-loop
-array-write-m c = search needs
-
-array-write-m-2 : tie.Need-array-write-m-2 Inv-loop μ-loop
-array-write-m-2 c = search needs
-
 loop-holds : tie.Need-loop-holds Inv-loop μ-loop
 loop-holds c = (omega arith, omega arith, refl, refl, refl)
-
-entry-requires : tie.Need-entry-requires Inv-loop μ-loop
-entry-requires c κs = search needs
-
-array-write-m-3 : tie.Need-array-write-m-3 Inv-loop μ-loop
-array-write-m-3 c = search needs
-
-add-i : tie.Need-add-i Inv-loop μ-loop
-add-i c = search needs
-
-loop-less : tie.Need-loop-less Inv-loop μ-loop
-loop-less c = search needs
 
 loop-again : tie.Need-loop-again Inv-loop μ-loop
 loop-again c =
@@ -56,16 +38,5 @@ returns c = let j = c .before .loop .inv in (shape _ (j .3) (j .4) (j .2), j .4,
 
 pub model-part-spec : {M : Type 1} → statement M
 model-part-spec =
-    tie.close
-    (tie.spec
-    Inv-loop
-    μ-loop
-    array-write-m
-    array-write-m-2
-    loop-holds
-    entry-requires
-    array-write-m-3
-    add-i
-    loop-less
-    loop-again
-    returns)
+    tie.close (tie.spec Inv-loop μ-loop (λ c. search needs) (λ c. search needs) loop-holds (λ c κs. search needs)
+    (λ c. search needs) (λ c. search needs) (λ c. search needs) loop-again returns)

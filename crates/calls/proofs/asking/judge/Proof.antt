@@ -18,25 +18,10 @@ desk c = let a = c .before .before .before .before .before .before .args in desk
 held : (c : tie.After-z) → HeldDesk (desk (c .before .before)) (c .z .given .0 .0) (c .before .before .examine .last .1 .1 .1 .1 .0)
 held c = when-held _ _ _ _ (c .before .before .examine .ensures) (c .z .given .1)
 
-examine-requires : tie.Need-examine-requires
-examine-requires c κs = search needs
-
-enum-known-f : tie.Need-enum-known-f
-enum-known-f c = search needs
-
-enum-known-z : tie.Need-enum-known-z
-enum-known-z c = search needs
-
-table-size-requires : tie.Need-table-size-requires
-table-size-requires c κs = search needs
-
 returns : tie.Need-returns
 returns c =
     let z = c .before .before .before .before in
     judge-long (held z) _ _ (c .before .table-size .ensures .0) (ne-eqb _ _ (c .if1 .taken))
-
-below-requires : tie.Need-below-requires
-below-requires c κs = omega arith
 
 returns-2 : tie.Need-returns-2
 returns-2 c =
@@ -63,16 +48,5 @@ returns-4 c =
 
 pub judge-spec : {M : Type 1} → statement M
 judge-spec =
-    tie.close
-    (tie.spec
-    examine-requires
-    enum-known-f
-    enum-known-z
-    table-size-requires
-    returns
-    below-requires
-    returns-2
-    slice-aggregate-bytes
-    simulation-of-requires
-    returns-3
-    returns-4)
+    tie.close (tie.spec (λ c κs. search needs) (λ c. search needs) (λ c. search needs) (λ c κs. search needs) returns
+    (λ c κs. omega arith) returns-2 slice-aggregate-bytes simulation-of-requires returns-3 returns-4)

@@ -16,22 +16,10 @@ desk c = let a = c .before .before .before .before .before .args in deskOf (a .s
 held : (c : tie.After-z) → HeldDesk (desk (c .before .before)) (c .z .given .0 .0) (c .before .before .examine .last .1 .1 .1 .1 .0)
 held c = when-held _ _ _ _ (c .before .before .examine .ensures) (c .z .given .1)
 
-examine-requires : tie.Need-examine-requires
-examine-requires c κs = search needs
-
-enum-known-f : tie.Need-enum-known-f
-enum-known-f c = search needs
-
-enum-known-z : tie.Need-enum-known-z
-enum-known-z c = search needs
-
 slice-aggregate-bytes : tie.Need-slice-aggregate-bytes
 slice-aggregate-bytes c =
     let z = c .before .before .before in
     sym (length-take-le 24576 (desk (z .before .before) .store) (held z .lengths .store-long))
-
-whole-table-requires : tie.Need-whole-table-requires
-whole-table-requires c κs = search needs
 
 score-of-requires : tie.Need-score-of-requires
 score-of-requires c κs =
@@ -48,13 +36,5 @@ returns-2 c =
 
 pub score-spec : {M : Type 1} → statement M
 score-spec =
-    tie.close
-    (tie.spec
-    examine-requires
-    enum-known-f
-    enum-known-z
-    slice-aggregate-bytes
-    whole-table-requires
-    score-of-requires
-    returns
-    returns-2)
+    tie.close (tie.spec (λ c κs. search needs) (λ c. search needs) (λ c. search needs) slice-aggregate-bytes
+    (λ c κs. search needs) score-of-requires returns returns-2)

@@ -3,12 +3,6 @@ use borrow.Author.Needs.{needs}
 use Rattle.calls.proofs.asking.score_of.Statement.{statement}
 use Rattle.calls.proofs.asking.score_of.Tie as tie
 
-part-requires : tie.Need-part-requires
-part-requires c κs = search needs
-
-part-requires-2 : tie.Need-part-requires-2
-part-requires-2 c κs = search needs
-
 score-requires : tie.Need-score-requires
 score-requires c κs = rw (c .before .part .ensures, c .part2 .ensures) (c .before .before .before .before .pre .shaped)
 
@@ -16,4 +10,4 @@ returns : tie.Need-returns
 returns c = rw (c .before .before .part .ensures, c .before .part2 .ensures) at (c .score .ensures)
 
 pub score-of-spec : {M : Type 1} → statement M
-score-of-spec = tie.close (tie.spec part-requires part-requires-2 score-requires returns)
+score-of-spec = tie.close (tie.spec (λ c κs. search needs) (λ c κs. search needs) score-requires returns)

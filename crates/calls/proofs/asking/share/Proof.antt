@@ -16,25 +16,10 @@ desk c = let a = c .before .before .before .before .before .args in deskOf (a .s
 held : (c : tie.After-z) → HeldDesk (desk (c .before .before)) (c .z .given .0 .0) (c .before .before .examine .last .1 .1 .1 .1 .0)
 held c = when-held _ _ _ _ (c .before .before .examine .ensures) (c .z .given .1)
 
-examine-requires : tie.Need-examine-requires
-examine-requires c κs = search needs
-
-enum-known-f : tie.Need-enum-known-f
-enum-known-f c = search needs
-
-enum-known-z : tie.Need-enum-known-z
-enum-known-z c = search needs
-
 returns : tie.Need-returns
 returns c =
     let z = c .before .before .before .before .before in
     share-outside (held z) _ (le-ltb _ _ (c .if1 .taken))
-
-table-size-requires : tie.Need-table-size-requires
-table-size-requires c κs = search needs
-
-whole-table-requires : tie.Need-whole-table-requires
-whole-table-requires c κs = search needs
 
 share-requires : tie.Need-share-requires
 share-requires c κs =
@@ -51,14 +36,5 @@ returns-3 c =
 
 pub share-spec : {M : Type 1} → statement M
 share-spec =
-    tie.close
-    (tie.spec
-    examine-requires
-    enum-known-f
-    enum-known-z
-    returns
-    table-size-requires
-    whole-table-requires
-    share-requires
-    returns-2
-    returns-3)
+    tie.close (tie.spec (λ c κs. search needs) (λ c. search needs) (λ c. search needs) returns (λ c κs. search needs)
+    (λ c κs. search needs) share-requires returns-2 returns-3)

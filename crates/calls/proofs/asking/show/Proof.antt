@@ -16,24 +16,6 @@ desk c = let a = c .before .before .before .before .before .before .args in desk
 held : (c : tie.After-z) → HeldDesk (desk (c .before .before)) (c .z .given .0 .0) (c .before .before .examine .last .1 .1 .1 .1 .0)
 held c = when-held _ _ _ _ (c .before .before .examine .ensures) (c .z .given .1)
 
-whole-table-requires : tie.Need-whole-table-requires
-whole-table-requires c κs = search needs
-
-examine-requires : tie.Need-examine-requires
-examine-requires c κs = search needs
-
-enum-told : tie.Need-enum-told
-enum-told c = search needs
-
-slice-aggregate-result : tie.Need-slice-aggregate-result
-slice-aggregate-result c = search needs
-
-enum-known-z : tie.Need-enum-known-z
-enum-known-z c = search needs
-
-table-size-requires : tie.Need-table-size-requires
-table-size-requires c κs = search needs
-
 slice-aggregate-result-2 : tie.Need-slice-aggregate-result-2
 slice-aggregate-result-2 c =
     let z = c .before .before .before in
@@ -50,14 +32,5 @@ returns-2 c =
 
 pub show-spec : {M : Type 1} → statement M
 show-spec =
-    tie.close
-    (tie.spec
-    whole-table-requires
-    examine-requires
-    enum-told
-    slice-aggregate-result
-    enum-known-z
-    table-size-requires
-    slice-aggregate-result-2
-    returns
-    returns-2)
+    tie.close (tie.spec (λ c κs. search needs) (λ c κs. search needs) (λ c. search needs) (λ c. search needs)
+    (λ c. search needs) (λ c κs. search needs) slice-aggregate-result-2 returns returns-2)

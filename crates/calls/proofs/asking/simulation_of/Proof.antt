@@ -3,12 +3,6 @@ use borrow.Author.Needs.{needs}
 use Rattle.calls.proofs.asking.simulation_of.Statement.{statement}
 use Rattle.calls.proofs.asking.simulation_of.Tie as tie
 
-part-requires : tie.Need-part-requires
-part-requires c κs = search needs
-
-part-requires-2 : tie.Need-part-requires-2
-part-requires-2 c κs = search needs
-
 is-simulation-requires : tie.Need-is-simulation-requires
 is-simulation-requires c κs = rw (c .before .part .ensures, c .part2 .ensures) (c .before .before .before .before .pre .shaped)
 
@@ -16,5 +10,4 @@ returns : tie.Need-returns
 returns c = rw (c .before .before .part .ensures, c .before .part2 .ensures) at (c .is-simulation .ensures)
 
 pub simulation-of-spec : {M : Type 1} → statement M
-simulation-of-spec =
-    tie.close (tie.spec part-requires part-requires-2 is-simulation-requires returns)
+simulation-of-spec = tie.close (tie.spec (λ c κs. search needs) (λ c κs. search needs) is-simulation-requires returns)

@@ -4,9 +4,6 @@ use borrow.Author.Needs.{needs}
 use Rattle.calls.proofs.asking.states_of.Statement.{statement}
 use Rattle.calls.proofs.asking.states_of.Tie as tie
 
-part-requires : tie.Need-part-requires
-part-requires c κs = search needs
-
 shared-slice-read-result : tie.Need-shared-slice-read-result
 shared-slice-read-result c = rw (c .before .part .ensures) (omega (arith, c .before .before .before .pre .shape .exact))
 
@@ -14,4 +11,4 @@ returns : tie.Need-returns
 returns c = rw (c .before .part .ensures)
 
 pub states-of-spec : {M : Type 1} → statement M
-states-of-spec = tie.close (tie.spec part-requires shared-slice-read-result returns)
+states-of-spec = tie.close (tie.spec (λ c κs. search needs) shared-slice-read-result returns)

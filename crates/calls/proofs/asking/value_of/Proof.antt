@@ -3,15 +3,6 @@ use borrow.Author.Needs.{needs}
 use Rattle.calls.proofs.asking.value_of.Statement.{statement}
 use Rattle.calls.proofs.asking.value_of.Tie as tie
 
-part-requires : tie.Need-part-requires
-part-requires c κs = search needs
-
-add-part : tie.Need-add-part
-add-part c = search needs
-
-part-requires-2 : tie.Need-part-requires-2
-part-requires-2 c κs = search needs
-
 value-requires : tie.Need-value-requires
 value-requires c κs = rw (c .before .part .ensures, c .part2 .ensures) (c .before .before .before .pre .0 .shape, c .before .before .before .pre .0 .reads, c .before .before .before .pre .1)
 
@@ -19,4 +10,5 @@ returns : tie.Need-returns
 returns c = rw (c .before .before .part .ensures, c .before .part2 .ensures) at (c .value .ensures)
 
 pub value-of-spec : {M : Type 1} → statement M
-value-of-spec = tie.close (tie.spec part-requires add-part part-requires-2 value-requires returns)
+value-of-spec =
+    tie.close (tie.spec (λ c κs. search needs) (λ c. search needs) (λ c κs. search needs) value-requires returns)

@@ -17,18 +17,6 @@ desk c = let a = c .before .before .before .before .before .args in deskOf (a .s
 held : (c : tie.After-z) → HeldDesk (desk (c .before .before)) (c .z .given .0 .0) (c .before .before .examine .last .1 .1 .1 .1 .0)
 held c = when-held _ _ _ _ (c .before .before .examine .ensures) (c .z .given .1)
 
-examine-requires : tie.Need-examine-requires
-examine-requires c κs = search needs
-
-enum-known-x : tie.Need-enum-known-x
-enum-known-x c = search needs
-
-enum-known-z : tie.Need-enum-known-z
-enum-known-z c = search needs
-
-in-range-requires : tie.Need-in-range-requires
-in-range-requires c κs = search needs
-
 returns : tie.Need-returns
 returns c =
     let z = c .before .before .before .before in
@@ -54,14 +42,5 @@ returns-3 c =
 
 pub whole-spec : {M : Type 1} → statement M
 whole-spec =
-    tie.close
-    (tie.spec
-    examine-requires
-    enum-known-x
-    enum-known-z
-    in-range-requires
-    returns
-    slice-aggregate-bytes
-    whole-of-requires
-    returns-2
-    returns-3)
+    tie.close (tie.spec (λ c κs. search needs) (λ c. search needs) (λ c. search needs) (λ c κs. search needs) returns
+    slice-aggregate-bytes whole-of-requires returns-2 returns-3)

@@ -29,24 +29,12 @@ not-short c = sym (c .before .too-short .ensures) ∙ c .if1 .left
 lengths : (c : tie.Else1) → Long (desk (c .before))
 lengths c = long-enough (desk (c .before)) (not-short c)
 
-too-short-requires : tie.Need-too-short-requires
-too-short-requires c κs = search needs
-
 returns : tie.Need-returns
 unfolding short
 returns c = short-examined (desk (c .before)) _ (sym (c .before .too-short .ensures) ∙ c .if1 .taken)
 
 slice-aggregate-check : tie.Need-slice-aggregate-check
 slice-aggregate-check c = sym (length-take-le 24576 (desk (c .before .before) .store) (lengths (c .before) .store-long))
-
-check-requires : tie.Need-check-requires
-check-requires c κs = search needs
-
-enum-told : tie.Need-enum-told
-enum-told c = search needs
-
-enum-known-z : tie.Need-enum-known-z
-enum-known-z c = search needs
 
 rules-kept-requires : tie.Need-rules-kept-requires
 rules-kept-requires c κs =
@@ -70,15 +58,5 @@ returns-4 c =
 
 pub examine-spec : {M : Type 1} → statement M
 examine-spec =
-    tie.close
-    (tie.spec
-    too-short-requires
-    returns
-    slice-aggregate-check
-    check-requires
-    enum-told
-    enum-known-z
-    rules-kept-requires
-    returns-2
-    returns-3
-    returns-4)
+    tie.close (tie.spec (λ c κs. search needs) returns slice-aggregate-check (λ c κs. search needs) (λ c. search needs)
+    (λ c. search needs) rules-kept-requires returns-2 returns-3 returns-4)

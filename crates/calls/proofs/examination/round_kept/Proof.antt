@@ -16,14 +16,8 @@ use Rattle.calls.proofs.examination.round_kept.Tie as tie
 unsettled-kept : (most : ℕ) (s : Standing) → s .settled ≡ false → leb (s .round) most ≡ roundKept most s
 unsettled-kept most s e = rw e
 
-cast-at : tie.Need-cast-at
-cast-at c = search needs
-
 returns : tie.Need-returns
 returns c = simp (c .before .if1 .taken, lt-leb 1 (c .before .before .before .args .s .round) (omega arith))
-
-add-if3 : tie.Need-add-if3
-add-if3 c = search needs
 
 returns-2 : tie.Need-returns-2
 returns-2 c = simp (c .before .before .if1 .taken, lt-leb _ _ (c .if3 .taken), and-false)
@@ -35,4 +29,4 @@ returns-4 : tie.Need-returns-4
 returns-4 c = let a = c .before .before .args in unsettled-kept (a .most) (standingOf (a .s)) (c .if1 .left)
 
 pub round-kept-spec : {M : Type 1} → statement M
-round-kept-spec = tie.close (tie.spec cast-at returns add-if3 returns-2 returns-3 returns-4)
+round-kept-spec = tie.close (tie.spec (λ c. search needs) returns (λ c. search needs) returns-2 returns-3 returns-4)

@@ -10,20 +10,8 @@ use Rattle.calls.proofs.examination.round_limit.Tie as tie
 returns : tie.Need-returns
 returns c = let e = c .if1 .taken in (simp (e, mul-zero), omega arith)
 
-index-requires : tie.Need-index-requires
-index-requires c κs = search needs
-
-index-requires-2 : tie.Need-index-requires-2
-index-requires-2 c κs = search needs
-
 mul-result : tie.Need-mul-result
 mul-result c = omega (arith, prod-le (c .before .index .result) (c .index2 .result) 255 255 (omega arith) (omega arith))
-
-sub-index : tie.Need-sub-index
-sub-index c = search needs
-
-index-requires-3 : tie.Need-index-requires-3
-index-requires-3 c κs = search needs
 
 mul-result-2 : tie.Need-mul-result-2
 mul-result-2 c = omega (arith, prod-le (c .before .before .index .result * c .before .index2 .result) (c .index3 .result) 65025 255 (prod-le (c .before .before .index .result) (c .before .index2 .result) 255 255 (omega arith) (omega arith)) (omega arith))
@@ -33,13 +21,5 @@ returns-2 c = (simp (c .before .before .index .ensures .0, c .before .index2 .en
 
 pub round-limit-spec : {M : Type 1} → statement M
 round-limit-spec =
-    tie.close
-    (tie.spec
-    returns
-    index-requires
-    index-requires-2
-    mul-result
-    sub-index
-    index-requires-3
-    mul-result-2
-    returns-2)
+    tie.close (tie.spec returns (λ c κs. search needs) (λ c κs. search needs) mul-result (λ c. search needs)
+    (λ c κs. search needs) mul-result-2 returns-2)

@@ -17,14 +17,8 @@ and-second a b c p q = rw (p, q)
 and-last : (a b c : Bool) → a ≡ true → b ≡ true → c ≡ (a && b && c)
 and-last a b c p q = rw (p, q)
 
-standing-kept-requires : tie.Need-standing-kept-requires
-standing-kept-requires c κs = search needs
-
 returns : tie.Need-returns
 returns c = and-first _ _ _ (sym (c .before .standing-kept .ensures) ∙ not-true _ (c .if1 .taken))
-
-table-size-requires : tie.Need-table-size-requires
-table-size-requires c κs = search needs
 
 below-requires : tie.Need-below-requires
 below-requires c κs = omega (arith, c .table-size .ensures .0, c .before .before .before .before .before .before .pre .0)
@@ -48,4 +42,6 @@ returns-3 c =
     (sym (table-kept (a .first .now) _ _ _ _ (c .before .before .below .ensures) n) ∙ not-false _ (c .before .if2 .left))
 
 pub rules-kept-spec : {M : Type 1} → statement M
-rules-kept-spec = tie.close (tie.spec standing-kept-requires returns table-size-requires below-requires returns-2 below-requires-2 returns-3)
+rules-kept-spec =
+    tie.close (tie.spec (λ c κs. search needs) returns (λ c κs. search needs) below-requires returns-2 below-requires-2
+    returns-3)

@@ -7,12 +7,6 @@ use borrow.Author.Needs.{needs}
 use Rattle.calls.proofs.examination.table_size.Statement.{statement}
 use Rattle.calls.proofs.examination.table_size.Tie as tie
 
-index-requires : tie.Need-index-requires
-index-requires c κs = search needs
-
-index-requires-2 : tie.Need-index-requires-2
-index-requires-2 c κs = search needs
-
 mul-result : tie.Need-mul-result
 mul-result c = omega (arith, prod-le (c .before .index .result) (c .index2 .result) 255 255 (omega arith) (omega arith))
 
@@ -23,4 +17,4 @@ returns c = (
 )
 
 pub table-size-spec : {M : Type 1} → statement M
-table-size-spec = tie.close (tie.spec index-requires index-requires-2 mul-result returns)
+table-size-spec = tie.close (tie.spec (λ c κs. search needs) (λ c κs. search needs) mul-result returns)

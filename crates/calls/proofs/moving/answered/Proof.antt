@@ -5,14 +5,8 @@ use borrow.Author.Needs.{needs}
 use Rattle.calls.proofs.moving.answered.Statement.{statement}
 use Rattle.calls.proofs.moving.answered.Tie as tie
 
-moved-on-requires : tie.Need-moved-on-requires
-moved-on-requires c κs = search needs
-
-answer-of-requires : tie.Need-answer-of-requires
-answer-of-requires c κs = search needs
-
 returns : tie.Need-returns
 returns c = (c .before .moved-on .ensures, c .answer-of .ensures ∙ ap stepAnswer (c .before .moved-on .ensures))
 
 pub answered-spec : {M : Type 1} → statement M
-answered-spec = tie.close (tie.spec moved-on-requires answer-of-requires returns)
+answered-spec = tie.close (tie.spec (λ c κs. search needs) (λ c κs. search needs) returns)

@@ -18,22 +18,10 @@ last-row s differs now e q = rw (e, eq-eqb _ _ q)
 other-row : (s : Standing) (differs now : Bool) → now ≡ (s .changed || differs) → ¬ (s .row + 1 ≡ s .states1) → nextRow now s ≡ movedBy differs s
 other-row s differs now e q = rw (e, ne-eqb _ _ q)
 
-either-requires : tie.Need-either-requires
-either-requires c κs = search needs
-
-add-if1 : tie.Need-add-if1
-add-if1 c = search needs
-
-add-t6 : tie.Need-add-t6
-add-t6 c = search needs
-
 returns : tie.Need-returns
 returns c =
     let a = c .before .before .before .before .before .before .args in
     last-row (standingOf (a .s)) (a .differs) (c .before .before .before .before .before .either .result) (c .before .before .before .before .before .either .ensures) (c .before .before .if1 .taken)
-
-add-t4 : tie.Need-add-t4
-add-t4 c = search needs
 
 returns-2 : tie.Need-returns-2
 returns-2 c =
@@ -41,4 +29,6 @@ returns-2 c =
     other-row (standingOf (a .s)) (a .differs) (c .before .before .before .before .either .result) (c .before .before .before .before .either .ensures) (c .before .if1 .left)
 
 pub moved-on-spec : {M : Type 1} → statement M
-moved-on-spec = tie.close (tie.spec either-requires add-if1 add-t6 returns add-t4 returns-2)
+moved-on-spec =
+    tie.close (tie.spec (λ c κs. search needs) (λ c. search needs) (λ c. search needs) returns (λ c. search needs)
+    returns-2)

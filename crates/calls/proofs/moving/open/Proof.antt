@@ -25,33 +25,9 @@ not-short c = sym (c .before .too-short .ensures) ∙ c .if1 .left
 lengths : (c : tie.Else1) → Long (desk (c .before))
 lengths c = long-enough (desk (c .before)) (not-short c)
 
-too-short-requires : tie.Need-too-short-requires
-too-short-requires c κs = search needs
-
-same-length : tie.Need-same-length
-same-length c = search needs
-
-same-length-2 : tie.Need-same-length-2
-same-length-2 c = search needs
-
-same-length-3 : tie.Need-same-length-3
-same-length-3 c = search needs
-
 returns : tie.Need-returns
 unfolding short
 returns c = short-open _ (desk (c .before)) (sym (c .before .too-short .ensures) ∙ c .if1 .taken)
-
-check-requires : tie.Need-check-requires
-check-requires c κs = search needs
-
-enum-known-f : tie.Need-enum-known-f
-enum-known-f c = search needs
-
-enum-known-z : tie.Need-enum-known-z
-enum-known-z c = search needs
-
-table-size-requires : tie.Need-table-size-requires
-table-size-requires c κs = search needs
 
 write-requires : tie.Need-write-requires
 write-requires c κs =
@@ -68,26 +44,8 @@ fill-requires-2 c κs =
     let a = when-accepted _ _ _ _ (c .before .before .before .before .before .before .before .before .before .before .before .before .before .before .before .check .ensures) (c .before .before .before .before .before .before .before .before .before .before .before .before .before .z .given .1) in
     omega (arith, c .before .before .before .before .before .before .before .before .before .before .before .table-size .ensures .0, case-few a, lengths (c .before .before .before .before .before .before .before .before .before .before .before .before .before .before .before .before .before) .second-long)
 
-same-length-4 : tie.Need-same-length-4
-same-length-4 c = search needs
-
-same-length-5 : tie.Need-same-length-5
-same-length-5 c = search needs
-
-same-length-6 : tie.Need-same-length-6
-same-length-6 c = search needs
-
 returns-2 : tie.Need-returns-2
 returns-2 c = refused-open _ (desk (c .before .before .before .before .before .before)) _ (not-short (c .before .before .before .before .before)) (when-refused _ _ _ _ (c .before .before .before .check .ensures) (c .before .f .given .1))
-
-same-length-7 : tie.Need-same-length-7
-same-length-7 c = search needs
-
-same-length-8 : tie.Need-same-length-8
-same-length-8 c = search needs
-
-same-length-9 : tie.Need-same-length-9
-same-length-9 c = search needs
 
 returns-3 : tie.Need-returns-3
 returns-3 c =
@@ -97,25 +55,7 @@ returns-3 c =
 
 pub open-spec : {M : Type 1} → statement M
 open-spec =
-    tie.close
-    (tie.spec
-    too-short-requires
-    same-length
-    same-length-2
-    same-length-3
-    returns
-    check-requires
-    enum-known-f
-    enum-known-z
-    table-size-requires
-    write-requires
-    fill-requires
-    fill-requires-2
-    same-length-4
-    same-length-5
-    same-length-6
-    returns-2
-    same-length-7
-    same-length-8
-    same-length-9
-    returns-3)
+    tie.close (tie.spec (λ c κs. search needs) (λ c. search needs) (λ c. search needs) (λ c. search needs) returns
+    (λ c κs. search needs) (λ c. search needs) (λ c. search needs) (λ c κs. search needs) write-requires fill-requires
+    fill-requires-2 (λ c. search needs) (λ c. search needs) (λ c. search needs) returns-2 (λ c. search needs)
+    (λ c. search needs) (λ c. search needs) returns-3)

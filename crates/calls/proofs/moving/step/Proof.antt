@@ -16,21 +16,6 @@ desk c = let a = c .before .before .before .before .before .before .before .args
 held : (c : tie.After-z) → HeldDesk (desk (c .before .before)) (c .z .given .0 .0) (c .before .before .examine .last .1 .1 .1 .1 .0)
 held c = when-held _ _ _ _ (c .before .before .examine .ensures) (c .z .given .1)
 
-examine-requires : tie.Need-examine-requires
-examine-requires c κs = search needs
-
-enum-known-f : tie.Need-enum-known-f
-enum-known-f c = search needs
-
-enum-known-z : tie.Need-enum-known-z
-enum-known-z c = search needs
-
-same-length : tie.Need-same-length
-same-length c = search needs
-
-same-length-2 : tie.Need-same-length-2
-same-length-2 c = search needs
-
 returns : tie.Need-returns
 returns c =
     settled-step (held (c .before .before)) (c .if1 .taken)
@@ -52,12 +37,6 @@ answered-requires c κs =
     let z = b .before .before .before .before in
     (row-in (held z), round-fits (held z) (b .before .before .if1 .left))
 
-same-length-3 : tie.Need-same-length-3
-same-length-3 c = search needs
-
-same-length-4 : tie.Need-same-length-4
-same-length-4 c = search needs
-
 returns-2 : tie.Need-returns-2
 returns-2 c =
     let b = c .before .before .before .before .before .before .before .before in
@@ -77,20 +56,8 @@ answered-requires-2 c κs =
     let z = b .before .before .before .before in
     (row-in (held z), round-fits (held z) (b .before .before .if1 .left))
 
-same-length-5 : tie.Need-same-length-5
-same-length-5 c = search needs
-
-same-length-6 : tie.Need-same-length-6
-same-length-6 c = search needs
-
 returns-3 : tie.Need-returns-3
 returns-3 c = refused-call Call.Step (desk (c .before .before .before)) _ _ _ refl (c .before .before .before .examine .ensures) (c .before .f .given .1)
-
-same-length-7 : tie.Need-same-length-7
-same-length-7 c = search needs
-
-same-length-8 : tie.Need-same-length-8
-same-length-8 c = search needs
 
 returns-4 : tie.Need-returns-4
 returns-4 c =
@@ -101,25 +68,7 @@ returns-4 c =
 
 pub step-spec : {M : Type 1} → statement M
 step-spec =
-    tie.close
-    (tie.spec
-    examine-requires
-    enum-known-f
-    enum-known-z
-    same-length
-    same-length-2
-    returns
-    slice-aggregate-bytes
-    work-row-requires
-    answered-requires
-    same-length-3
-    same-length-4
-    returns-2
-    work-row-requires-2
-    answered-requires-2
-    same-length-5
-    same-length-6
-    returns-3
-    same-length-7
-    same-length-8
-    returns-4)
+    tie.close (tie.spec (λ c κs. search needs) (λ c. search needs) (λ c. search needs) (λ c. search needs)
+    (λ c. search needs) returns slice-aggregate-bytes work-row-requires answered-requires (λ c. search needs)
+    (λ c. search needs) returns-2 work-row-requires-2 answered-requires-2 (λ c. search needs) (λ c. search needs)
+    returns-3 (λ c. search needs) (λ c. search needs) returns-4)

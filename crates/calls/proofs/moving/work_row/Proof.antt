@@ -14,19 +14,10 @@ use Rattle.calls.proofs.moving.work_row.Tie as tie
 row-of-parts : (t : List ℕ) (l : Lattice) (row : ℕ) (whole other out : List ℕ) (r : Bool) {m1 m2 p1 p2 : List ℕ} → m1 ≡ p1 → m2 ≡ p2 → (out ≡ rowOut t l m1 m2 whole row other) × (r ≡ rowDiffers t l m1 m2 whole row) → (out ≡ rowOut t l p1 p2 whole row other) × (r ≡ rowDiffers t l p1 p2 whole row)
 row-of-parts t l row whole other out r e f h = rw (← e, ← f) h
 
-part-requires : tie.Need-part-requires
-part-requires c κs = search needs
-
-part-requires-2 : tie.Need-part-requires-2
-part-requires-2 c κs = search needs
-
 row-requires : tie.Need-row-requires
 row-requires c κs =
     let p = c .before .before .before .before .before .before .pre in
     rw (c .before .before .part .ensures, c .before .part2 .ensures) (p .shaped, p .room, omega (arith, p .row-below))
-
-same-length : tie.Need-same-length
-same-length c = search needs
 
 returns : tie.Need-returns
 returns c =
@@ -34,4 +25,5 @@ returns c =
     row-of-parts (a .t .now) (a .l) (a .row .0) (a .whole .now) (a .other .now) _ _ (c .before .before .before .before .before .part .ensures) (c .before .before .before .before .part2 .ensures) (c .before .before .row .ensures)
 
 pub work-row-spec : {M : Type 1} → statement M
-work-row-spec = tie.close (tie.spec part-requires part-requires-2 row-requires same-length returns)
+work-row-spec =
+    tie.close (tie.spec (λ c κs. search needs) (λ c κs. search needs) row-requires (λ c. search needs) returns)

@@ -6,19 +6,10 @@ use borrow.Author.Needs.{needs}
 use Rattle.listing.proofs.settling.put_settled.Statement.{statement}
 use Rattle.listing.proofs.settling.put_settled.Tie as tie
 
-slice-aggregate-settle : tie.Need-slice-aggregate-settle
-slice-aggregate-settle c = search needs
-
-slice-aggregate-settle-2 : tie.Need-slice-aggregate-settle-2
-slice-aggregate-settle-2 c = search needs
-
 settle-requires : tie.Need-settle-requires
 settle-requires c κs =
     let s = c .before .before .before .before .before in
     tops-start (s .args .t .now) (s .args .l) (s .args .m1 .now) (s .args .m2 .now) (s .pre .first) (s .pre .second) (s .pre .same-propositions) (s .pre .laws)
-
-slice-aggregate-put-table : tie.Need-slice-aggregate-put-table
-slice-aggregate-put-table c = search needs
 
 put-table-requires : tie.Need-put-table-requires
 put-table-requires c κs =
@@ -33,20 +24,10 @@ put-table-requires c κs =
       rw (settled-text (w .ensures) (w .result) (w .ensures .isT)) (s .pre .room (w .result) (w .ensures .isT)),
     )
 
-same-length : tie.Need-same-length
-same-length c = search needs
-
 returns : tie.Need-returns
 returns c T f = rw (settled-text (c .before .before .before .before .before .before .before .settle .ensures) T f) at (c .before .before .put-table .ensures)
 
 pub put-settled-spec : {M : Type 1} → statement M
 put-settled-spec =
-    tie.close
-    (tie.spec
-    slice-aggregate-settle
-    slice-aggregate-settle-2
-    settle-requires
-    slice-aggregate-put-table
-    put-table-requires
-    same-length
-    returns)
+    tie.close (tie.spec (λ c. search needs) (λ c. search needs) settle-requires (λ c. search needs) put-table-requires
+    (λ c. search needs) returns)

@@ -26,21 +26,6 @@ rows s = rowsText (entry s) (getD (s .args .m1 .now) 0 0) (getD (s .args .m2 .no
 abbrev mark : tie.Start → List ℕ
 mark s = lastItem scoreWord (score (opsIn (s .args .t .now) (s .args .l)) (modelOf (s .args .m1 .now)) (modelOf (s .args .m2 .now)) (entry s))
 
-states-requires : tie.Need-states-requires
-states-requires c κs = search needs
-
-states-requires-2 : tie.Need-states-requires-2
-states-requires-2 c κs = search needs
-
-score-requires : tie.Need-score-requires
-score-requires c κs = search needs
-
-index-requires : tie.Need-index-requires
-index-requires c κs = search needs
-
-slice-aggregate-put-last : tie.Need-slice-aggregate-put-last
-slice-aggregate-put-last c = search needs
-
 put-last-requires : tie.Need-put-last-requires
 unfolding tableText
 put-last-requires c κs =
@@ -54,18 +39,12 @@ put-rows-requires c κs =
     rw (c .before .before .before .before .before .before .before .before .before .states .ensures, c .before .before .before .before .before .before .before .before .states2 .ensures)
     (s .pre .0 .held, fits-then (rows s) (fits-first (s .args .text .now) 0 (rounds s ++ rows s) (mark s) (s .pre .1)) (c .before .before .before .put-last .ensures))
 
-slice-aggregate-put-last-2 : tie.Need-slice-aggregate-put-last-2
-slice-aggregate-put-last-2 c = search needs
-
 put-last-requires-2 : tie.Need-put-last-requires-2
 unfolding tableText
 put-last-requires-2 c κs =
     let s = c .before .before .before .before .before .before .before .before .before .before .before .before .before .before .before .before .before .before .before in
     rw (c .before .before .before .before .before .before .before .before .before .before .before .index .ensures .0, c .before .before .before .before .before .before .before .before .before .before .before .before .score .ensures)
     (fits-then (mark s) (s .pre .1) (wrote-then (rows s) (omega arith) (c .before .before .before .before .before .before .before .before .put-last .ensures) (rw (c .before .before .before .before .before .before .before .before .before .before .before .before .before .before .states .ensures, c .before .before .before .before .before .before .before .before .before .before .before .before .before .states2 .ensures) at (c .before .before .before .before .put-rows .ensures))))
-
-same-length : tie.Need-same-length
-same-length c = search needs
 
 returns : tie.Need-returns
 unfolding tableText
@@ -77,16 +56,6 @@ returns c =
 
 pub put-table-spec : {M : Type 1} → statement M
 put-table-spec =
-    tie.close
-    (tie.spec
-    states-requires
-    states-requires-2
-    score-requires
-    index-requires
-    slice-aggregate-put-last
-    put-last-requires
-    put-rows-requires
-    slice-aggregate-put-last-2
-    put-last-requires-2
-    same-length
+    tie.close (tie.spec (λ c κs. search needs) (λ c κs. search needs) (λ c κs. search needs) (λ c κs. search needs)
+    (λ c. search needs) put-last-requires put-rows-requires (λ c. search needs) put-last-requires-2 (λ c. search needs)
     returns)

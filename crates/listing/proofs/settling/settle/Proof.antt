@@ -90,21 +90,5 @@ loop-again c =
 
 pub settle-spec : {M : Type 1} → statement M
 settle-spec =
-    tie.close
-    (tie.spec
-    Inv-loop
-    μ-loop
-    loop-holds
-    round-requires
-    add-result
-    same-length
-    same-length-2
-    returns
-    round-requires-2
-    add-result-2
-    same-length-3
-    same-length-4
-    returns-2
-    add-r
-    loop-less
-    loop-again)
+    tie.close (tie.spec Inv-loop μ-loop loop-holds round-requires add-result same-length same-length-2 returns
+    round-requires-2 add-result-2 same-length-3 same-length-4 returns-2 add-r loop-less loop-again)

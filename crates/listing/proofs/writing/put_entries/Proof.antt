@@ -23,23 +23,11 @@ loop-holds c =
     let s = c .before .before in
     (omega arith, each-starts (s .args .text .now) (s .args .at) (s .args .n) (entry (s .args .table .now) (s .args .from)) (s .pre .1))
 
-add-put-entry : tie.Need-add-put-entry Inv-loop μ-loop
-add-put-entry c = omega arith
-
-shared-slice-read-put-entry : tie.Need-shared-slice-read-put-entry Inv-loop μ-loop
-shared-slice-read-put-entry c = omega arith
-
 put-entry-requires : tie.Need-put-entry-requires Inv-loop μ-loop
 put-entry-requires c κs =
     let s = c .before .before .before .before .before .before in
     let l = c .before .before .before .loop in
     each-room (s .args .text .now) (s .args .at) (s .args .n) (entry (s .args .table .now) (s .args .from)) (s .pre .1) (l .q) (l .text) (l .next) (omega arith) (l .inv .1)
-
-add-q : tie.Need-add-q Inv-loop μ-loop
-add-q c = omega arith
-
-loop-less : tie.Need-loop-less Inv-loop μ-loop
-loop-less c = omega arith
 
 loop-again : tie.Need-loop-again Inv-loop μ-loop
 loop-again c =
@@ -63,16 +51,5 @@ returns c =
 
 pub put-entries-spec : {M : Type 1} → statement M
 put-entries-spec =
-    tie.close
-    (tie.spec
-    Inv-loop
-    μ-loop
-    loop-holds
-    add-put-entry
-    shared-slice-read-put-entry
-    put-entry-requires
-    add-q
-    loop-less
-    loop-again
-    same-length
-    returns)
+    tie.close (tie.spec Inv-loop μ-loop loop-holds (λ c. omega arith) (λ c. omega arith) put-entry-requires
+    (λ c. omega arith) (λ c. omega arith) loop-again same-length returns)

@@ -9,14 +9,8 @@ use Rattle.listing.proofs.writing.put_heading.Tie as tie
 put-item-requires : tie.Need-put-item-requires
 put-item-requires c κs = let s = c .before .before .before in fits-first (s .args .text .now) (s .args .at) (item (s .args .word .now) (s .args .n)) colon (s .pre)
 
-slice-aggregate-put : tie.Need-slice-aggregate-put
-slice-aggregate-put c = search needs
-
 put-requires : tie.Need-put-requires
 put-requires c κs = let s = c .before .before .before .before .before .before .before .before in fits-then colon (s .pre) (c .before .before .before .before .put-item .ensures)
-
-same-length : tie.Need-same-length
-same-length c = search needs
 
 returns : tie.Need-returns
 returns c =
@@ -24,5 +18,4 @@ returns c =
     wrote-then _ (omega (arith, s .pre)) (c .before .before .before .before .before .before .before .put-item .ensures) (c .before .before .put .ensures)
 
 pub put-heading-spec : {M : Type 1} → statement M
-put-heading-spec =
-    tie.close (tie.spec put-item-requires slice-aggregate-put put-requires same-length returns)
+put-heading-spec = tie.close (tie.spec put-item-requires (λ c. search needs) put-requires (λ c. search needs) returns)

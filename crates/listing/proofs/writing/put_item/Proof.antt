@@ -12,13 +12,10 @@ put-requires c κs = let s = c .before .before .before in fits-first (s .args .t
 put-number-requires : tie.Need-put-number-requires
 put-number-requires c κs = let s = c .before .before .before .before .before .before .before in fits-then (decimal (s .args .n)) (s .pre) (c .before .before .before .put .ensures)
 
-same-length : tie.Need-same-length
-same-length c = search needs
-
 returns : tie.Need-returns
 returns c =
     let s = c .before .before .before .before .before .before .before .before .before .before in
     wrote-then _ (omega (arith, s .pre)) (c .before .before .before .before .before .before .put .ensures) (c .before .before .put-number .ensures)
 
 pub put-item-spec : {M : Type 1} → statement M
-put-item-spec = tie.close (tie.spec put-requires put-number-requires same-length returns)
+put-item-spec = tie.close (tie.spec put-requires put-number-requires (λ c. search needs) returns)

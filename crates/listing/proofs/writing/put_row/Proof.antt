@@ -16,18 +16,12 @@ head q = heading rowWord q
 abbrev entries : List ℕ → ℕ → ℕ → List ℕ
 entries table n2 q1 = entriesText (tableOf table n2 q1) n2
 
-slice-aggregate-put-heading : tie.Need-slice-aggregate-put-heading
-slice-aggregate-put-heading c = search needs
-
 put-heading-requires : tie.Need-put-heading-requires
 unfolding rowText
 put-heading-requires c κs =
     let s = c .before .before .before .before in
     let a = s .args in
     fits-first (a .text .now) (a .at) (head (a .q1)) (entries (a .table .now) (a .n2) (a .q1)) (fits-first (a .text .now) (a .at) (head (a .q1) ++ entries (a .table .now) (a .n2) (a .q1)) lineEnd (s .pre .1))
-
-mul-put-entries : tie.Need-mul-put-entries
-mul-put-entries c = search needs
 
 put-entries-requires : tie.Need-put-entries-requires
 unfolding rowText
@@ -36,17 +30,11 @@ put-entries-requires c κs =
     let a = s .args in
     (s .pre .0, fits-then (entries (a .table .now) (a .n2) (a .q1)) (fits-first (a .text .now) (a .at) (head (a .q1) ++ entries (a .table .now) (a .n2) (a .q1)) lineEnd (s .pre .1)) (c .before .before .before .put-heading .ensures))
 
-slice-aggregate-put : tie.Need-slice-aggregate-put
-slice-aggregate-put c = search needs
-
 put-requires : tie.Need-put-requires
 unfolding rowText
 put-requires c κs =
     let s = c .before .before .before .before .before .before .before .before .before .before .before .before .before in
     fits-then lineEnd (s .pre .1) (wrote-then _ (omega arith) (c .before .before .before .before .before .before .before .before .put-heading .ensures) (c .before .before .before .before .put-entries .ensures))
-
-same-length : tie.Need-same-length
-same-length c = search needs
 
 returns : tie.Need-returns
 unfolding rowText
@@ -57,13 +45,5 @@ returns c =
 
 pub put-row-spec : {M : Type 1} → statement M
 put-row-spec =
-    tie.close
-    (tie.spec
-    slice-aggregate-put-heading
-    put-heading-requires
-    mul-put-entries
-    put-entries-requires
-    slice-aggregate-put
-    put-requires
-    same-length
-    returns)
+    tie.close (tie.spec (λ c. search needs) put-heading-requires (λ c. search needs) put-entries-requires
+    (λ c. search needs) put-requires (λ c. search needs) returns)

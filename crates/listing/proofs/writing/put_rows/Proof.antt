@@ -31,12 +31,6 @@ put-row-requires c κs =
       each-room (s .args .text .now) (s .args .at) (s .args .n1) (line (s .args .table .now) (s .args .n2)) (s .pre .1) (l .q1) (l .text) (l .next) (omega arith) (l .inv .1),
     )
 
-add-q1 : tie.Need-add-q1 Inv-loop μ-loop
-add-q1 c = omega arith
-
-loop-less : tie.Need-loop-less Inv-loop μ-loop
-loop-less c = omega arith
-
 loop-again : tie.Need-loop-again Inv-loop μ-loop
 loop-again c =
     let s = c .before .before .before .before .before .before .before .before in
@@ -57,14 +51,5 @@ returns c =
 
 pub put-rows-spec : {M : Type 1} → statement M
 put-rows-spec =
-    tie.close
-    (tie.spec
-    Inv-loop
-    μ-loop
-    loop-holds
-    put-row-requires
-    add-q1
-    loop-less
-    loop-again
-    same-length
-    returns)
+    tie.close (tie.spec Inv-loop μ-loop loop-holds put-row-requires (λ c. omega arith) (λ c. omega arith) loop-again
+    same-length returns)
