@@ -40,7 +40,7 @@ extern "C" {
 #define KOELCHAIR_OPENED 1
 #define KOELCHAIR_ROW 2
 #define KOELCHAIR_ROUND 3    /* value is the round */
-#define KOELCHAIR_SETTLED 4  /* value is T, the round at which the table stays */
+#define KOELCHAIR_SETTLED 4  /* value is T, the first round that equals the one before */
 #define KOELCHAIR_ELEMENT 5  /* value is the element */
 #define KOELCHAIR_PER_CENT 6 /* value is 0 to 100 */
 #define KOELCHAIR_SAYS 7     /* value is 1 for yes, 0 for no */
@@ -55,7 +55,7 @@ extern "C" {
 #define KOELCHAIR_REFUSED_NO_MEET_OR_JOIN 6
 #define KOELCHAIR_REFUSED_NOT_DISTRIBUTIVE 7
 #define KOELCHAIR_REFUSED_COMPLEMENT 8       /* a complement rule is broken */
-#define KOELCHAIR_REFUSED_MODEL 9            /* a model part's length, sizes or a value, or the models' propositions differ */
+#define KOELCHAIR_REFUSED_MODEL 9            /* a model part's length, a size or a value is wrong, or the models' counts of propositions differ */
 #define KOELCHAIR_REFUSED_FORMULA 10         /* a formula rule is broken */
 #define KOELCHAIR_REFUSED_SHORT_DESK 11      /* the store or a table is too short */
 #define KOELCHAIR_REFUSED_SPOILED_DESK 12    /* the desk breaks one of its rules, as a desk of zeros does */
@@ -99,7 +99,7 @@ typedef struct koelchair_shown {
 
 /* ---- the calls that move the desk on */
 
-/* Takes a case and makes the desk anew, whatever the desk was. Reads the case; writes the case's parts at the store's front and the
+/* Takes a case and makes the desk anew, whatever the desk was. Reads the case; writes it without gaps at the store's front and the
    lattice's top into the first N1 times N2 bytes of both tables. Answers KOELCHAIR_OPENED, or KOELCHAIR_REFUSED with 11 or 1 to 10. */
 koelchair_moved koelchair_open(koelchair_standing standing,
                                const uint8_t *case_bytes, size_t case_length,
@@ -107,7 +107,7 @@ koelchair_moved koelchair_open(koelchair_standing standing,
                                uint8_t *first, size_t first_length,
                                uint8_t *second, size_t second_length);
 
-/* Works the next row of the next round. Reads the store and the whole table; writes that row of the other table and nothing else.
+/* Works the next row of the next round. Reads the store and both tables; writes that row of the table that is not whole, nothing else.
    Answers KOELCHAIR_ROW, after the last row KOELCHAIR_ROUND or KOELCHAIR_SETTLED, or KOELCHAIR_REFUSED with 11 or 12. A settled desk
    answers KOELCHAIR_SETTLED again and is not altered. */
 koelchair_moved koelchair_step(koelchair_standing standing,
