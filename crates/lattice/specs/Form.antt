@@ -95,6 +95,10 @@ order-at b n i j f p e l m =
 abbrev pub panelEntry : ℕ → ℕ
 panelEntry k = one (panelOrder (k / 27) (k % 27))
 
+-- these bytes are the panel's order
+pub record PanelOrder (b : List ℕ) : Type 0 where
+  pub at : (k : ℕ) → k < 729 → getD b k 0 ≡ panelEntry k
+
 pub panel-at : (b : List ℕ) (i j : ℕ) → isPanel b ≡ true → i < latticeOf b .size → j < latticeOf b .size → (i * 27 + j < 729) × (panelEntry (i * 27 + j) ≡ one (latticeOf b .order i j))
 panel-at b i j p l m =
     let q = part-panel b p in

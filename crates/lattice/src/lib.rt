@@ -13,6 +13,7 @@ ghost use Rattle.theory.specs.Lists.{Filled};
 ghost use Rattle.theory.specs.Part.{element, opsOf};
 ghost use Rattle.operations.specs.Table.{atMostIn, meetIn, joinIn, complementIn};
 ghost use Rattle.lattice.specs.Reading.{isPanel, latticeOf, latticeForm, latticeReading, partReading, partialOrder};
+ghost use Rattle.lattice.specs.Form.{PanelOrder};
 ghost use Rattle.lattice.specs.Answer.{Answered};
 ghost use Rattle.lattice.specs.Bounds.{boundUpTo};
 ghost use Rattle.lattice.specs.Scan.{orderFor, joinOrMeet, lower, better, candidate, under, greatest, scanFrom, boundFrom};
@@ -101,15 +102,15 @@ fn element_of(n: u8, k: usize) -> Element
     Element(0)
 }
 
-// 1 where a is at or below b in the part, else 0.
-fn order_entry(part: &[u8], a: Element, b: Element) -> u8
-    requires { ⌜ (latticeForm (now part) ≡ true) × (a .0 < latticeOf (now part) .size) × (b .0 < latticeOf (now part) .size) ⌝ }
+// 1 where a is at or below b in the part, else 0; `order` is the panel's, which is lent, as a copy of it at each entry takes longer than the rest.
+fn order_entry(part: &[u8], order: &[u8; 729], a: Element, b: Element) -> u8
+    requires { ⌜ (latticeForm (now part) ≡ true) × PanelOrder (now order) × (a .0 < latticeOf (now part) .size) × (b .0 < latticeOf (now part) .size) ⌝ }
     ensures { λ r. ⌜ r ≡ one (latticeOf (now (part .entry)) .order (a .0) (b .0)) ⌝ }
 {
     let i = operations::index(a.0);
     let j = operations::index(b.0);
     if is_panel(part) {
-        return panel::ORDER[i * 27 + j];
+        return order[i * 27 + j];
     }
     let n = operations::index(part[0]);
     part[1 + n + (i * n + j)]
@@ -288,8 +289,9 @@ fn fill_order(part: &[u8], t: &mut [u8; 12352])
 {
     let _ = entries(t);
     let n = size(part);
+    let order = panel::ORDER;
     for k in 0..4096 {
-        t[k] = order_entry(part, element_of(n, k / 64), element_of(n, k));
+        t[k] = order_entry(part, &order, element_of(n, k / 64), element_of(n, k));
     }
 }
 

@@ -4,10 +4,12 @@ use native.Mathlib.Omega.{arith}
 use borrow.Author.Needs.{needs}
 use Prim.Native.Nat.{_≤_, _-_}
 use lib.ListN.{length, length-set}
-use Rattle.theory.specs.Loop.{filled-none, filled-more}
-use Rattle.theory.specs.Lists.{Filled}
+use Rattle.theory.specs.Loop.{filled-none, filled-more, tab-at}
+use Rattle.theory.specs.Lists.{Filled, tab}
 use Rattle.theory.specs.Part.{opsOf}
+use Rattle.lattice.specs.Panel.{panelOrder}
 use Rattle.lattice.specs.Reading.{latticeOf}
+use Rattle.lattice.specs.Form.{panelEntry}
 use Rattle.lattice.specs.Tables.{tableEntry, filled-reached, order-fill}
 use Rattle.lattice.specs.Accepted.{formed}
 use Rattle.lattice.specs.Bounds.{element-lt}
@@ -15,10 +17,10 @@ use Rattle.lattice.proofs.fill_order.Statement.{statement}
 use Rattle.lattice.proofs.fill_order.Tie as tie
 
 abbrev Inv-loop : tie.InvT-loop
-Inv-loop part t₀ n k₀ t k = (k ≤ 4096) × (length t ≡ 12352) × Filled (tableEntry (opsOf (latticeOf part))) k t
+Inv-loop part t₀ n order k₀ t k = (k ≤ 4096) × (length t ≡ 12352) × Filled (tableEntry (opsOf (latticeOf part))) k t
 
 abbrev μ-loop : tie.MeasureT-loop
-μ-loop part t₀ n k₀ t k = 4096 - k
+μ-loop part t₀ n order k₀ t k = 4096 - k
 
 size-requires : tie.Need-size-requires Inv-loop μ-loop
 size-requires c κs = c .before .before .before .before .pre
@@ -26,15 +28,19 @@ size-requires c κs = c .before .before .before .before .pre
 loop-holds : tie.Need-loop-holds Inv-loop μ-loop
 loop-holds c = (omega arith, c .before .before .entries-arg2 .given .0, filled-none)
 
+-- the rule of the constant, computed at all 729 entries
 order-entry-requires : tie.Need-order-entry-requires Inv-loop μ-loop
+unfolding tab panelOrder
 order-entry-requires c κs =
-    let f = formed _ (c .before .before .before .before .before .before .before .before .before .pre) in
-    (c .before .before .before .before .before .before .before .before .before .pre, rw (c .before .element-of .ensures, c .before .before .before .before .size .ensures) (element-lt _ _ (f .some)), rw (c .element-of2 .ensures, c .before .before .before .before .size .ensures) (element-lt _ _ (f .some)))
+    let p = c .before .before .before .before .before .before .before .before .before .before .pre in
+    let z = c .before .before .before .before .before .size .ensures in
+    let f = formed _ p in
+    (p, record { at = λ k l. tab-at panelEntry 729 k l }, rw (c .before .element-of .ensures, z) (element-lt _ _ (f .some)), rw (c .element-of2 .ensures, z) (element-lt _ _ (f .some)))
 
 loop-again : tie.Need-loop-again Inv-loop μ-loop
 loop-again c =
-    let i = c .before .before .before .before .loop .inv in
-    (omega arith, simp length-set (i .1), filled-more (i .2) (omega (arith, i .1)) (order-fill (latticeOf (c .before .before .before .before .before .before .before .before .before .before .args .part .now)) _ _ (c .before .before .before .loop-test .taken) (c .before .before .before .before .before .size .ensures) (c .before .before .element-of .ensures) (c .before .element-of2 .ensures) (c .order-entry .ensures)))
+    let i = c .before .before .before .before .before .loop .inv in
+    (omega arith, simp length-set (i .1), filled-more (i .2) (omega (arith, i .1)) (order-fill (latticeOf (c .before .before .before .before .before .before .before .before .before .before .before .args .part .now)) _ _ (c .before .before .before .before .loop-test .taken) (c .before .before .before .before .before .before .size .ensures) (c .before .before .element-of .ensures) (c .before .element-of2 .ensures) (c .order-entry .ensures)))
 
 returns : tie.Need-returns Inv-loop μ-loop
 returns c = filled-reached (c .before .loop .inv .2) (c .loop-test .left)

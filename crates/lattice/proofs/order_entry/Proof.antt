@@ -1,12 +1,9 @@
--- `lattice::order_entry` meets its contract: an explicit part by its form, the panel by its rule, computed at all 729 entries. Assumes nothing.
+-- `lattice::order_entry` meets its contract: an explicit part by its form, the panel by the order that is lent. Assumes nothing.
 use Prim.Native.Nat.{_+_, _*_, _<_}
 use mathlib.Core.Path.{_≡_, sym, _∙_}
 use native.Mathlib.Omega.{arith}
 use borrow.Author.Needs.{needs}
 use Rattle.theory.specs.Simulation.{one}
-use Rattle.theory.specs.Loop.{tab-at}
-use Rattle.theory.specs.Lists.{tab}
-use Rattle.lattice.specs.Panel.{panelOrder}
 use Rattle.lattice.specs.Reading.{latticeOf}
 use Rattle.lattice.specs.Form.{OrderEntry, form-explicit, order-at, panel-at, panelEntry}
 use Rattle.lattice.proofs.order_entry.Statement.{statement}
@@ -16,20 +13,21 @@ use Rattle.lattice.proofs.order_entry.Tie as tie
 entry : (c : tie.After-index3) → OrderEntry (c .before .before .before .before .before .before .before .args .part .now) (c .index3 .result) (c .before .before .before .before .before .index .result) (c .before .before .before .before .index2 .result)
 entry c =
     let p = c .before .before .before .before .before .before .before .pre in
-    order-at _ _ _ _ (p .0) (sym (c .before .before .before .is-panel .ensures) ∙ c .before .before .if1 .left) (c .index3 .ensures .0) (rw (c .before .before .before .before .before .index .ensures .0) (p .1)) (rw (c .before .before .before .before .index2 .ensures .0) (p .2))
+    order-at _ _ _ _ (p .0) (sym (c .before .before .before .is-panel .ensures) ∙ c .before .before .if1 .left) (c .index3 .ensures .0) (rw (c .before .before .before .before .before .index .ensures .0) (p .2)) (rw (c .before .before .before .before .index2 .ensures .0) (p .3))
 
 -- the panel's entry
 panel : (c : tie.Then1) → (c .before .before .before .index .result * 27 + c .before .before .index2 .result < 729) × (panelEntry (c .before .before .before .index .result * 27 + c .before .before .index2 .result) ≡ one (latticeOf (c .before .before .before .before .before .args .part .now) .order (c .before .before .before .index .result) (c .before .before .index2 .result)))
 panel c =
     let p = c .before .before .before .before .before .pre in
-    panel-at _ _ _ (sym (c .before .is-panel .ensures) ∙ c .if1 .taken) (rw (c .before .before .before .index .ensures .0) (p .1)) (rw (c .before .before .index2 .ensures .0) (p .2))
+    panel-at _ _ _ (sym (c .before .is-panel .ensures) ∙ c .if1 .taken) (rw (c .before .before .before .index .ensures .0) (p .2)) (rw (c .before .before .index2 .ensures .0) (p .3))
 
-array-read-result : tie.Need-array-read-result
-array-read-result c = panel c .0
+element-copy-out-result : tie.Need-element-copy-out-result
+element-copy-out-result c = panel c .0
 
 returns : tie.Need-returns
-unfolding tab panelOrder
-returns c = rw (← c .before .before .before .index .ensures .0, ← c .before .before .index2 .ensures .0) (tab-at panelEntry 729 _ (panel c .0) ∙ panel c .1)
+returns c =
+    let p = c .before .before .before .before .before .before .pre in
+    rw (← c .before .before .before .before .index .ensures .0, ← c .before .before .before .index2 .ensures .0) (p .1 .at _ (panel (c .before) .0) ∙ panel (c .before) .1)
 
 shared-slice-read-index : tie.Need-shared-slice-read-index
 shared-slice-read-index c = omega (arith, form-explicit _ (c .before .before .before .before .before .before .pre .0) (sym (c .before .before .is-panel .ensures) ∙ c .before .if1 .left) .exact)
@@ -52,5 +50,5 @@ returns-2 c = rw (← c .before .before .before .before .before .before .index .
 pub order-entry-spec : {M : Type 1} → statement M
 order-entry-spec =
     tie.close (tie.spec (λ c κs. search needs) (λ c κs. search needs) (λ c κs. search needs) (λ c. search needs)
-    (λ c. search needs) array-read-result returns shared-slice-read-index (λ c κs. search needs) (λ c. search needs)
+    (λ c. search needs) element-copy-out-result returns shared-slice-read-index (λ c κs. search needs) (λ c. search needs)
     mul-result-2 add-result-3 add-result-4 shared-slice-read-result returns-2)
