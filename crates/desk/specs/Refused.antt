@@ -66,7 +66,7 @@ spoiledAs d (content c) = not (keptFor c d)
 unfoldable pub spoiled : Desk → Bool
 spoiled d = spoiledAs d (storeReading (d .store))
 
--- The rules one by one, as statements. RefusedLaws shows that the tests say the same.
+-- The rules one by one, as statements. RulesLaws shows that the tests say the same.
 pub record Rules (d : Desk) (c : Content) : Type 0 where
   pub reads : storeReading (d .store) ≡ content c
   pub size1 : d .standing .states1 ≡ N1 c
@@ -99,7 +99,7 @@ inRange (Question.Whole f m) c = hasFormula c f && isModel m
 inRange (Question.Share e) c = ltb e (latticeSize c)
 inRange (Question.Judge t) c = eqb (length t) (tableSize c) && tableKept (tableSize c) (latticeSize c) t
 
--- the same as statements; RefusedLaws shows that the tests say the same
+-- the same as statements; RulesLaws shows that the tests say the same
 abbrev pub InRange : Question → Content → Type 0
 InRange Question.Show c = Unit {0}
 InRange Question.Score c = Unit {0}

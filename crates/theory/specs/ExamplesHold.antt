@@ -2,7 +2,7 @@
 -- Rests on Examples, Test, Descent, Height, Monotone.
 --   unchangedTest, settles-by-test: T by a test that is computed
 --   examples-hold: every worked example holds
---   bound-met: no smaller bound on T holds than N1·N2·(h − 1) + 1
+--   bound-met: T is N1·N2·(h − 1) + 1 in example 2
 use Prim.Native.Nat.{ℕ, zero, suc, _+_, _*_, _-_, _<_}
 use mathlib.Core.Path.{_≡_, refl}
 use mathlib.Core.Bool.{Bool, true, not, _&&_}
@@ -103,7 +103,7 @@ reported-holds = (refl, (refl, tt))
 pub examples-hold : All (All ExampleHolds) examples
 examples-hold = (example1-holds, (example2-holds, (example3-holds, (example4-holds, (example5-holds, (example6-holds, (table1-holds, (reported-holds, tt))))))))
 
--- ---- 'T is at most N1·N2·(h − 1) + 1' is met in example 2, with h = 2: no smaller bound holds
+-- ---- 'T is at most N1·N2·(h − 1) + 1' is met in example 2, with h = 2
 
 L2-longest : LongestChain (partOps L2) 2
 unfolding partOps
