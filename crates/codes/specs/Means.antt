@@ -1,10 +1,11 @@
 -- Words that are codes of elements, and what their & and | are codes of. Rests on Coded, theory's Lattice.
-use Prim.Native.Nat.{ℕ, _%_, _<_}
+use Prim.Native.Nat.{ℕ, _+_, _%_, _<_}
 use mathlib.Core.Path.{_≡_, sym, ap, ap₂, _∙_}
 use mathlib.Core.List.{List}
 use native.Mathlib.Omega.{arith}
 use lib.Bits.{bitAnd, bitOr}
 use lib.ListN.{getD}
+use Rattle.theory.specs.Lists.{tab}
 use Rattle.operations.specs.Table.{meetIn, joinIn}
 use Rattle.operations.specs.declared.Lattice.{Lattice}
 use Rattle.codes.specs.Coded.{Coded, firstOf, first-code}
@@ -12,6 +13,10 @@ use Rattle.codes.specs.Coded.{Coded, firstOf, first-code}
 -- the word at a byte of a table of 64 words; any byte is read as its remainder by 64
 abbrev pub wordOf : List ℕ → ℕ → ℕ
 wordOf codes a = getD codes (a % 64) 0
+
+-- the words of `count` bytes of s from `from` on
+abbrev pub wordsOf : List ℕ → List ℕ → ℕ → ℕ → List ℕ
+wordsOf codes s from count = tab (λ i. wordOf codes (getD s (from + i) 0)) count 0
 
 -- x is the code of the element e
 pub record Means (l : Lattice) (codes : List ℕ) (x e : ℕ) : Type 0 where

@@ -4,8 +4,11 @@ use operations::Element;
 use operations::Lattice;
 ghost use mathlib.Core.Path.{_≡_};
 ghost use mathlib.Core.Bool.{true};
-ghost use Prim.Native.Nat.{_<_, _≤_};
+ghost use Prim.Native.Nat.{_+_, _<_, _≤_};
+ghost use lib.ListN.{length};
+ghost use Rattle.theory.specs.Lists.{written};
 ghost use Rattle.codes.specs.Coded.{firstOf, PairCoded, RowCoded, Coded, OrderKept};
+ghost use Rattle.codes.specs.Means.{wordsOf};
 
 // ---- words of the order: bit place[b] stands for element b
 
@@ -242,4 +245,14 @@ pub fn decode(codes: &[u64; 64], x: u64) -> Element
         }
     }
     Element(64)
+}
+
+// The words of `count` bytes of s from `from` on, written at the place `at` of out.
+pub fn encode(codes: &[u64; 64], s: &[u8], from: usize, count: usize, out: &mut [u64], at: usize)
+    requires { ⌜ (from + count ≤ length (now s)) × (at + count ≤ length (now out)) ⌝ }
+    ensures { λ _. ⌜ now (out .exit) ≡ written at (wordsOf (now (codes .entry)) (now (s .entry)) from count) (now (out .entry)) ⌝ }
+{
+    for i in 0..count {
+        out[at + i] = codes[(s[from + i] % 64) as usize];
+    }
 }

@@ -2,6 +2,7 @@
 --   written-none, written-byte, written-turn: nothing, one byte more, and one turn more of a loop that writes f 0, f 1, ..
 --   written-length, written-at, written-before, written-after: the length, what is written, and what is kept
 --   written-all: what holds of every byte written and of every byte before, holds of every byte
+--   Slice: what a loop that writes f 0, f 1, .. has written; slice-none, slice-more, slice-all: its begin, turn and end; slice-at: a byte of it
 use Prim.Native.Nat.{ℕ, suc, _+_, _-_, _≤_, _<_}
 use mathlib.Core.Path.{_≡_, refl, sym, ap, ap₂, _∙_}
 use mathlib.Core.Bool.{Bool, true, false}
@@ -11,7 +12,7 @@ use borrow.Author.Tests.{ltb-true, ltb-false}
 use lib.Dec.{ltb}
 use lib.ListN.{length, getD, take, drop, set, length-append, length-drop, take-append-drop, List·getD-append}
 use lib.Seq.{length-take-le, drop-cons, append-snoc, getD-append-add, getD-take, getD-drop, set-at}
-use Rattle.theory.specs.Loop.{tab-length, tab-more}
+use Rattle.theory.specs.Loop.{tab-at, tab-length, tab-more}
 use Rattle.theory.specs.Lists.{tab}
 use Rattle.theory.specs.Lists.{written}
 
@@ -79,3 +80,24 @@ written-turn at f q out h =
     ap (λ (k : ℕ). set (written at (tab f q 0) out) (at + k) (f q)) (sym n)
     ∙ written-byte at (tab f q 0) out (f q) (omega (arith, n))
     ∙ ap (λ (s : List ℕ). written at s out) (sym (tab-more f q))
+
+-- a loop has written f 0, .., f (n - 1) from the place `at` on. A record, so that a goal shows the rule and n
+pub record Slice (at : ℕ) (f : ℕ → ℕ) (n : ℕ) (before out : List ℕ) : Type 0 where
+  pub out-is : out ≡ written at (tab f n 0) before
+
+module _ {at : ℕ} {f : ℕ → ℕ} {before : List ℕ} where
+  pub slice-none : Slice at f 0 before before
+  unfolding tab
+  slice-none = record { out-is = sym (written-none at before) }
+
+  pub slice-more : {n v : ℕ} {out : List ℕ} → Slice at f n before out → at + n < length before → v ≡ f n → Slice at f (n + 1) before (set out (at + n) v)
+  slice-more {n} {v} {out} u l e = record { out-is = rw (u .out-is, e) (written-turn at f n before l) }
+
+  pub slice-all : {i n : ℕ} {out : List ℕ} → Slice at f i before out → i ≤ n → n ≤ i → out ≡ written at (tab f n 0) before
+  slice-all {i} {n} u p q = let e : i ≡ n = omega arith in rw e at (u .out-is)
+
+-- what is written at a place is there
+pub slice-at : (at : ℕ) (f : ℕ → ℕ) (n : ℕ) (before : List ℕ) {out : List ℕ} → out ≡ written at (tab f n 0) before → at + n ≤ length before → (i : ℕ) → i < n → getD out (at + i) 0 ≡ f i
+slice-at at f n before e fits i l =
+    let m = tab-length f n 0 in
+    rw e (written-at at (tab f n 0) before (omega (arith, m)) i (omega (arith, m)) ∙ tab-at f n i l)
