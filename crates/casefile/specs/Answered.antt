@@ -1,4 +1,7 @@
--- The steps of the check give the answer of the reading. Rests on Answer, Placed and Accepted.
+-- The steps of the check give the answer of the reading. Rests on Answer, Placed, Accepted and Steps.
+--   size-answered, directory-answered, place-answered: where the test of refusal 1, 2 or 3 fails, the case is answered that refusal
+--   parts-answered: what the parts of a placed case are answered, the case is answered
+--   second-equal, second-differs: what is answered once model 2 has passed its own test
 use Prim.Native.Nat.{ℕ, _-_}
 use mathlib.Core.Path.{_≡_, refl, sym, ap, _∙_}
 use mathlib.Core.Bool.{Bool, true, false, cond, _&&_}

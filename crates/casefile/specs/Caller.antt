@@ -1,4 +1,6 @@
 -- What a caller of the check learns of a case or a store from the answer. Rests on Answer, Accepted and Content.
+--   AcceptedCase: what is known of an accepted case: its content, sizes, operations and their laws, its places and parts, its gapless length
+--   when-accepted, when-refused: what follows from the answer; accepted-as: the same from the content
 use Prim.Native.Nat.{ℕ, _≤_}
 use mathlib.Core.Path.{_≡_, refl, sym, _∙_}
 use mathlib.Core.List.{List}

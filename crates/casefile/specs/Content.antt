@@ -1,4 +1,7 @@
 -- What an accepted case gives to whoever works with its lattice, its models and its formulas. Rests on Accepted.
+--   ContentSound: the lattice has its laws, the models have their shape and their values in it, the formulas are read; sizes are bounded
+--   content-sound: the content of every accepted case is so
+--   PartsAre, parts-are: the parts of an accepted case are those of its content; part-is, count-is: one part by its number, and their count
 use Prim.Native.Nat.{ℕ, suc, _+_, _*_, _≤_, _<_}
 use mathlib.Core.Path.{_≡_, sym, ap, _∙_}
 use mathlib.Core.List.{List, []}

@@ -1,5 +1,5 @@
 -- For a loop over the directory that keeps in `from` where the next part may start. Rests on Placed and Steps.
---   PlacedUpto: the parts before part i are placed; upto-none, upto-more, upto-stop, upto-done
+--   PlacedUpto: the parts before part i are placed; upto-none, upto-more, upto-stop, upto-done: its begin, a turn, a misplaced part, its end
 --   well-is-placed: the test of a turn is that of the definition
 use Prim.Native.Nat.{ℕ, suc, max, _+_, _≤_, _<_}
 use mathlib.Core.Path.{_≡_, sym, _∙_}

@@ -1,4 +1,8 @@
--- Codes: words for the elements of a lattice on which meet is & and join is |. Rests on theory's Test, operations' Table.
+-- Codes: words for the elements of a lattice on which meet is & and join is |. Rests on theory's Test and TestLaws, operations' Table.
+--   Coded: what the test of codes shows of a lattice; RowCoded, PairCoded: the same of a row, and of two elements
+--   pair-in, coded-in: two elements from what the lookups gave, the lattice from its rows
+--   firstOf, first-code: the first number that has a code; of an element's code it is the element
+--   OrderKept: the order in the tables is as it was; kept-none, kept-set: at the start, and after an entry past it is set
 use Prim.Native.Nat.{ℕ, _<_, _≤_}
 use mathlib.Core.Path.{_≡_, refl, sym, ap, _∙_}
 use mathlib.Core.List.{List}

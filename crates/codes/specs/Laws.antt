@@ -1,5 +1,7 @@
--- Laws of & and | on numbers that lib.Bits lacks: & is associative and distributes over |, and they are meet and join in an order of words.
--- Rests on nothing.
+-- Laws of & and | on numbers that lib.Bits lacks. Rests on nothing.
+--   and-assoc, and-or: & is associative, and distributes over |
+--   Within: an order of words; within-refl, within-trans, within-antisym: that it is one
+--   and-left, and-right, and-greatest: & is the meet in it; or-left, or-right, or-least: | is the join
 use Prim.Native.Nat.{ℕ, _/_, _%_, min, max}
 use mathlib.Core.Path.{_≡_, refl, sym, ap, ap₂, _∙_}
 use native.Mathlib.Omega.{arith}

@@ -1,4 +1,7 @@
--- Words that are codes of elements, and what their & and | are codes of. Rests on Coded, theory's Lattice.
+-- Words that are codes of elements. Rests on Coded, operations' Table and theory's Lists.
+--   wordOf: the word at a byte; wordsOf: the words of a run of bytes; Means: a word is the code of an element
+--   means-word, means-meet, means-join: which element's code the word at a byte is, and & and | of two codes are
+--   means-first: which element is found by a code
 use Prim.Native.Nat.{ℕ, _+_, _%_, _<_}
 use mathlib.Core.Path.{_≡_, sym, ap, ap₂, _∙_}
 use mathlib.Core.List.{List}

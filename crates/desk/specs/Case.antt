@@ -1,4 +1,8 @@
 -- What the calls read in the content of a case. Rests on casefile's Reading and the theory.
+--   ops, latticeSize; model1, model2, N1, N2, tableSize: the lattice, the two models, and the sizes of these and of a table
+--   modelIn, formulaIn: a model and a formula by their numbers
+--   operator, roundIn, IsT: F, its rounds, and being T; limit: N1·N2·(n − 1)
+--   entryAt, tableBytes: the entries of a table in the order of its bytes
 use Prim.Native.Nat.{ℕ, _*_, _-_, _/_, _%_}
 use mathlib.Core.Bool.{cond}
 use mathlib.Core.List.{List}

@@ -1,5 +1,7 @@
 -- Formula f and model m of an accepted case, as parts of its bytes: for the proofs of the code that values them. Rests on Case, Refused and
 -- casefile's Caller.
+--   Valuable: what valuing formula f on model m asks of a case; parts-valuable: an accepted case fulfils it
+--   ModelPart, model-part: part m of an accepted case is model m of its content; formula-part: part 3 + f is read as formula f
 use Prim.Native.Nat.{ℕ, _+_, _≤_, _<_}
 use mathlib.Core.Path.{_≡_, refl, sym, ap}
 use mathlib.Core.Bool.{Bool, true, false, _||_}

@@ -1,6 +1,10 @@
--- Demand 1, of every call on every desk: which refusal is given and exactly when; a refusal alters nothing; every other input is accepted.
--- What a case is refused for, and in which order, is casefile's `caseReading`. Rests on Refused, Perform, casefile's Conditions, and for the proof on
--- RefusedLaws and casefile's Exactly.
+-- Demand 1, of every call on every desk. What a case is refused for, and in which order, is casefile's `caseReading`. Rests on Refused, Perform,
+-- casefile's Conditions, and for the proof on RefusedLaws and casefile's Exactly.
+--   Demand1: the demand. A refusal alters nothing, and what it answers: alters-nothing, numbered, show-refused
+--     which refusal is given, and exactly when: at-11, at-1-to-10, numbers, at-12, at-13, ranges, only
+--     every other input is accepted: case-accepted, open-accepted, other-accepted
+--   InStore: a content in the store, and whether the call's arguments are in its range
+--   demand1: the demand holds of every call on every desk
 use Prim.Native.Nat.{ℕ, _≤_}
 use mathlib.Core.Path.{_≡_, refl, sym, ap, _∙_}
 use mathlib.Core.Bool.{Bool, true, false}

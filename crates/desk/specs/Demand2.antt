@@ -1,5 +1,9 @@
--- Demand 2, of the desk after every list of calls with an accepted opening in it: the settled table is the greatest latticed simulation, and
--- values are those of the latticed mu-calculus. Rests on Run, and for the proof on Demand3, Listed, RefusedLaws, theory's Rounds and Fixpoint.
+-- Demand 2, of the desk after every list of calls with an accepted opening in it. Rests on Run, and for the proof on Demand3, Listed,
+-- RefusedLaws, theory's Rounds and Fixpoint.
+--   Demand2: the settled table is the greatest latticed simulation (settled-table), and values are those of the latticed mu-calculus: what the
+--     calls answer (values, wholes), that there is this calculus (calculus-is), and every closed formula's values (values-are)
+--   demand2: the demand holds after every such list
+--   is-calculus, value-of: the last two, of any content that is sound; value-asked, whole-asked: the answers, of any desk where they are accepted
 use Prim.Native.Nat.{ℕ}
 use mathlib.Core.Path.{_≡_, refl, sym, ap, _∙_}
 use mathlib.Core.Bool.{Bool, true, false, cond, _&&_}

@@ -1,6 +1,8 @@
--- Demand 3: one claim about every list of calls from any desk, refused ones included, with an accepted opening in it. First the claim, a field for
--- each part of it; then the theorem `listed`, for whatever last accepted opening and whatever T, and `demand3`, that there are these.
+-- Demand 3: one claim about every list of calls from any desk, refused ones included, with an accepted opening in it.
 -- Rests on Run, and for the proof on Listed, Next, Stands, RefusedLaws, and theory's Rounds, Preservation, Height and Sharp.
+--   Claim: the claim, a field for each part of it; Demand3: there are a last accepted opening and a T of which it holds
+--   demand3: every such list has the demand; listed: the claim holds for whatever last accepted opening and whatever T
+--   claimed: the claim from the invariant; T-most-sharp: another bound of T
 use Prim.Native.Nat.{ℕ, suc, _+_, _*_, _-_, _%_, _≤_, _<_}
 use mathlib.Core.Path.{_≡_, refl, sym, ap, _∙_, subst}
 use mathlib.Core.Bool.{true, false}

@@ -1,4 +1,7 @@
--- Two examples of document 01 by computation: calls from a desk of zeros, and their answers.
+-- Two examples of document 01 by computation: calls from a desk of zeros, and their answers. Rests on Run and casefile's Examples.
+--   zeros, AnswersAs: the desk, and that the calls of a list answer as it says
+--   calls1; example4, calls4: the calls of worked examples 1 and 4, and the case of the latter; examples-answer: they answer so
+--   refused-show: what a refused show answers
 use Prim.Native.Nat.{ℕ}
 use mathlib.Core.Path.{_≡_, refl}
 use mathlib.Core.Bool.{false, true}

@@ -1,22 +1,22 @@
 -- The desk, its eight calls and the three demands: definitions in the order of reading, then the theorems.
 -- ---- what a reader must believe
-pub mod Desk
-pub mod Case
-pub mod Refused
-pub mod Moved
-pub mod Perform
-pub mod Run
-pub mod Demand1
-pub mod Demand2
-pub mod Demand3
+pub mod Desk  -- the desk, its calls and their answers
+pub mod Case  -- what the calls read in the content of a case
+pub mod Refused  -- which refusal a call gets, or the content that it works on
+pub mod Moved  -- the desk after open and after step
+pub mod Perform  -- what each call answers, and the desk after it
+pub mod Run  -- lists of calls, the last accepted opening, s and r
+pub mod Demand1  -- which refusal is given and exactly when; every other input is accepted
+pub mod Demand2  -- the settled table is the greatest simulation, and values are those of the mu-calculus
+pub mod Demand3  -- one claim about every list of calls with an accepted opening in it
 -- ---- theorems
-pub mod CaseParts
-pub mod RulesLaws
-pub mod RefusedLaws
-pub mod CaseNumbers
-pub mod Stands
-pub mod Stepping
-pub mod Next
-pub mod Listed
-pub mod Unwritten
-pub mod Examples
+pub mod CaseParts  -- formula f and model m of an accepted case, as parts of its bytes
+pub mod RulesLaws  -- the tests of refusals 11, 12 and 13 say what their rules say
+pub mod RefusedLaws  -- which refusal a call gets, and what an accepted call knows
+pub mod CaseNumbers  -- the refusals of a case have the numbers 1 to 10
+pub mod Stands  -- the invariant of demand 3, and that an accepted opening starts it
+pub mod Stepping  -- an accepted step moves it on
+pub mod Next  -- what the next call answers where it holds
+pub mod Listed  -- it holds after every list of calls with an accepted opening in it
+pub mod Unwritten  -- table bytes past N1·N2 and store bytes past 24,576 are never written
+pub mod Examples  -- two examples of document 01 by computation

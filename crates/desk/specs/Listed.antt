@@ -1,4 +1,7 @@
--- Lists of calls: every list with an accepted opening has a last one, and after it the invariant holds call by call. Rests on Run, RefusedLaws, Stands, Next.
+-- Lists of calls, and the invariant of demand 3 after them. Rests on Run, RefusedLaws, Stands, Stepping, Next.
+--   last-opening, opening-T: a list with an accepted opening in it has a last one, whose case has a T
+--   Since, since: after a list with no accepted opening the invariant holds, and each accepted step answered what it says
+--   run-append: one list after another; call-keeps: a refused call, and one that neither opens nor steps, leaves the desk as it was
 use Prim.Native.Nat.{ℕ, zero, suc, _+_, _<_}
 use mathlib.Core.Path.{_≡_, refl, sym, ap, _∙_, subst}
 use mathlib.Core.Bool.{Bool, true, false, cond, _&&_}

@@ -1,4 +1,6 @@
 -- What each call answers and what it makes of the desk. Rests on Desk, Case, Refused, Moved, the theory and rounds' Table.
+--   perform: a call's answer and the desk after it (After), once it is examined (performed); asked: what a question is answered
+--   answer, answerTo, moved: the answer of an accepted call, of a question among them, and the desk after it
 use lib.ListN.{getD, take}
 use Rattle.theory.specs.Value.{valueAt, wholeValue}
 use Rattle.theory.specs.Simulation.{score, share}

@@ -1,4 +1,9 @@
--- What the code of the listing knows of an accepted case: its formulas' values on the models. Rests on Text, Writing and casefile's Caller.
+-- What the code of the listing knows of an accepted case. Rests on Text, Writing, Settling, Settled, Most and casefile's Caller.
+--   InCase: formula f and model m of a case; valuable, whole-is: they can be valued, and the whole value found is that of its content
+--   FormulaFits, FormulasFit: there is room for the line of a formula, and for all; formulas-fit, formulas-are, formulas-room: where it comes from
+--   Settleable, settleable: the models of the case can be settled, with room for the text; settled-part: what is then written
+--   all-written, lists, lists-refused: what is written is the text of the case
+--   same-content: a case has one content
 use Prim.Native.Nat.{ℕ, _+_, _≤_, _<_}
 use mathlib.Core.Path.{_≡_, sym, ap, _∙_}
 use mathlib.Core.Bool.{true}

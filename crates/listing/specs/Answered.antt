@@ -1,5 +1,7 @@
 -- The listing of a case is what a desk answers that was last opened with it and is settled. Rests on Text, and for the proof on Settled,
 -- Entries and desk's Demand3.
+--   Answers, textOfAnswers: what a settled desk answers, and the text of it
+--   answers-are: it has such answers; listing-answered: whatever they are, the listing is their text
 use Prim.Native.Nat.{ℕ, _+_, _*_, _<_}
 use mathlib.Core.Path.{_≡_, sym, ap, ap₂, _∙_}
 use mathlib.Core.Bool.{true}

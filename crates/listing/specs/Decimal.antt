@@ -1,4 +1,7 @@
--- The decimal digits of a number: how they go on, how many there are, and that they are read back as the number. Rests on Text.
+-- The decimal digits of a number. Rests on Text.
+--   readAfter, decimal-read: the number that digits are read as; the digits of n are read as n
+--   decimal-few, decimal-more: the digit of a number below 10; else the digits of its tenth, then the last
+--   decimal-one, decimal-two, decimal-three, decimal-four: numbers below 10, 100, 1,000 and 10,000 have at most so many
 use Prim.Native.Nat.{ℕ, zero, suc, _+_, _*_, _-_, _/_, _%_, _≤_, _<_}
 use mathlib.Core.Path.{_≡_, refl, ap, _∙_}
 use mathlib.Core.Bool.{Bool, true, false, cond}

@@ -1,4 +1,9 @@
 -- Bytes that are written one after the other at a place of a buffer. Rests on Text, Decimal, theory's Lists and Written.
+--   Wrote: bytes are written at a place; wrote-nothing, wrote-first, wrote-byte, wrote-copy, wrote-then: none, one, one more, a copy, more after them
+--   wrote-length, wrote-within, fits-first, fits-then: the lengths, and room for two writings
+--   each-none, each-more, each-cong, each-length: f 0, f 1, .. one after the other
+--   each-starts, each-room, each-turn, each-done, each-kept: a loop that writes these: begin, room for a turn, turn, end, the buffer's length
+--   few-room, few-written, more-room, more-written: a number's digits, below 10 and from 10 on
 use Prim.Native.Nat.{ℕ, zero, suc, _+_, _*_, _/_, _%_, _≤_, _<_}
 use mathlib.Core.Path.{_≡_, refl, sym, ap, ap₂, _∙_}
 use mathlib.Core.Bool.{Bool, true, false}

@@ -1,4 +1,6 @@
 -- The latticed mu-calculus as 000 and document 01 define it, with no count of applications. Rests on Lattice, Model, Formula, Value.
+--   Calculus: a function gives the values of formulas: of-bottom to of-EX for each code, of-mu and of-nu for fixpoints
+--   Present: what of-mu and of-nu ask of the variables in scope
 use Prim.Native.Nat.{ℕ, suc, _<_}
 use mathlib.Core.Path.{_≡_}
 use mathlib.Core.Bool.{true}

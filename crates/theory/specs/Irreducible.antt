@@ -1,6 +1,7 @@
--- Join-irreducible elements: the definition, which a reader of Sharp's theorem on any operator must believe (T-sharp itself does not speak of
--- them); at or below a join, such an element is at or below one of its members; an element is determined by those at or below it.
--- Rests on Lattice, Test, Descent (all-map).
+-- Join-irreducible elements. Rests on Lattice, TestLaws, Finite.
+--   JoinIrreducible: the definition, which a reader of Sharp's theorem on any operator must believe (T-sharp itself does not speak of them)
+--   below-join, below-bigJoin: at or below a join, such an element is at or below one of its members
+--   dense, determined: an element is determined by those at or below it
 use Prim.Native.Nat.{ℕ, zero, suc, _+_, _<_}
 use mathlib.Core.Path.{_≡_, sym, _∙_}
 use mathlib.Core.Logic.{_⊎_, inl, inr, _≢_, ⊎-elim}

@@ -1,28 +1,28 @@
 -- The mathematics of the desk. Definitions first, then the theorems on them. A theorem's number is its row in docs/PROOFS.md, unless 000 is named.
 -- ---- what a reader must believe
-pub mod Lattice
-pub mod Model
-pub mod Formula
-pub mod Value
-pub mod Calculus
-pub mod Simulation
-pub mod Test
-pub mod Lists
-pub mod Part
-pub mod Examples
+pub mod Lattice  -- finite distributive De Morgan lattices, → and ↔, finite meets and joins, chains
+pub mod Model  -- latticed Kripke structures
+pub mod Formula  -- formulas of the latticed mu-calculus, and the tests on them that the demands name
+pub mod Value  -- the value of a formula at a state and on a whole model
+pub mod Calculus  -- the latticed mu-calculus, with no count of applications
+pub mod Simulation  -- the simulation operator F, its rounds, T, score and share
+pub mod Test  -- tests over the numbers below a bound
+pub mod Lists  -- lists by their rule, and bytes written at a place of a list
+pub mod Part  -- the lattice and the model of a part's bytes
+pub mod Examples  -- the worked examples of document 01, as statements
 -- ---- theorems
-pub mod TestLaws
-pub mod Folds
-pub mod Loop
-pub mod Written
-pub mod Finite
-pub mod Descent
-pub mod Monotone
-pub mod Iterates
-pub mod Fixpoint
-pub mod Height
-pub mod Rounds
-pub mod Irreducible
-pub mod Preservation
-pub mod ExamplesHold
-pub mod Sharp
+pub mod TestLaws  -- laws of tests
+pub mod Folds  -- theorem 1: finite meets and joins, the De Morgan laws, → and ↔
+pub mod Loop  -- invariants of loops that count up from 0
+pub mod Written  -- laws of bytes written at a place of a buffer
+pub mod Finite  -- sums, searches and lists of finitely many things
+pub mod Descent  -- theorem 4, the general part: how often a descending sequence of tables changes
+pub mod Monotone  -- theorem 2, the first part: values are monotone
+pub mod Iterates  -- the iterates of a monotone map
+pub mod Fixpoint  -- theorem 2: the values of fixpoints, and that values are those of the calculus
+pub mod Height  -- theorem 4, the rest: there is a longest chain
+pub mod Rounds  -- theorems 3 to 5: rounds descend, T exists, and round T is the greatest simulation
+pub mod Irreducible  -- join-irreducible elements
+pub mod Preservation  -- theorems 6 and 7: what a table bounds
+pub mod ExamplesHold  -- theorem 8: the worked examples hold
+pub mod Sharp  -- T is at most N1·N2 + 1, whatever the longest chain

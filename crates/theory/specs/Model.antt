@@ -1,4 +1,6 @@
 -- Latticed Kripke structures. Rests on Lattice.
+--   Model: a structure: states, propositions, initial values, a value of each proposition at each state, transition values
+--   Valued: its values are elements of a lattice
 use Prim.Native.Nat.{ℕ, _<_}
 use Rattle.theory.specs.Lattice.{Ops, Element}
 
