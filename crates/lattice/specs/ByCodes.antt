@@ -15,14 +15,15 @@ use Rattle.theory.specs.Part.{LatticePart, meetOf, joinOf, element, opsOf}
 use Rattle.operations.specs.Table.{cell, atMostIn, meetIn, joinIn}
 use Rattle.codes.specs.Coded.{Coded, OrderKept}
 use Rattle.codes.specs.Laws.{and-or, Within, within-refl, within-trans, within-antisym, and-left, and-right, and-greatest, or-left, or-right, or-least}
-use Rattle.lattice.specs.declared.Rule.the-variants.{Met}
 use Rattle.lattice.specs.Reading.{distributive}
-use Rattle.lattice.specs.Bounds.{element-lt, element-id, element-same, all3-in, join-reversed, Antisymmetric}
-use Rattle.lattice.specs.DeMorgan.{reversed, MeetAt}
-use Rattle.lattice.specs.Accepted.{Formed, Ordered, Bounded}
-use Rattle.lattice.specs.Scan.{meet-only}
-use Rattle.lattice.specs.Tables.{tableEntry, sized, tableOps, filled-order, at-meet, at-join}
-use Rattle.lattice.specs.Pairs.{allPairs, met-pairs}
+use Rattle.order.specs.Bounds.{element-lt, element-id, element-same, all3-in, join-reversed, Antisymmetric}
+use Rattle.order.specs.DeMorgan.{reversed, MeetAt}
+use Rattle.order.specs.Ordered.{Formed, Ordered, Bounded}
+use Rattle.bounds.specs.Scan.{meet-only}
+use Rattle.lattice.specs.Tables.{tableEntry, filled-order, at-meet, at-join}
+use Rattle.rules.specs.Pairs.{sized, tableOps}
+use Rattle.rules.specs.Pairs.{met-pairs}
+use Rattle.guesses.specs.Tested.{Tested}
 
 -- a distributive lattice whose meets and joins are in the tables t
 pub record DistributiveIn (P : LatticePart) (t : List ℕ) : Type 0 where
@@ -35,33 +36,13 @@ pub record DistributiveIn (P : LatticePart) (t : List ℕ) : Type 0 where
 pub kept-filled : {f : ℕ → ℕ} {t u : List ℕ} → Filled f 4096 t → OrderKept t u → Filled f 4096 u
 kept-filled h k = record { at = λ i l. k .at i l ∙ h .at i l }
 
--- each place of a row of the meets and joins (64 to 127 and 128 to 191) holds what the place of its elements holds; of every row
-pub record RowRepeats (n row : ℕ) (t : List ℕ) : Type 0 where
-  pub at : (b : ℕ) → b < 64 → getD t (row * 64 + b) 0 ≡ getD t ((row / 64 * 64 + element n row) * 64 + element n b) 0
-
-pub record Repeats (n : ℕ) (t : List ℕ) : Type 0 where
-  pub at : (row : ℕ) → 64 ≤ row → row < 192 → RowRepeats n row t
-
--- in a row of an element, the columns of elements are those places themselves
-pub repeats-inside : (n row b : ℕ) (t : List ℕ) → n ≤ 64 → row % 64 < n → b < n → getD t (row * 64 + b) 0 ≡ getD t ((row / 64 * 64 + element n row) * 64 + element n b) 0
-repeats-inside n row b t s l m =
-    let r : element n row ≡ row % 64 = element-same n row (row % 64) (omega arith) ∙ element-id n (row % 64) s l in
-    let e : row * 64 + b ≡ (row / 64 * 64 + row % 64) * 64 + b = omega arith in
-    ap (λ (i : ℕ). getD t i 0) e ∙ sym (rw (r, element-id n b s m))
-
--- what passes the tests
-pub record Tested (P : LatticePart) (words t : List ℕ) : Type 0 where
-  pub coded : Coded t (sized (P .size)) words
-  pub met : allPairs Met (tableOps (P .size) t) ≡ true
-  pub repeats : Repeats (P .size) t
-
-module _ (P : LatticePart) {words t : List ℕ} (w : Formed P) (f : Filled (tableEntry (opsOf P)) 4096 t) (p : Tested P words t) where
-  abbrev c : Coded t (sized (P .size)) words
+module _ (P : LatticePart) {t : List ℕ} (w : Formed P) (f : Filled (tableEntry (opsOf P)) 4096 t) (p : Tested (P .size) t) where
+  abbrev c : Coded t (sized (P .size)) (p .words)
   c = p .coded
 
   -- the code of an element
   abbrev d : ℕ → ℕ
-  d a = getD words a 0
+  d a = getD (p .words) a 0
 
   id : (a : ℕ) → a < P .size → element (P .size) a ≡ a
   id a l = element-id (P .size) a (w .most) l

@@ -11,7 +11,8 @@ use Rattle.refusal.specs.declared.Refusal.{Refusal}
 use Rattle.lattice.specs.declared.LatticeCheck.the-variants.{Refused, Accepted}
 use Rattle.lattice.specs.Reading.{LatticeReading, refused, accepted, latticeOf, latticeReading}
 use Rattle.lattice.specs.Answer.{boundsOf, Answered}
-use Rattle.lattice.specs.Accepted.{LatticeSound, accepted-sound, lawsOf}
+use Rattle.order.specs.Sound.{LatticeSound, lawsOf}
+use Rattle.lattice.specs.Accepted.{accepted-sound}
 
 -- after the answer that the part b is accepted with the numbers l
 pub record AcceptedPart (b : List ℕ) (l : Lattice) (t : List ℕ) : Type 0 where

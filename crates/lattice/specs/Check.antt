@@ -14,17 +14,20 @@ use Rattle.theory.specs.TestLaws.{all-cong}
 use Rattle.operations.specs.Table.{atMostIn, meetIn, joinIn, complementIn}
 use Rattle.operations.specs.declared.Lattice.{Lattice}
 use Rattle.refusal.specs.declared.Refusal.{Refusal}
-use Rattle.lattice.specs.declared.Rule.the-variants.{Order, Distributive, Complement}
+use Rattle.rules.specs.declared.Rule.the-variants.{Order, Distributive, Complement}
 use Rattle.lattice.specs.declared.LatticeCheck.{LatticeCheck}
 use Rattle.lattice.specs.declared.LatticeCheck.the-variants.{Refused, Accepted}
-use Rattle.lattice.specs.Reading.{LatticeReading, accepted, all2, reflexive, antisymmetric, transitive, partialOrder, distributive, complementRules, require, latticeForm, latticeOf}
+use Rattle.lattice.specs.Reading.{LatticeReading, accepted, reflexive, antisymmetric, transitive, partialOrder, distributive, complementRules, require, latticeForm, latticeOf}
 use Rattle.lattice.specs.Answer.{boundsOf, Answered}
-use Rattle.lattice.specs.Bounds.{element-id, boundUpTo}
-use Rattle.lattice.specs.Accepted.{Formed, Ordered, Bounded, formed, top-found, bot-found}
-use Rattle.lattice.specs.Scan.{joinOrMeet}
-use Rattle.lattice.specs.Distributive.{distributes, distributePair, distribute-pairs}
-use Rattle.lattice.specs.Tables.{tableEntry, tableOps, filled-order, filled-meet, filled-join, filled-neg, filled-ops}
-use Rattle.lattice.specs.Pairs.{allPairs, order-pairs, distributive-pairs, complement-pairs}
+use Rattle.order.specs.Tests.{all2}
+use Rattle.order.specs.Bounds.{element-id, boundUpTo}
+use Rattle.order.specs.Ordered.{Formed, Ordered, Bounded, top-found, bot-found}
+use Rattle.lattice.specs.Accepted.{formed}
+use Rattle.bounds.specs.Scan.{joinOrMeet}
+use Rattle.rules.specs.Distributive.{distributes, distributePair, distribute-pairs}
+use Rattle.lattice.specs.Tables.{tableEntry, filled-order, filled-meet, filled-join, filled-neg, filled-ops}
+use Rattle.rules.specs.Pairs.{tableOps}
+use Rattle.rules.specs.Pairs.{allPairs, order-pairs, distributive-pairs, complement-pairs}
 
 -- ---- tests of functions that agree below n
 

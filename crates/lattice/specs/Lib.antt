@@ -5,17 +5,13 @@ pub mod Reading
 pub mod Answer
 pub mod DeMorgan
 -- ---- theorems
-pub mod Bounds
 pub mod Accepted
-pub mod Agree
-pub mod Form
-pub mod PanelLattice
 pub mod Caller
+pub mod PanelLattice
 pub mod Examples
 -- ---- for the code
-pub mod Scan
-pub mod Distributive
+pub mod Form
 pub mod Tables
-pub mod Pairs
+pub mod Filling
 pub mod ByCodes
 pub mod Check

@@ -17,11 +17,12 @@ use Rattle.theory.specs.Part.{opsOf, explicitPart}
 use Rattle.theory.specs.TestLaws.{and-l, and-r, and-in, all-in}
 use Rattle.lattice.specs.Panel.{panelOrder, panelPart}
 use Rattle.lattice.specs.Reading.{isPanel, latticeOf, latticeForm, accepted, latticeReading}
-use Rattle.lattice.specs.Bounds.{one-test}
+use Rattle.order.specs.Bounds.{one-test}
 use Rattle.theory.specs.Height.{distinct-le}
-use Rattle.lattice.specs.Accepted.{lattice-is-accepted, ops-lattice}
+use Rattle.lattice.specs.Accepted.{lattice-is-accepted}
+use Rattle.order.specs.Exactly.{ops-lattice}
 use Rattle.lattice.specs.Form.{part-explicit, form-last}
-use Rattle.lattice.specs.Agree.{ops-same}
+use Rattle.order.specs.Agree.{ops-same}
 
 -- ---- the operations, digit by digit. Any number is read by its remainder by 27
 

@@ -4,7 +4,7 @@ use native.Mathlib.Nat.{le-refl}
 use borrow.Author.Tests.{not-true, not-false}
 use borrow.Author.Needs.{needs}
 use Rattle.lattice.specs.Reading.{latticeReading, partReading}
-use Rattle.lattice.specs.Accepted.{ordered-out, bounded-out}
+use Rattle.order.specs.Ordered.{ordered-out, bounded-out}
 use Rattle.lattice.specs.Check.{tables-hold, order-same, distributive-same, answered-here, answered-next}
 use Rattle.lattice.proofs.check_by_search.Statement.{statement}
 use Rattle.lattice.proofs.check_by_search.Tie as tie

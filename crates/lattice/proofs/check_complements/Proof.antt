@@ -4,7 +4,7 @@ use native.Mathlib.Nat.{le-refl}
 use native.Mathlib.Omega.{arith}
 use borrow.Author.Tests.{not-true, not-false}
 use Rattle.lattice.specs.Reading.{latticeOf, partReading}
-use Rattle.lattice.specs.Accepted.{ordered-in, bounded-in}
+use Rattle.order.specs.Ordered.{ordered-in, bounded-in}
 use Rattle.lattice.specs.Check.{tables-hold, complement-same, top-same, bot-same, answered-here, answered-next, answered-accepted}
 use borrow.Author.Needs.{needs}
 use Rattle.lattice.proofs.check_complements.Statement.{statement}

@@ -5,9 +5,11 @@ use borrow.Author.Needs.{needs}
 use Prim.Native.Nat.{_≤_, _-_}
 use lib.ListN.{length, length-set}
 use Rattle.theory.specs.TestLaws.{false-true}
-use Rattle.lattice.specs.Tables.{BoundsUpTo, bounds-none, bounds-more, bounds-fail, bounds-done, filled-reached}
+use Rattle.lattice.specs.Filling.{BoundsUpTo, bounds-none, bounds-more, bounds-fail, bounds-done}
+use Rattle.lattice.specs.Tables.{filled-reached}
 use Rattle.lattice.specs.Reading.{latticeOf}
-use Rattle.lattice.specs.Accepted.{formed, ordered-out}
+use Rattle.lattice.specs.Accepted.{formed}
+use Rattle.order.specs.Ordered.{ordered-out}
 use Rattle.lattice.proofs.fill_bounds.Statement.{statement}
 use Rattle.lattice.proofs.fill_bounds.Tie as tie
 

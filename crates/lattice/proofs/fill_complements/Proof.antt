@@ -10,7 +10,7 @@ use Rattle.theory.specs.Part.{opsOf}
 use Rattle.lattice.specs.Reading.{latticeOf}
 use Rattle.lattice.specs.Tables.{tableEntry, filled-reached, complement-fill}
 use Rattle.lattice.specs.Accepted.{formed}
-use Rattle.lattice.specs.Bounds.{element-lt}
+use Rattle.order.specs.Bounds.{element-lt}
 use Rattle.lattice.proofs.fill_complements.Statement.{statement}
 use Rattle.lattice.proofs.fill_complements.Tie as tie
 

@@ -12,7 +12,7 @@ use Rattle.lattice.specs.Reading.{latticeOf}
 use Rattle.lattice.specs.Form.{panelEntry}
 use Rattle.lattice.specs.Tables.{tableEntry, filled-reached, order-fill}
 use Rattle.lattice.specs.Accepted.{formed}
-use Rattle.lattice.specs.Bounds.{element-lt}
+use Rattle.order.specs.Bounds.{element-lt}
 use Rattle.lattice.proofs.fill_order.Statement.{statement}
 use Rattle.lattice.proofs.fill_order.Tie as tie
 

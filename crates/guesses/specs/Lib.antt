@@ -1,0 +1,2 @@
+-- Guessed meets and joins.
+pub mod Tested
