@@ -4,7 +4,7 @@
 --   fold-cong, count-cong: equal values, equal folds and counts
 --   Counted: c of the first n pass; counted-none, counted-more, counted-all
 --   Passed: the first n pass; passed-none, passed-more, passed-all; where one fails passed-stop
---   Filled (Lists): the first q entries of a list are filled; filled-none, filled-more, filled-all
+--   Filled (Lists): the first q entries of a list are filled; filled-none, filled-more, filled-all; fewer of them, by a rule that says the same filled-as
 --   tab-at, tab-length, tab-more: a list by its rule
 --   bigMeet-none, bigMeet-more and so on: the same of the definitions themselves
 --   reached: a counter that is neither below nor above its end
@@ -184,3 +184,7 @@ filled-more {f} {q} {v} {xs} h l e = record {
 pub filled-all : {f : ℕ → ℕ} {n q : ℕ} {xs : List ℕ} → Filled f q xs → length xs ≡ n → n ≤ q → xs ≡ tab f n 0
 filled-all {f} {n} {q} {xs} h l b =
     ext-getD 0 xs (tab f n 0) (l ∙ sym (tab-length f n 0)) (λ k c. h .at k (omega arith) ∙ sym (tab-at f n k (omega arith)))
+
+-- fewer entries, by a rule that says the same of them
+pub filled-as : {f g : ℕ → ℕ} {k n : ℕ} {xs : List ℕ} → Filled f k xs → n ≤ k → ((i : ℕ) → i < n → f i ≡ g i) → Filled g n xs
+filled-as h l e = record { at = λ i b. h .at i (omega arith) ∙ e i b }

@@ -2,17 +2,19 @@
 --   below-suc: the numbers below suc n are those below n, and n; decide: a test is passed or not
 --   and-l, and-r, and-in, and-false, all-four, or-l, or-r, cond-true, cond-false, ⇒-elim, ⇒-in: of the truth values
 --   bool-same: tests that imply each other are the same; not-passed, not-failed, false-true: a test that cannot be passed, or fail
---   all-at, all-in, all-cong, all-none, all-more, all-fails, all-done: of allBelow
+--   all-at, all-in, all-cong, all-none, all-more, all-fails, all-done: of allBelow; below-at: a byte that passed the test below a limit
 --   FirstAt, first-is, first-unique: of firstBelow
-use Prim.Native.Nat.{ℕ, zero, suc, _+_, _≤_, _<_}
+use Prim.Native.Nat.{ℕ, zero, suc, _+_, _-_, _≤_, _<_}
 use mathlib.Core.Path.{_≡_, refl, sym, ap₂, subst}
 use mathlib.Core.Bool.{Bool, true, false, cond, _&&_, _||_}
 use mathlib.Core.Logic.{_⊎_, inl, inr, ⊎-elim}
+use mathlib.Core.List.{List}
 use native.Mathlib.Nat.{le-refl, eq-or-lt-of-le, le-of-suc-le-suc, not-suc-le-zero}
 use native.Mathlib.Numerals.{add-one}
 use native.Mathlib.Omega.{arith}
 use borrow.Author.Tests.{ltb-true, ltb-false}
 use lib.Dec.{ltb}
+use lib.ListN.{getD}
 use Rattle.theory.specs.Test.{allBelow, _⇒_, firstBelow}
 
 -- the numbers below suc n are those below n, and n
@@ -130,6 +132,12 @@ pub all-done : (n i : ℕ) (f : ℕ → Bool) → i ≤ n → n ≤ i → allBel
 all-done n i f a b e = let q : i ≡ n = omega arith in rw q at e
 
 -- ---- firstBelow
+
+-- of `count` bytes from `from` on, each of which is below n
+pub below-at : (s : List ℕ) (from count n : ℕ) → allBelow count (λ i. ltb (getD s (from + i) 0) n) ≡ true → (i : ℕ) → from ≤ i → i < from + count → getD s i 0 < n
+below-at s from count n e i l m =
+    let z : from + (i - from) ≡ i = omega arith in
+    rw z at (ltb-true (getD s (from + (i - from)) 0) n (all-at count (λ j. ltb (getD s (from + j) 0) n) e (i - from) (omega arith)))
 
 -- what the least number is
 pub record FirstAt (n : ℕ) (f : ℕ → Bool) (r : ℕ) : Type 0 where

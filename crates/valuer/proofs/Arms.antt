@@ -1,5 +1,5 @@
 -- The answer at a place, by the code there: one law for each arm of the valuer, and that its parts stand where it looks for them.
--- Rests on Node, Code, Places.
+-- Rests on Node, maps' Code, Places.
 use Prim.Native.Nat.{ℕ, _+_, _*_, _-_, _≤_, _<_}
 use mathlib.Core.Path.{_≡_, refl, sym, ap, ap₂, _∙_, subst}
 use mathlib.Core.Logic.{_⊎_, inl, inr, ⊎-elim}
@@ -14,15 +14,15 @@ use Rattle.theory.specs.Folds.{bigMeet-cong}
 use Rattle.theory.specs.Formula.{Formula, bottom, top, boundBy, overProps}
 use Rattle.theory.specs.Fixpoint.{allNext-cong, someNext-cong}
 use Rattle.theory.specs.Lists.{Filled}
+use Rattle.theory.specs.Loop.{filled-as}
 use Rattle.theory.specs.Part.{modelOf}
 use Rattle.theory.specs.Value.{eval, valueAt, wholeValue}
 use Rattle.operations.specs.Table.{opsIn, meetIn, joinIn}
 use Rattle.operations.specs.declared.Lattice.{Lattice}
 use Rattle.formula.specs.Bytes.{bytesOf}
 use Rattle.valuer.specs.Values.{Reads, fromInitial, Values, WholeValue}
-use Rattle.valuer.specs.Code.{literal, bound, nextOf, startOf}
-use Rattle.valuer.specs.Node.{Spelled, Here, SlotsHold, slotOf, Answer, Node, Iterated}
-use Rattle.valuer.proofs.Loops.{filled-as}
+use Rattle.maps.specs.Code.{literal, bound, nextOf, startOf, slotOf, Literals, Combined, NextMap}
+use Rattle.valuer.specs.Node.{Spelled, Here, SlotsHold, Answer, Node, Iterated}
 use Rattle.valuer.proofs.Places.{build, Parts, Numbered, inside, code-small, by-code, of-prop, of-negated, of-var, of-or, of-and, of-AX, of-EX, of-mu, of-nu, read-spelled}
 
 -- the same value at all 64 places
@@ -121,7 +121,7 @@ module _ {t : List ℕ} {l : Lattice} {m f : List ℕ} {at K : ℕ} {near mid fa
   top-arm q b = by-one 1 q (λ d e p g h s w. record { next = refl; values = everywhere _ _ _ b (λ i. refl) })
 
   pub literal-arm : {v : List ℕ} → (getD f at 0 ≡ 2) ⊎ (getD f at 0 ≡ 3)
-      → Filled (λ q. literal t (getD f at 0) (modelOf m .label q (getD f (at + 1) 0))) (getD m 0 0) v → Node t l m f at K near mid far v (at + 1 + 1)
+      → Literals t m (getD f at 0) (getD f (at + 1) 0) v → Node t l m f at K near mid far v (at + 1 + 1)
   unfolding bytesOf eval literal
   literal-arm c u =
       ⊎-elim
@@ -136,7 +136,7 @@ module _ {t : List ℕ} {l : Lattice} {m f : List ℕ} {at K : ℕ} {near mid fa
   })
 
   pub pair-arm : {x y v : List ℕ} {i j n : ℕ} → (getD f at 0 ≡ 5) ⊎ (getD f at 0 ≡ 6) → Node t l m f (at + 1) K near mid far x i → Node t l m f i K near mid far y j
-      → getD m 0 0 ≤ n → Filled (λ q. bound t (eqb (getD f at 0) 5) (getD x q 0) (getD y q 0)) n v → Node t l m f at K near mid far v j
+      → getD m 0 0 ≤ n → Combined t (getD f at 0) x y n v → Node t l m f at K near mid far v j
   unfolding bytesOf eval bound
   pair-arm {x} {y} {i = i} {j} c nx ny b u =
       ⊎-elim
@@ -162,7 +162,7 @@ module _ {t : List ℕ} {l : Lattice} {m f : List ℕ} {at K : ℕ} {near mid fa
       right d e g h p w = ny .is d h e (subst (λ (k : ℕ). Spelled f k d (getD m 1 0) h) (sym (left d e g h p w .next)) (p .second)) w
 
   pub next-arm : {x v : List ℕ} {i : ℕ} → (getD f at 0 ≡ 7) ⊎ (getD f at 0 ≡ 8) → Node t l m f (at + 1) K near mid far x i
-      → Filled (nextOf (opsIn t l) (modelOf m) (getD f at 0) (λ q. getD x q 0)) (getD m 0 0) v → Node t l m f at K near mid far v i
+      → NextMap t l m (getD f at 0) x v → Node t l m f at K near mid far v i
   unfolding bytesOf eval nextOf
   next-arm c nx u =
       ⊎-elim

@@ -1,5 +1,4 @@
 -- Laws that the proofs of `valuer` share.
-pub mod Loops
 pub mod Places
 pub mod Arms
 pub mod Rounds

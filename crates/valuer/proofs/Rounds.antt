@@ -16,7 +16,8 @@ use Rattle.theory.specs.Value.{iterate, bind, eval}
 use Rattle.operations.specs.Table.{opsIn}
 use Rattle.operations.specs.declared.Lattice.{Lattice}
 use Rattle.theory.specs.Fixpoint.{body-cong, iterate-stays}
-use Rattle.valuer.specs.Node.{Spelled, SlotsHold, slotOf, rounds, Answer, Node, Iterated}
+use Rattle.maps.specs.Code.{slotOf}
+use Rattle.valuer.specs.Node.{Spelled, SlotsHold, rounds, Answer, Node, Iterated}
 
 -- ---- a map under one more binder
 

@@ -2,8 +2,6 @@
 -- ---- what a reader must believe
 pub mod Values
 -- ---- what the functions inside answer
-pub mod Code
-pub mod Words
 pub mod Node
 -- ---- theorems
 pub mod Meaning

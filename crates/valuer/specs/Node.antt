@@ -1,10 +1,9 @@
 -- What stands at a place of a formula part, and what the valuer of that place answers. Rests on theory's Value, operations' Table,
--- formula's Bytes.
+-- formula's Bytes, maps' Code.
 use Prim.Native.Nat.{ℕ, suc, _+_, _≤_, _<_}
 use mathlib.Core.Path.{_≡_}
-use mathlib.Core.Bool.{true, cond}
+use mathlib.Core.Bool.{true}
 use mathlib.Core.List.{List, _++_}
-use lib.Dec.{eqb}
 use lib.ListN.{length, getD, drop}
 use Rattle.theory.specs.Lattice.{Ops}
 use Rattle.theory.specs.Model.{Model}
@@ -15,6 +14,7 @@ use Rattle.theory.specs.Part.{modelOf}
 use Rattle.operations.specs.Table.{opsIn}
 use Rattle.operations.specs.declared.Lattice.{Lattice}
 use Rattle.formula.specs.Bytes.{bytesOf}
+use Rattle.maps.specs.Code.{slotOf}
 
 -- At place `at` of f stands φ, under d binders and over the propositions below k: 'At most 3 binders are nested. Every variable is bound.'
 pub record Spelled (f : List ℕ) (at d k : ℕ) (φ : Formula) : Type 0 where
@@ -30,11 +30,8 @@ pub record Here (f : List ℕ) (at k : ℕ) : Type 0 where
   pub formula : Formula
   pub spelled : Spelled f at depth k formula
 
--- The environment is three lists, the nearest binder's map first: variable v has the map of the binder v binders further out.
-unfoldable pub slotOf : List ℕ → List ℕ → List ℕ → ℕ → List ℕ
-slotOf near mid far v = cond (eqb v 0) near (cond (eqb v 1) mid far)
-
--- they hold the environment e at the variables below d and at the first n states
+-- The environment is three lists, the nearest binder's map first (maps' slotOf).
+-- They hold the environment e at the variables below d and at the first n states
 pub record SlotsHold (n : ℕ) (near mid far : List ℕ) (d : ℕ) (e : ℕ → ℕ → ℕ) : Type 0 where
   pub at : (v : ℕ) → v < d → Filled (e v) n (slotOf near mid far v)
 

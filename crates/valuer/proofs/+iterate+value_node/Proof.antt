@@ -15,13 +15,13 @@ use Rattle.valuer.proofs.value_node.Reads as value-node
 use Rattle.valuer.proofs.value_node.Kinds as value-node-kinds
 use Rattle.valuer.proofs.+iterate+value_node.Lts-value_node as value-node-lts
 use Rattle.model.proofs.states.Reads as states-reads
-use Rattle.valuer.proofs.combined.Reads as combined-reads
-use Rattle.valuer.proofs.constant.Reads as constant-reads
-use Rattle.valuer.proofs.literals.Reads as literals-reads
-use Rattle.valuer.proofs.next_values.Reads as next-values-reads
-use Rattle.valuer.proofs.same.Reads as same-reads
-use Rattle.valuer.proofs.start_of.Reads as start-of-reads
-use Rattle.valuer.proofs.variable.Reads as variable-reads
+use Rattle.maps.proofs.combined.Reads as combined-reads
+use Rattle.maps.proofs.constant.Reads as constant-reads
+use Rattle.maps.proofs.literals.Reads as literals-reads
+use Rattle.nexts.proofs.next_values.Reads as next-values-reads
+use Rattle.maps.proofs.same.Reads as same-reads
+use Rattle.maps.proofs.start_of.Reads as start-of-reads
+use Rattle.maps.proofs.variable.Reads as variable-reads
 use Rattle.valuer.proofs.+iterate+value_node.{statement}
 use Rattle.valuer.proofs.+iterate+value_node.Tie.{close}
 

@@ -1,0 +1,4 @@
+-- Definitions of `maps`.
+pub mod Code
+-- ---- theorems
+pub mod Sums

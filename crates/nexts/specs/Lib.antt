@@ -1,0 +1,2 @@
+-- Definitions of `nexts`.
+pub mod Words
