@@ -13,8 +13,8 @@ use Rattle.desk.specs.Desk.{Desk, Call, Question, Reply}
 use Rattle.desk.specs.Case.{tableSize}
 use Rattle.desk.specs.Refused.{examined}
 use Rattle.desk.specs.Perform.{perform}
-use Rattle.calls.specs.declared.Standing.{Standing}
-use Rattle.calls.specs.Read.{deskOf}
+use Rattle.examination.specs.declared.Standing.{Standing}
+use Rattle.examination.specs.Read.{deskOf}
 use Rattle.exports.specs.declared.Answer.{Answer}
 use Rattle.exports.specs.declared.Shown.{Shown}
 

@@ -13,7 +13,7 @@ ghost use lib.ListN.{length};
 ghost use Rattle.theory.specs.Lists.{written};
 ghost use Rattle.desk.specs.Desk.{Call, Question};
 ghost use Rattle.desk.specs.Refused.{numberReply};
-ghost use Rattle.calls.specs.Read.{deskOf};
+ghost use Rattle.examination.specs.Read.{deskOf};
 ghost use Rattle.calls.specs.Answer.{stepReply, openReply, elementReply, shareReply, judgeReply};
 ghost use Rattle.listing.specs.Text.{listingText};
 ghost use Rattle.exports.specs.Numbers.{given, numbers, Tells, TellsAsked, Names};

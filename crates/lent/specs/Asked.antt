@@ -2,8 +2,8 @@
 use Prim.Native.Nat.{ℕ}
 use mathlib.Core.Path.{_≡_}
 use mathlib.Core.List.{List}
-use Rattle.calls.specs.declared.Standing.{Standing}
-use Rattle.calls.specs.Read.{deskOf}
+use Rattle.examination.specs.declared.Standing.{Standing}
+use Rattle.examination.specs.Read.{deskOf}
 use Rattle.calls.specs.Answer.{Does}
 use Rattle.desk.specs.Desk.{Call, Question, Reply}
 

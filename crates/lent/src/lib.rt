@@ -8,7 +8,7 @@ use calls::StepAnswer;
 use model::State;
 use operations::Element;
 ghost use Rattle.desk.specs.Desk.{Call, Question, Reply};
-ghost use Rattle.calls.specs.Read.{deskOf};
+ghost use Rattle.examination.specs.Read.{deskOf};
 ghost use Rattle.calls.specs.Answer.{Does, stepReply, openReply, elementReply, shareReply, judgeReply};
 ghost use Rattle.lent.specs.Asked.{AsksOnly};
 

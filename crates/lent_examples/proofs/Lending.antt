@@ -16,9 +16,9 @@ use denote.Laws.{Is, shows}
 use denote.Steps.{only, owned, facts}
 use denote.Struct.Steps.{spelt}
 use denote.Struct.Laws as LL
-use Rattle.calls.specs.declared.Standing.{Standing}
-use Rattle.calls.proofs.Standing as T
-use Rattle.calls.proofs.Standing.Laws as T′
+use Rattle.examination.specs.declared.Standing.{Standing}
+use Rattle.examination.proofs.Standing as T
+use Rattle.examination.proofs.Standing.Laws as T′
 
 abbrev pub St : RattleType
 St = T.the-row

@@ -42,18 +42,18 @@ use denote.Triple.Walked.{says, Stays, stay-none-slice, stay-ref, walkOf, goes-n
 use denote.Exit.{yes}
 use denote.Signature.{Slot, plain}
 use Rattle.desk.specs.Desk.{Call, Question}
-use Rattle.calls.specs.Read.{deskOf}
+use Rattle.examination.specs.Read.{deskOf}
 use Rattle.calls.specs.Answer.{Does, judgeReply}
-use Rattle.calls.specs.declared.Standing.{Standing}
-use Rattle.calls.proofs.Standing as T
-use Rattle.calls.proofs.Standing.Laws as T′
-use Rattle.calls.specs.declared.JudgeAnswer.{JudgeAnswer}
-use Rattle.calls.proofs.JudgeAnswer as R-type
-use Rattle.calls.proofs.JudgeAnswer.Laws as R-laws
-use Rattle.calls.proofs.judge as core
-use Rattle.calls.proofs.judge.Symbol as core-def
-use Rattle.calls.proofs.judge.Symbol.{name as #core}
-use Rattle.calls.proofs.judge.Met as core-thm
+use Rattle.examination.specs.declared.Standing.{Standing}
+use Rattle.examination.proofs.Standing as T
+use Rattle.examination.proofs.Standing.Laws as T′
+use Rattle.asking.specs.declared.JudgeAnswer.{JudgeAnswer}
+use Rattle.asking.proofs.JudgeAnswer as R-type
+use Rattle.asking.proofs.JudgeAnswer.Laws as R-laws
+use Rattle.asking.proofs.judge as core
+use Rattle.asking.proofs.judge.Symbol as core-def
+use Rattle.asking.proofs.judge.Symbol.{name as #core}
+use Rattle.asking.proofs.judge.Met as core-thm
 use Rattle.lent.proofs.judge.Key.{name as #here}
 use Rattle.lent.proofs.judge as here
 use Rattle.lent.proofs.judge.Statement as stated

@@ -44,21 +44,21 @@ use denote.Triple.Walked.{says, Stays, stay-none-slice, stay-ref, gave-slice, wa
 use denote.Exit.{yes}
 use denote.Signature.{Slot, plain}
 use Rattle.desk.specs.Desk.{Call}
-use Rattle.calls.specs.Read.{deskOf}
+use Rattle.examination.specs.Read.{deskOf}
 use Rattle.calls.specs.Answer.{Does, openReply}
-use Rattle.calls.specs.declared.Standing.{Standing}
-use Rattle.calls.specs.declared.Opened.{Opened}
-use Rattle.calls.proofs.Standing as T
-use Rattle.calls.proofs.Standing.Laws as T′
-use Rattle.calls.proofs.Opened as U
-use Rattle.calls.proofs.Opened.Laws as U′
-use Rattle.calls.specs.declared.OpenAnswer.{OpenAnswer}
-use Rattle.calls.proofs.OpenAnswer as A-type
-use Rattle.calls.proofs.OpenAnswer.Laws as A-laws
-use Rattle.calls.proofs.«open» as core
-use Rattle.calls.proofs.«open».Symbol as core-def
-use Rattle.calls.proofs.«open».Symbol.{name as #core}
-use Rattle.calls.proofs.«open».Met as core-thm
+use Rattle.examination.specs.declared.Standing.{Standing}
+use Rattle.moving.specs.declared.Opened.{Opened}
+use Rattle.examination.proofs.Standing as T
+use Rattle.examination.proofs.Standing.Laws as T′
+use Rattle.moving.proofs.Opened as U
+use Rattle.moving.proofs.Opened.Laws as U′
+use Rattle.moving.specs.declared.OpenAnswer.{OpenAnswer}
+use Rattle.moving.proofs.OpenAnswer as A-type
+use Rattle.moving.proofs.OpenAnswer.Laws as A-laws
+use Rattle.moving.proofs.«open» as core
+use Rattle.moving.proofs.«open».Symbol as core-def
+use Rattle.moving.proofs.«open».Symbol.{name as #core}
+use Rattle.moving.proofs.«open».Met as core-thm
 use Rattle.lent.proofs.«open».Key.{name as #here}
 use Rattle.lent.proofs.«open» as here
 use Rattle.lent.proofs.«open».Statement as stated

@@ -42,18 +42,18 @@ use denote.Triple.Walked.{says, Stays, stay-none-slice, stay-ref, walkOf, goes-n
 use denote.Exit.{yes}
 use denote.Signature.{Slot, plain}
 use Rattle.desk.specs.Desk.{Call, Question}
-use Rattle.calls.specs.Read.{deskOf}
+use Rattle.examination.specs.Read.{deskOf}
 use Rattle.calls.specs.Answer.{Does, elementReply}
-use Rattle.calls.specs.declared.Standing.{Standing}
-use Rattle.calls.proofs.Standing as T
-use Rattle.calls.proofs.Standing.Laws as T′
-use Rattle.calls.specs.declared.ElementAnswer.{ElementAnswer}
-use Rattle.calls.proofs.ElementAnswer as R-type
-use Rattle.calls.proofs.ElementAnswer.Laws as R-laws
-use Rattle.calls.proofs.score as core
-use Rattle.calls.proofs.score.Symbol as core-def
-use Rattle.calls.proofs.score.Symbol.{name as #core}
-use Rattle.calls.proofs.score.Met as core-thm
+use Rattle.examination.specs.declared.Standing.{Standing}
+use Rattle.examination.proofs.Standing as T
+use Rattle.examination.proofs.Standing.Laws as T′
+use Rattle.asking.specs.declared.ElementAnswer.{ElementAnswer}
+use Rattle.asking.proofs.ElementAnswer as R-type
+use Rattle.asking.proofs.ElementAnswer.Laws as R-laws
+use Rattle.asking.proofs.score as core
+use Rattle.asking.proofs.score.Symbol as core-def
+use Rattle.asking.proofs.score.Symbol.{name as #core}
+use Rattle.asking.proofs.score.Met as core-thm
 use Rattle.lent.proofs.score.Key.{name as #here}
 use Rattle.lent.proofs.score as here
 use Rattle.lent.proofs.score.Statement as stated

@@ -42,21 +42,21 @@ use denote.Triple.Walked.{says, Stays, stay-none, stay-none-slice, stay-ref, wal
 use denote.Exit.{yes}
 use denote.Signature.{Slot, plain}
 use Rattle.desk.specs.Desk.{Call, Question}
-use Rattle.calls.specs.Read.{deskOf}
+use Rattle.examination.specs.Read.{deskOf}
 use Rattle.calls.specs.Answer.{Does, shareReply}
-use Rattle.calls.specs.declared.Standing.{Standing}
-use Rattle.calls.proofs.Standing as T
-use Rattle.calls.proofs.Standing.Laws as T′
-use Rattle.calls.specs.declared.ShareAnswer.{ShareAnswer}
-use Rattle.calls.proofs.ShareAnswer as R-type
-use Rattle.calls.proofs.ShareAnswer.Laws as R-laws
+use Rattle.examination.specs.declared.Standing.{Standing}
+use Rattle.examination.proofs.Standing as T
+use Rattle.examination.proofs.Standing.Laws as T′
+use Rattle.asking.specs.declared.ShareAnswer.{ShareAnswer}
+use Rattle.asking.proofs.ShareAnswer as R-type
+use Rattle.asking.proofs.ShareAnswer.Laws as R-laws
 use Rattle.operations.specs.declared.Element.{Element}
 use Rattle.operations.proofs.Element as Element-type
 use Rattle.operations.proofs.Element.Laws as Element-laws
-use Rattle.calls.proofs.share as core
-use Rattle.calls.proofs.share.Symbol as core-def
-use Rattle.calls.proofs.share.Symbol.{name as #core}
-use Rattle.calls.proofs.share.Met as core-thm
+use Rattle.asking.proofs.share as core
+use Rattle.asking.proofs.share.Symbol as core-def
+use Rattle.asking.proofs.share.Symbol.{name as #core}
+use Rattle.asking.proofs.share.Met as core-thm
 use Rattle.lent.proofs.share.Key.{name as #here}
 use Rattle.lent.proofs.share as here
 use Rattle.lent.proofs.share.Statement as stated

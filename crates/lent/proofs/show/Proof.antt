@@ -40,15 +40,15 @@ use denote.Triple.Walked.{says, Stays, stay-none-slice, stay-ref, walkOf, goes-n
 use denote.Exit.{yes}
 use denote.Signature.{Slot, plain}
 use Rattle.desk.specs.Desk.{Call, Question, Reply}
-use Rattle.calls.specs.Read.{deskOf}
+use Rattle.examination.specs.Read.{deskOf}
 use Rattle.calls.specs.Answer.{Does}
-use Rattle.calls.specs.declared.Standing.{Standing}
-use Rattle.calls.proofs.Standing as T
-use Rattle.calls.proofs.Standing.Laws as T′
-use Rattle.calls.proofs.show as core
-use Rattle.calls.proofs.show.Symbol as core-def
-use Rattle.calls.proofs.show.Symbol.{name as #core}
-use Rattle.calls.proofs.show.Met as core-thm
+use Rattle.examination.specs.declared.Standing.{Standing}
+use Rattle.examination.proofs.Standing as T
+use Rattle.examination.proofs.Standing.Laws as T′
+use Rattle.asking.proofs.show as core
+use Rattle.asking.proofs.show.Symbol as core-def
+use Rattle.asking.proofs.show.Symbol.{name as #core}
+use Rattle.asking.proofs.show.Met as core-thm
 use Rattle.lent.proofs.show.Key.{name as #here}
 use Rattle.lent.proofs.show as here
 use Rattle.lent.proofs.show.Statement as stated

@@ -44,21 +44,21 @@ use denote.Triple.Walked.{says, Stays, stay-none-slice, stay-ref, gave-slice, wa
 use denote.Exit.{yes}
 use denote.Signature.{Slot, plain}
 use Rattle.desk.specs.Desk.{Call}
-use Rattle.calls.specs.Read.{deskOf}
+use Rattle.examination.specs.Read.{deskOf}
 use Rattle.calls.specs.Answer.{Does, stepReply}
-use Rattle.calls.specs.declared.Standing.{Standing}
-use Rattle.calls.specs.declared.Stepped.{Stepped}
-use Rattle.calls.proofs.Standing as T
-use Rattle.calls.proofs.Standing.Laws as T′
-use Rattle.calls.proofs.Stepped as U
-use Rattle.calls.proofs.Stepped.Laws as U′
-use Rattle.calls.specs.declared.StepAnswer.{StepAnswer}
-use Rattle.calls.proofs.StepAnswer as A-type
-use Rattle.calls.proofs.StepAnswer.Laws as A-laws
-use Rattle.calls.proofs.step as core
-use Rattle.calls.proofs.step.Symbol as core-def
-use Rattle.calls.proofs.step.Symbol.{name as #core}
-use Rattle.calls.proofs.step.Met as core-thm
+use Rattle.examination.specs.declared.Standing.{Standing}
+use Rattle.moving.specs.declared.Stepped.{Stepped}
+use Rattle.examination.proofs.Standing as T
+use Rattle.examination.proofs.Standing.Laws as T′
+use Rattle.moving.proofs.Stepped as U
+use Rattle.moving.proofs.Stepped.Laws as U′
+use Rattle.moving.specs.declared.StepAnswer.{StepAnswer}
+use Rattle.moving.proofs.StepAnswer as A-type
+use Rattle.moving.proofs.StepAnswer.Laws as A-laws
+use Rattle.moving.proofs.step as core
+use Rattle.moving.proofs.step.Symbol as core-def
+use Rattle.moving.proofs.step.Symbol.{name as #core}
+use Rattle.moving.proofs.step.Met as core-thm
 use Rattle.lent.proofs.step.Key.{name as #here}
 use Rattle.lent.proofs.step as here
 use Rattle.lent.proofs.step.Statement as stated

@@ -43,21 +43,21 @@ use denote.Triple.Walked.{says, Stays, stay-none, stay-none-slice, stay-ref, wal
 use denote.Exit.{yes}
 use denote.Signature.{Slot, plain}
 use Rattle.desk.specs.Desk.{Call, Question}
-use Rattle.calls.specs.Read.{deskOf}
+use Rattle.examination.specs.Read.{deskOf}
 use Rattle.calls.specs.Answer.{Does, elementReply}
-use Rattle.calls.specs.declared.Standing.{Standing}
-use Rattle.calls.proofs.Standing as T
-use Rattle.calls.proofs.Standing.Laws as T′
-use Rattle.calls.specs.declared.ElementAnswer.{ElementAnswer}
-use Rattle.calls.proofs.ElementAnswer as R-type
-use Rattle.calls.proofs.ElementAnswer.Laws as R-laws
+use Rattle.examination.specs.declared.Standing.{Standing}
+use Rattle.examination.proofs.Standing as T
+use Rattle.examination.proofs.Standing.Laws as T′
+use Rattle.asking.specs.declared.ElementAnswer.{ElementAnswer}
+use Rattle.asking.proofs.ElementAnswer as R-type
+use Rattle.asking.proofs.ElementAnswer.Laws as R-laws
 use Rattle.model.specs.declared.State.{State}
 use Rattle.model.proofs.State as State-type
 use Rattle.model.proofs.State.Laws as State-laws
-use Rattle.calls.proofs.value as core
-use Rattle.calls.proofs.value.Symbol as core-def
-use Rattle.calls.proofs.value.Symbol.{name as #core}
-use Rattle.calls.proofs.value.Met as core-thm
+use Rattle.asking.proofs.value as core
+use Rattle.asking.proofs.value.Symbol as core-def
+use Rattle.asking.proofs.value.Symbol.{name as #core}
+use Rattle.asking.proofs.value.Met as core-thm
 use Rattle.lent.proofs.value.Key.{name as #here}
 use Rattle.lent.proofs.value as here
 use Rattle.lent.proofs.value.Statement as stated

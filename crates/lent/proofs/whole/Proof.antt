@@ -43,18 +43,18 @@ use denote.Triple.Walked.{says, Stays, stay-none, stay-none-slice, stay-ref, wal
 use denote.Exit.{yes}
 use denote.Signature.{Slot, plain}
 use Rattle.desk.specs.Desk.{Call, Question}
-use Rattle.calls.specs.Read.{deskOf}
+use Rattle.examination.specs.Read.{deskOf}
 use Rattle.calls.specs.Answer.{Does, elementReply}
-use Rattle.calls.specs.declared.Standing.{Standing}
-use Rattle.calls.proofs.Standing as T
-use Rattle.calls.proofs.Standing.Laws as T′
-use Rattle.calls.specs.declared.ElementAnswer.{ElementAnswer}
-use Rattle.calls.proofs.ElementAnswer as R-type
-use Rattle.calls.proofs.ElementAnswer.Laws as R-laws
-use Rattle.calls.proofs.whole as core
-use Rattle.calls.proofs.whole.Symbol as core-def
-use Rattle.calls.proofs.whole.Symbol.{name as #core}
-use Rattle.calls.proofs.whole.Met as core-thm
+use Rattle.examination.specs.declared.Standing.{Standing}
+use Rattle.examination.proofs.Standing as T
+use Rattle.examination.proofs.Standing.Laws as T′
+use Rattle.asking.specs.declared.ElementAnswer.{ElementAnswer}
+use Rattle.asking.proofs.ElementAnswer as R-type
+use Rattle.asking.proofs.ElementAnswer.Laws as R-laws
+use Rattle.asking.proofs.whole as core
+use Rattle.asking.proofs.whole.Symbol as core-def
+use Rattle.asking.proofs.whole.Symbol.{name as #core}
+use Rattle.asking.proofs.whole.Met as core-thm
 use Rattle.lent.proofs.whole.Key.{name as #here}
 use Rattle.lent.proofs.whole as here
 use Rattle.lent.proofs.whole.Statement as stated

@@ -43,15 +43,15 @@ use denote.Triple.Table.{entered, cited}
 use denote.Triple.Walked.{Stays, stay-none, stay-none-slice, gave-slice, walkOf, goes-none, goes-none-slice, goes-gave-slice, Walks, ends-at, walked, walk-meets}
 use denote.Exit.{yes}
 use denote.Signature.{Slot, plain}
-use Rattle.calls.specs.declared.Standing.{Standing}
-use Rattle.calls.proofs.Standing as T
-use Rattle.calls.proofs.Standing.Laws as T′
-use Rattle.calls.specs.declared.StepAnswer.{StepAnswer}
-use Rattle.calls.proofs.StepAnswer as R-type
-use Rattle.calls.proofs.StepAnswer.Laws as R-laws
-use Rattle.calls.specs.declared.Stepped.{Stepped}
-use Rattle.calls.proofs.Stepped as U
-use Rattle.calls.proofs.Stepped.Laws as U′
+use Rattle.examination.specs.declared.Standing.{Standing}
+use Rattle.examination.proofs.Standing as T
+use Rattle.examination.proofs.Standing.Laws as T′
+use Rattle.moving.specs.declared.StepAnswer.{StepAnswer}
+use Rattle.moving.proofs.StepAnswer as R-type
+use Rattle.moving.proofs.StepAnswer.Laws as R-laws
+use Rattle.moving.specs.declared.Stepped.{Stepped}
+use Rattle.moving.proofs.Stepped as U
+use Rattle.moving.proofs.Stepped.Laws as U′
 use Rattle.lent_examples.proofs.Lending.{St, sv, standing-typed, lies, taken, ends}
 use Rattle.lent.proofs.step as core
 use Rattle.lent.proofs.step.Symbol as core-def

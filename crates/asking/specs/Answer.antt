@@ -1,0 +1,33 @@
+-- What the calls that only read answer, in the desk's terms: for each of an enum's cases the number and values that document 01 gives. Rests on
+-- examination's Read and Answer, and desk's Refused.
+--   Asks: what a call that only reads does
+--   elementReply, shareReply, judgeReply: each answer as the desk's reply
+use Prim.Native.Nat.{ℕ}
+use mathlib.Core.List.{List}
+use Rattle.examination.specs.declared.Standing.{Standing}
+use Rattle.examination.specs.Read.{deskOf}
+use Rattle.examination.specs.Answer.{Does}
+use Rattle.desk.specs.Desk.{Call, Question, Reply}
+use Rattle.desk.specs.Refused.{numberReply}
+use Rattle.asking.specs.declared.ElementAnswer.{ElementAnswer}
+use Rattle.asking.specs.declared.ElementAnswer.the-variants as element
+use Rattle.asking.specs.declared.ShareAnswer.{ShareAnswer}
+use Rattle.asking.specs.declared.ShareAnswer.the-variants as share
+use Rattle.asking.specs.declared.JudgeAnswer.{JudgeAnswer}
+use Rattle.asking.specs.declared.JudgeAnswer.the-variants as judge
+
+-- the question q on the desk of these four answers x and leaves that desk
+abbrev pub Asks : Question → Standing → List ℕ → List ℕ → List ℕ → Reply → Type 0
+Asks q s store first second x = Does (Call.Ask q) (deskOf s store first second) x (deskOf s store first second)
+
+abbrev pub elementReply : ElementAnswer → Reply
+elementReply (element.Refused r) = numberReply r
+elementReply (element.Is e) = Reply.Element (e .0)
+
+abbrev pub shareReply : ShareAnswer → Reply
+shareReply (share.Refused r) = numberReply r
+shareReply (share.PerCent p) = Reply.PerCent p
+
+abbrev pub judgeReply : JudgeAnswer → Reply
+judgeReply (judge.Refused r) = numberReply r
+judgeReply (judge.Says b) = Reply.Says b

@@ -1,0 +1,5 @@
+-- What the calls that only read answer, in the desk's terms; then what their proofs use.
+-- ---- what a reader must believe
+pub mod Answer
+-- ---- for the code
+pub mod Questions

@@ -1,0 +1,155 @@
+-- What the questions are answered, from what the code found. Rests on Held, rounds' Table and Share, valuer's Values.
+--   Readable, caseScore, caseSimulation, rangeTest: the terms of the code's contracts
+--   held-show, held-score, held-share, held-judge, held-whole, held-value: each question answered
+--   share-outside, judge-long, judge-high, whole-outside, value-outside, value-state: each refused with 13
+use Prim.Native.Nat.{ℕ, _+_, _*_, _≤_, _<_}
+use mathlib.Core.Path.{_≡_, refl, ap, ap₂, _∙_}
+use mathlib.Core.Bool.{Bool, true, false, cond, _&&_}
+use mathlib.Core.List.{List}
+use native.Mathlib.Omega.{arith}
+use borrow.Author.Tests.{ltb-true}
+use lib.Dec.{ltb, eqb}
+use lib.ListN.{length, getD, take}
+use Rattle.theory.specs.Model.{Model}
+use Rattle.theory.specs.Part.{modelOf}
+use Rattle.theory.specs.Simulation.{F, score}
+use Rattle.theory.specs.TestLaws.{and-l, and-r, and-in}
+use Rattle.operations.specs.Table.{opsIn}
+use Rattle.formula.specs.Bytes.{read, formulaReading}
+use Rattle.casefile.specs.declared.Sizes.{Sizes}
+use Rattle.casefile.specs.Directory.{partCount, partAt}
+use Rattle.casefile.specs.Conditions.{Placed}
+use Rattle.valuer.specs.Values.{ValueAt, WholeValue}
+use Rattle.rounds.specs.Table.{tableOf, Shaped, simulationTest}
+use Rattle.rounds.specs.Share.{share-in}
+use Rattle.rounds.specs.Table.{shareIn}
+use Rattle.desk.specs.Desk.{Desk, Question, Call, Reply, wholeTable}
+use Rattle.desk.specs.Case.{N1, N2, modelIn, formulaIn}
+use Rattle.desk.specs.CaseParts.{Valuable, model-part, formula-part, parts-valuable}
+use Rattle.operations.specs.declared.Lattice.{Lattice}
+use Rattle.desk.specs.Refused.{tableKept, isModel, numberReply}
+use Rattle.refusal.specs.declared.Refusal.the-variants.{OutOfRange}
+use Rattle.examination.specs.Answer.{Does}
+use Rattle.examination.specs.Held.{HeldDesk, few, held-question, held-outside}
+
+-- what score and judge ask of the case b and of a table
+pub record Readable (b table : List ℕ) : Type 0 where
+  pub placed : Placed b
+  pub parts : 3 ≤ partCount b
+  pub shaped : Shaped (partAt b 1) (partAt b 2) table
+
+-- the score of a table, and whether it is a simulation, for the models of the case b, by the tables t and the numbers l of a lattice
+abbrev pub caseScore : List ℕ → Lattice → List ℕ → List ℕ → ℕ
+caseScore t l b table = score (opsIn t l) (modelOf (partAt b 1)) (modelOf (partAt b 2)) (tableOf table (getD (partAt b 2) 0 0))
+
+abbrev pub caseSimulation : List ℕ → Lattice → List ℕ → List ℕ → Bool
+caseSimulation t l b table = simulationTest (modelOf (partAt b 1)) (modelOf (partAt b 2)) (F (opsIn t l) (modelOf (partAt b 1)) (modelOf (partAt b 2))) (tableOf table (getD (partAt b 2) 0 0))
+
+abbrev pub rangeTest : ℕ → ℕ → ℕ → Bool
+rangeTest f m formulas = ltb f formulas && isModel m
+
+module _ {d : Desk} {z : Sizes} {t : List ℕ} (h : HeldDesk d z t) where
+  abbrev bytes : List ℕ
+  bytes = take 24576 (d .store)
+
+  pub readable : (table : List ℕ) → z .states1 * z .states2 ≤ length table → Readable bytes table
+  readable table p =
+      let q : N1 (h .case .holds) * N2 (h .case .holds) ≤ length table = rw (h .case .sizes) at p in
+      record {
+        placed = h .case .placed;
+        parts = h .case .parts .least;
+        shaped =
+            rw (h .case .parts .model1, h .case .parts .model2)
+            (record { first = h .case .sound .shape1; second = h .case .sound .shape2; same-propositions = h .case .sound .same-propositions; held = q });
+      }
+
+  pub held-show : (n : ℕ) (w : List ℕ) → n ≡ z .states1 * z .states2 → w ≡ wholeTable d → Does (Call.Ask Question.Show) d (Reply.Shown (take n w)) d
+  held-show n w e p =
+      let m : n ≡ N1 (h .case .holds) * N2 (h .case .holds) = rw (h .case .sizes) at e in
+      rw (m, p) (held-question h Question.Show refl)
+
+  -- the whole table is long enough
+  pub whole-fits : (w : List ℕ) → w ≡ wholeTable d → z .states1 * z .states2 ≤ length w
+  whole-fits w p = rw p (go (d .standing .secondWhole))
+    where
+      go : (b : Bool) → z .states1 * z .states2 ≤ length (cond b (d .second) (d .first))
+      go true = omega (arith, few h, h .lengths .second-long)
+      go false = omega (arith, few h, h .lengths .first-long)
+
+  pub held-score : (w : List ℕ) (x : ℕ) → w ≡ wholeTable d → x ≡ caseScore t (z .lattice) bytes w → Does (Call.Ask Question.Score) d (Reply.Element x) d
+  held-score w x p e = rw (rw (h .case .parts .model1, h .case .parts .model2, h .case .tables, p) at e) (held-question h Question.Score refl)
+
+  -- ---- share
+
+  pub some-entries : 0 < z .states1 * z .states2
+  some-entries = rw (h .case .sizes) (h .case .sound .entries-some)
+
+  pub held-share : (n e : ℕ) (w : List ℕ) (x : ℕ) → n ≡ z .states1 * z .states2 → ltb e (z .lattice .size) ≡ true → w ≡ wholeTable d → x ≡ shareIn t e w n → Does (Call.Ask (Question.Share e)) d (Reply.PerCent x) d
+  held-share n e w x m r p f = rw (rw (m, h .case .tables, p, h .case .sizes) at (f ∙ share-in t (z .lattice) e w n)) (held-question h (Question.Share e) (rw (h .case .sizes) at r))
+
+  pub share-outside : (e : ℕ) → ltb e (z .lattice .size) ≡ false → Does (Call.Ask (Question.Share e)) d (numberReply OutOfRange) d
+  share-outside e r = held-outside h (Question.Share e) (rw (h .case .sizes) at r)
+
+  -- ---- judge
+
+  pub held-judge : (n : ℕ) (b : List ℕ) (x : Bool) → n ≡ z .states1 * z .states2 → eqb (length b) n ≡ true → tableKept n (z .lattice .size) b ≡ true → x ≡ caseSimulation t (z .lattice) bytes b → Does (Call.Ask (Question.Judge b)) d (Reply.Says x) d
+  held-judge n b x m l r f =
+      let l' : eqb (length b) (N1 (h .case .holds) * N2 (h .case .holds)) ≡ true = rw (m, h .case .sizes) at l in
+      let r' = rw (m, h .case .sizes) at r in
+      rw (rw (h .case .parts .model1, h .case .parts .model2, h .case .tables) at f) (held-question h (Question.Judge b) (rw (l', r')))
+
+  pub judge-long : (n : ℕ) (b : List ℕ) → n ≡ z .states1 * z .states2 → eqb (length b) n ≡ false → Does (Call.Ask (Question.Judge b)) d (numberReply OutOfRange) d
+  judge-long n b m l =
+      let l' : eqb (length b) (N1 (h .case .holds) * N2 (h .case .holds)) ≡ false = rw (m, h .case .sizes) at l in
+      held-outside h (Question.Judge b) (rw l')
+
+  pub judge-high : (n : ℕ) (b : List ℕ) → n ≡ z .states1 * z .states2 → eqb (length b) n ≡ true → tableKept n (z .lattice .size) b ≡ false → Does (Call.Ask (Question.Judge b)) d (numberReply OutOfRange) d
+  judge-high n b m l r =
+      let l' : eqb (length b) (N1 (h .case .holds) * N2 (h .case .holds)) ≡ true = rw (m, h .case .sizes) at l in
+      let r' = rw (m, h .case .sizes) at r in
+      held-outside h (Question.Judge b) (rw (l', r'))
+
+  -- ---- value and whole
+
+  formula-of : (f m : ℕ) → rangeTest f m (z .formulas) ≡ true → f < z .formulas
+  formula-of f m r = ltb-true _ _ (and-l (ltb f (z .formulas)) (isModel m) r)
+
+  model-of : (f m : ℕ) → rangeTest f m (z .formulas) ≡ true → isModel m ≡ true
+  model-of f m r = and-r (ltb f (z .formulas)) (isModel m) r
+
+  model-is : (f m : ℕ) → rangeTest f m (z .formulas) ≡ true → modelOf (partAt bytes m) ≡ modelIn (h .case .holds) m
+  model-is f m r = model-part (h .case) m (model-of f m r) .is
+
+  formula-is : (f m : ℕ) → rangeTest f m (z .formulas) ≡ true → formulaReading (getD (partAt bytes m) 1 0) (partAt bytes (3 + f)) ≡ read (formulaIn (h .case .holds) f)
+  formula-is f m r = formula-part (h .case) f m (formula-of f m r) (model-of f m r)
+
+  pub valuable : (f m : ℕ) → rangeTest f m (z .formulas) ≡ true → Valuable bytes f m
+  valuable f m r = parts-valuable (h .case) f m (formula-of f m r) (model-of f m r)
+
+  pub held-whole : (f m x : ℕ) → rangeTest f m (z .formulas) ≡ true → WholeValue t (z .lattice) (partAt bytes m) (partAt bytes (3 + f)) x → Does (Call.Ask (Question.Whole f m)) d (Reply.Element x) d
+  held-whole f m x r v =
+      rw (rw (model-is f m r, h .case .tables) at (v .is (formulaIn (h .case .holds) f) (formula-is f m r))) (held-question h (Question.Whole f m) (rw (h .case .sizes) at r))
+
+  pub whole-outside : (f m : ℕ) → rangeTest f m (z .formulas) ≡ false → Does (Call.Ask (Question.Whole f m)) d (numberReply OutOfRange) d
+  whole-outside f m r = held-outside h (Question.Whole f m) (rw (h .case .sizes) at r)
+
+  states-are : (f m : ℕ) → rangeTest f m (z .formulas) ≡ true → getD (partAt bytes m) 0 0 ≡ modelIn (h .case .holds) m .states
+  states-are f m r = ap (λ (M : Model ℕ). M .states) (model-is f m r)
+
+  pub held-value : (f m q x : ℕ) → rangeTest f m (z .formulas) ≡ true → ltb q (getD (partAt bytes m) 0 0) ≡ true → ValueAt t (z .lattice) (partAt bytes m) (partAt bytes (3 + f)) q x → Does (Call.Ask (Question.Value f m q)) d (Reply.Element x) d
+  held-value f m q x r s v =
+      let r' : rangeTest f m (length (h .case .holds .formulas)) ≡ true = rw (h .case .sizes) at r in
+      let s' : ltb q (modelIn (h .case .holds) m .states) ≡ true = rw (states-are f m r) at s in
+      rw (rw (model-is f m r, h .case .tables) at (v .is (formulaIn (h .case .holds) f) (formula-is f m r)))
+      (held-question h (Question.Value f m q) (and-in (rangeTest f m (length (h .case .holds .formulas))) (ltb q (modelIn (h .case .holds) m .states)) r' s'))
+
+  pub value-outside : (f m q : ℕ) → rangeTest f m (z .formulas) ≡ false → Does (Call.Ask (Question.Value f m q)) d (numberReply OutOfRange) d
+  value-outside f m q r =
+      let r' : rangeTest f m (length (h .case .holds .formulas)) ≡ false = rw (h .case .sizes) at r in
+      held-outside h (Question.Value f m q) (ap (λ (b : Bool). b && ltb q (modelIn (h .case .holds) m .states)) r')
+
+  pub value-state : (f m q : ℕ) → rangeTest f m (z .formulas) ≡ true → ltb q (getD (partAt bytes m) 0 0) ≡ false → Does (Call.Ask (Question.Value f m q)) d (numberReply OutOfRange) d
+  value-state f m q r s =
+      let r' : rangeTest f m (length (h .case .holds .formulas)) ≡ true = rw (h .case .sizes) at r in
+      let s' : ltb q (modelIn (h .case .holds) m .states) ≡ false = rw (states-are f m r) at s in
+      held-outside h (Question.Value f m q) (ap₂ _&&_ r' s')

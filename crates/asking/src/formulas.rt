@@ -1,0 +1,105 @@
+// The calls that value a formula.
+use crate::ElementAnswer;
+use examination::Examined;
+use examination::Standing;
+use examination::examine;
+use model::State;
+use operations::Element;
+use operations::Lattice;
+use refusal::Refusal;
+ghost use mathlib.Core.Path.{_≡_};
+ghost use Prim.Native.Nat.{_+_, _<_};
+ghost use lib.ListN.{getD};
+ghost use Rattle.casefile.specs.Directory.{partAt};
+ghost use Rattle.valuer.specs.Values.{ValueAt, WholeValue};
+ghost use Rattle.desk.specs.Desk.{Question};
+ghost use Rattle.desk.specs.CaseParts.{Valuable};
+ghost use Rattle.asking.specs.Answer.{Asks, elementReply};
+ghost use Rattle.asking.specs.Questions.{rangeTest};
+
+// There is a formula f, and m is 1 or 2.
+fn in_range(f: u8, m: u8, formulas: u8) -> bool
+    ensures { λ r. ⌜ r ≡ rangeTest f m formulas ⌝ }
+{
+    if formulas <= f {
+        return false;
+    }
+    if m == 1 {
+        return true;
+    }
+    m == 2
+}
+
+fn whole_of(t: &[u8; 12352], l: Lattice, bytes: &[u8], f: u8, m: u8) -> Element
+    requires { ⌜ Valuable (now bytes) f m ⌝ }
+    ensures { λ r. ⌜ WholeValue (now (t .entry)) l (partAt (now (bytes .entry)) m) (partAt (now (bytes .entry)) (3 + f)) (r .0) ⌝ }
+{
+    let model = casefile::part(bytes, m);
+    let formula = casefile::part(bytes, 3 + f);
+    valuer::whole(t, l, model, formula)
+}
+
+// A formula's value on model 1 or 2.
+pub fn whole(s: Standing, store: &[u8], first: &[u8], second: &[u8], f: u8, m: u8) -> ElementAnswer
+    ensures { λ r. ⌜ Asks (Question.Whole f m) s (now (store .entry)) (now (first .entry)) (now (second .entry)) (elementReply r) ⌝ }
+{
+    let mut t = [0u8; 12352];
+    match examine(s, store, first, second, &mut t) {
+        Examined::Refused(x) => ElementAnswer::Refused(x),
+        Examined::Held(z) => {
+            let l = z.lattice;
+            if !in_range(f, m, z.formulas) {
+                return ElementAnswer::Refused(Refusal::OutOfRange);
+            }
+            let bytes = &store[..24576];
+            ElementAnswer::Is(whole_of(&t, l, bytes, f, m))
+        }
+    }
+}
+
+// N of model m.
+fn states_of(bytes: &[u8], f: u8, m: u8) -> u8
+    requires { ⌜ Valuable (now bytes) f m ⌝ }
+    ensures { λ r. ⌜ r ≡ getD (partAt (now (bytes .entry)) m) 0 0 ⌝ }
+{
+    let model = casefile::part(bytes, m);
+    model[0]
+}
+
+fn value_of(t: &[u8; 12352], l: Lattice, bytes: &[u8], f: u8, m: u8, q: State) -> Element
+    requires { ⌜ Valuable (now bytes) f m × (q .0 < getD (partAt (now bytes) m) 0 0) ⌝ }
+    ensures { λ r. ⌜ ValueAt (now (t .entry)) l (partAt (now (bytes .entry)) m) (partAt (now (bytes .entry)) (3 + f)) (q .0) (r .0) ⌝ }
+{
+    let model = casefile::part(bytes, m);
+    let formula = casefile::part(bytes, 3 + f);
+    valuer::value(t, l, model, formula, q)
+}
+
+// A formula's element at a state of model 1 or 2.
+pub fn value(
+    s: Standing,
+    store: &[u8],
+    first: &[u8],
+    second: &[u8],
+    f: u8,
+    m: u8,
+    q: State,
+) -> ElementAnswer
+    ensures { λ r. ⌜ Asks (Question.Value f m (q .0)) s (now (store .entry)) (now (first .entry)) (now (second .entry)) (elementReply r) ⌝ }
+{
+    let mut t = [0u8; 12352];
+    match examine(s, store, first, second, &mut t) {
+        Examined::Refused(x) => ElementAnswer::Refused(x),
+        Examined::Held(z) => {
+            let l = z.lattice;
+            if !in_range(f, m, z.formulas) {
+                return ElementAnswer::Refused(Refusal::OutOfRange);
+            }
+            let bytes = &store[..24576];
+            if states_of(bytes, f, m) <= q.0 {
+                return ElementAnswer::Refused(Refusal::OutOfRange);
+            }
+            ElementAnswer::Is(value_of(&t, l, bytes, f, m, q))
+        }
+    }
+}

@@ -1,0 +1,42 @@
+-- What the examination of a desk answers, and what a call does. Rests on Read, desk's Perform, casefile's Answer.
+--   rulesOf: the rules of 12 beside the store's reading
+--   DeskExamined: what the examination answers
+--   Does: what a call does
+use Prim.Native.Nat.{ℕ, _*_}
+use mathlib.Core.Bool.{Bool, _&&_}
+use mathlib.Core.Path.{_≡_}
+use mathlib.Core.List.{List}
+use Rattle.theory.specs.Part.{opsOf}
+use Rattle.operations.specs.Table.{opsIn}
+use Rattle.lattice.specs.Answer.{boundsOf}
+use Rattle.casefile.specs.Reading.{Content, CaseReading, refused, content}
+use Rattle.casefile.specs.Answer.{sizesOf}
+use Rattle.casefile.specs.declared.Sizes.{Sizes}
+use Rattle.desk.specs.Desk.{Desk, Call, Reply}
+use Rattle.desk.specs.Refused.{standingKept, tableKept, examined}
+use Rattle.desk.specs.Perform.{perform}
+use Rattle.examination.specs.declared.Standing.{Standing}
+use Rattle.examination.specs.declared.Examined.{Examined}
+use Rattle.examination.specs.declared.Examined.the-variants.{Refused, Held}
+use Rattle.examination.specs.Read.{standingOf}
+
+-- the rules of 12 beside the store's reading, for the sizes z; they do not look at the store
+abbrev pub rulesOf : Standing → Sizes → List ℕ → List ℕ → Bool
+rulesOf s z first second =
+    standingKept (z .states1) (z .states2) (z .lattice .size) (standingOf s)
+    && tableKept (z .states1 * z .states2) (z .lattice .size) first
+    && tableKept (z .states1 * z .states2) (z .lattice .size) second
+
+abbrev pub examinedAnswer : CaseReading → Examined
+examinedAnswer (refused r) = Refused r
+examinedAnswer (content c) = Held (sizesOf c)
+
+-- The examination that every call but open makes, before its own arguments: 11, 12, or the sizes of the content. Where the desk is
+-- held, the tables t hold the operations of its lattice.
+pub record DeskExamined (d : Desk) (r : Examined) (t : List ℕ) : Type 0 where
+  pub answer : r ≡ examinedAnswer (examined Call.Step d)
+  pub tables : (c : Content) → examined Call.Step d ≡ content c → opsIn t (boundsOf (c .lattice)) ≡ opsOf (c .lattice)
+
+-- the call k on the desk d answers x and leaves the desk e
+abbrev pub Does : Call → Desk → Reply → Desk → Type 0
+Does k d x e = perform k d ≡ record { reply = x; desk = e }

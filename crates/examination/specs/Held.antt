@@ -1,0 +1,124 @@
+-- What a call knows of a desk that is held, how the examination gets its answer, and what a call does after it.
+-- Rests on Answer, casefile's Caller, and desk's RefusedLaws.
+--   HeldDesk, when-held: what is known of a desk that is held
+--   held-question, held-outside, refused-call: what a call does that is answered, out of range, or refused by the examination
+--   short-examined, unread-examined, spoiled-examined, held-examined: the four answers of the examination
+use Prim.Native.Nat.{ℕ, _+_, _*_, _≤_}
+use mathlib.Core.Path.{_≡_, refl, sym, ap, _∙_}
+use mathlib.Core.Bool.{Bool, true, false}
+use mathlib.Core.List.{List}
+use native.Mathlib.Nat.{zero-add}
+use native.Mathlib.Omega.{arith}
+use lib.Dec.{ltb}
+use lib.ListN.{take, getD}
+use Rattle.theory.specs.Test.{allBelow}
+use Rattle.theory.specs.TestLaws.{all-cong}
+use Rattle.refusal.specs.declared.Refusal.{Refusal}
+use Rattle.refusal.specs.declared.Refusal.the-variants.{ShortDesk, SpoiledDesk, OutOfRange}
+use Rattle.casefile.specs.declared.Sizes.{Sizes}
+use Rattle.casefile.specs.Reading.{CaseReading, refused, content, storeReading}
+use Rattle.casefile.specs.Answer.{sizesOf}
+use Rattle.casefile.specs.Accepted.{refused-content}
+use Rattle.casefile.specs.Caller.{AcceptedCase, accepted-as}
+use Rattle.desk.specs.Desk.{Desk, Question, Call, isOpen}
+use Rattle.desk.specs.Refused.{short, tableKept, rulesKept, keptFor, spoiled, inRange, examined, refusedReply}
+use Rattle.desk.specs.Perform.{answerTo, answer, moved}
+use Rattle.desk.specs.RefusedLaws.{Unspoiled, is-short, is-spoiled, in-store, outcome, Outcome, too-short, broken, outside, inside, other-accepted, perform-refused, perform-accepted}
+use Rattle.desk.specs.RulesLaws.{Long, long-enough, rules-out}
+use Rattle.examination.specs.declared.Examined.{Examined}
+use Rattle.examination.specs.declared.Examined.the-variants.{Refused, Held}
+use Rattle.examination.specs.Answer.{examinedAnswer, DeskExamined, Does}
+
+-- ---- after the answer that the desk is held with the sizes z, and the tables t
+
+pub record HeldDesk (d : Desk) (z : Sizes) (t : List ℕ) : Type 0 where
+  pub case : AcceptedCase (take 24576 (d .store)) z t
+  pub kept : Unspoiled d (case .holds)
+  pub lengths : Long d
+
+pub when-held : (d : Desk) (r : Examined) (z : Sizes) (t : List ℕ) → DeskExamined d r t → r ≡ Held z → HeldDesk d z t
+unfolding accepted-as
+when-held d r z t w k = go (examined Call.Step d) refl (sym k ∙ w .answer)
+  where
+    go : (x : CaseReading) → examined Call.Step d ≡ x → Held z ≡ examinedAnswer x → HeldDesk d z t
+    go (refused f) e h = absurd (let z : _≡_ {A = ℕ} 0 1 = cc in omega arith)
+    go (content c) e h =
+        let q : z ≡ sizesOf c = cc in
+        let u = other-accepted Call.Step d c refl e .held in
+        record { case = accepted-as (take 24576 (d .store)) c z t (u .rules .reads) q (rw q (w .tables c e)); kept = u; lengths = long-enough d (u .long) }
+
+-- a table has at most 4,096 entries
+pub case-few : {b : List ℕ} {z : Sizes} {t : List ℕ} → AcceptedCase b z t → z .states1 * z .states2 ≤ 4096
+case-few a = rw (a .sizes) (a .sound .entries-most)
+
+pub few : {d : Desk} {z : Sizes} {t : List ℕ} → HeldDesk d z t → z .states1 * z .states2 ≤ 4096
+few h = case-few (h .case)
+
+-- a table's bytes are tested from place 0 on
+pub table-kept : (table : List ℕ) (m count n : ℕ) (r : Bool) → r ≡ allBelow m (λ i. ltb (getD table (0 + i) 0) n) → m ≡ count → r ≡ tableKept count n table
+table-kept table m count n r e q = e ∙ all-cong m _ _ (λ i l. ap (λ (j : ℕ). ltb (getD table j 0) n) (zero-add i)) ∙ ap (λ (k : ℕ). tableKept k n table) q
+
+-- a question on a desk that is held: answered, or refused with 13
+module _ {d : Desk} {z : Sizes} {t : List ℕ} (h : HeldDesk d z t) where
+  pub held-question : (q : Question) → inRange q (h .case .holds) ≡ true → Does (Call.Ask q) d (answerTo q (h .case .holds) d) d
+  unfolding answer moved
+  held-question q i = perform-accepted (Call.Ask q) d (h .case .holds) (in-store (Call.Ask q) d (h .case .holds) refl (h .kept) ∙ rw i)
+
+  pub held-outside : (q : Question) → inRange q (h .case .holds) ≡ false → Does (Call.Ask q) d (refusedReply (Call.Ask q) OutOfRange) d
+  held-outside q i = perform-refused (Call.Ask q) d OutOfRange (in-store (Call.Ask q) d (h .case .holds) refl (h .kept) ∙ rw i)
+
+-- ---- after the answer that it is refused, every call but open is refused so
+
+pub refused-call : (k : Call) (d : Desk) (r : Examined) (f : Refusal) (t : List ℕ) → isOpen k ≡ false → DeskExamined d r t → r ≡ Refused f → Does k d (refusedReply k f) d
+refused-call k d r f t o w q = perform-refused k d f (go (outcome Call.Step d refl))
+  where
+    is : examinedAnswer (examined Call.Step d) ≡ Refused f
+    is = sym (w .answer) ∙ q
+
+    same : (g : Refusal) → examined Call.Step d ≡ refused g → refused g ≡ refused f
+    same g e = let u : Refused g ≡ Refused f = sym (ap examinedAnswer e) ∙ is in let v : g ≡ f = cc in ap refused v
+
+    go : Outcome Call.Step d → examined k d ≡ refused f
+    go (too-short s e) = is-short k d s ∙ same ShortDesk e
+    go (broken s n e) = go-broken (outcome k d o)
+      where
+        go-broken : Outcome k d → examined k d ≡ refused f
+        go-broken (too-short x p) = absurd (let z : _≡_ {A = Bool} true false = sym x ∙ s in let y : _≡_ {A = ℕ} 0 1 = cc in omega arith)
+        go-broken (broken x m p) = p ∙ same SpoiledDesk e
+        go-broken (outside c u i p) = absurd (n c (u .rules))
+        go-broken (inside c u i p) = absurd (n c (u .rules))
+    go (outside c u i e) = absurd (let z : _≡_ {A = ℕ} 0 1 = cc in omega arith)
+    go (inside c u i e) =
+        let v : Held (sizesOf c) ≡ Refused f = sym (ap examinedAnswer e) ∙ is in
+        absurd (let z : _≡_ {A = ℕ} 0 1 = cc in omega arith)
+
+-- ---- the answers of the examination
+
+refused-examined : (d : Desk) (f : Refusal) (t : List ℕ) → examined Call.Step d ≡ refused f → DeskExamined d (Refused f) t
+refused-examined d f t e = record { answer = sym (ap examinedAnswer e); tables = λ c g. absurd (refused-content (sym e ∙ g)) }
+
+pub short-examined : (d : Desk) (t : List ℕ) → short d ≡ true → DeskExamined d (Refused ShortDesk) t
+short-examined d t s = refused-examined d ShortDesk t (is-short Call.Step d s)
+
+pub unread-examined : (d : Desk) (f : Refusal) (t : List ℕ) → short d ≡ false → storeReading (d .store) ≡ refused f → DeskExamined d (Refused SpoiledDesk) t
+unfolding spoiled
+unread-examined d f t s e = refused-examined d SpoiledDesk t (is-spoiled Call.Step d refl s (rw e))
+
+module _ (d : Desk) (z : Sizes) (t : List ℕ) (s : short d ≡ false) (a : AcceptedCase (take 24576 (d .store)) z t) where
+  abbrev tests : Bool
+  tests = rulesKept (z .states1) (z .states2) (z .lattice .size) d
+
+  rules-same : tests ≡ keptFor (a .holds) d
+  rules-same = rw (a .sizes)
+
+  pub spoiled-examined : (x : Bool) → x ≡ tests → x ≡ false → DeskExamined d (Refused SpoiledDesk) t
+  unfolding spoiled
+  spoiled-examined x q f = refused-examined d SpoiledDesk t (is-spoiled Call.Step d refl s (rw (a .reads, ← rules-same, ← q, f)))
+
+  pub held-examined : (x : Bool) → x ≡ tests → x ≡ true → DeskExamined d (Held z) t
+  held-examined x q f =
+      let e = in-store Call.Step d (a .holds) refl (record { long = s; rules = rules-out d (a .holds) (a .reads) (sym rules-same ∙ sym q ∙ f) }) in
+      record {
+        answer = ap Held (a .sizes) ∙ sym (ap examinedAnswer e);
+        tables = λ c g. let q : a .holds ≡ c = cc in rw (← q) (rw (a .sizes) at (a .tables));
+      }
