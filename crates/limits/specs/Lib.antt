@@ -1,0 +1,2 @@
+-- Definitions of `limits`.
+pub mod Full

@@ -1,2 +1,0 @@
--- Definitions of `rounds_timing`.
-pub mod Sized
