@@ -1,4 +1,10 @@
--- The meet of two elements by two scans: one keeps a candidate, one tests it. In an antisymmetric order this finds the meet. Rests on Bounds.
+-- The meet of two elements by two scans: one keeps a candidate, one tests it. In an antisymmetric order this finds the meet. Rests on theory's Part
+-- and Test, order's Bounds and DeMorgan.
+--   boundFrom: what the search finds; orderFor, joinOrMeet: a join is a meet in the order the other way round
+--   lower, better, candidate: the first scan; under, greatest, tested, scanFrom: the second
+--   Finds: what is found is the element, or that there is none; bound-is-meet: the search finds the meet
+--   meet-only: a meet is the one that is found
+--   candidate-none, candidate-more, better-not: for the code
 use Prim.Native.Nat.{ℕ, zero, suc, _+_, _≤_, _<_}
 use mathlib.Core.Path.{_≡_, refl, sym}
 use mathlib.Core.Bool.{Bool, true, false, cond, _&&_}

@@ -1,4 +1,7 @@
 -- The tests that guessed meets and joins pass. Rests on theory's Part, codes' Coded, order's Bounds, rules' Pairs.
+--   Tested: the codes are those of the meets and joins, the order is that of the meets, and the tables repeat
+--   RowRepeats, Repeats: each place holds what the place of its elements holds, in a row, in every row
+--   repeats-inside: it does so at once where row and column are elements
 use Prim.Native.Nat.{ℕ, _+_, _*_, _/_, _%_, _≤_, _<_}
 use mathlib.Core.Path.{_≡_, sym, ap, _∙_}
 use mathlib.Core.Bool.{true}

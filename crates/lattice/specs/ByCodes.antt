@@ -1,6 +1,8 @@
 -- Guessed meets and joins that pass the tests by codes are those of a distributive lattice, and the tables hold them. Rests on codes' Coded
--- and Laws, Reading, Bounds, Accepted, Scan, Tables, Pairs.
-use Prim.Native.Nat.{ℕ, _+_, _*_, _-_, _/_, _%_, _≤_, _<_}
+-- and Laws, order's Tests, Bounds and Ordered, bounds' Scan, rules' Pairs, guesses' Tested, Tables.
+--   DistributiveIn: a distributive lattice whose meets and joins are in the tables
+--   tested: it is one where the tests pass; kept-filled: a guess keeps the order
+use Prim.Native.Nat.{ℕ, _+_, _*_, _/_, _%_, _≤_, _<_}
 use mathlib.Core.Path.{_≡_, refl, sym, ap, ap₂, _∙_}
 use mathlib.Core.Bool.{Bool, true, false}
 use mathlib.Core.List.{List}
@@ -12,15 +14,15 @@ use lib.Dec.{ltb, eqb}
 use lib.ListN.{getD}
 use Rattle.theory.specs.Lists.{Filled}
 use Rattle.theory.specs.Part.{LatticePart, meetOf, joinOf, element, opsOf}
-use Rattle.operations.specs.Table.{cell, atMostIn, meetIn, joinIn}
+use Rattle.operations.specs.Table.{cell, meetIn, joinIn}
 use Rattle.codes.specs.Coded.{Coded, OrderKept}
 use Rattle.codes.specs.Laws.{and-or, Within, within-refl, within-trans, within-antisym, and-left, and-right, and-greatest, or-left, or-right, or-least}
 use Rattle.lattice.specs.Reading.{distributive}
-use Rattle.order.specs.Bounds.{element-lt, element-id, element-same, all3-in, join-reversed, Antisymmetric}
+use Rattle.order.specs.Bounds.{element-lt, element-id, element-same, all3-in, join-reversed}
 use Rattle.order.specs.DeMorgan.{reversed, MeetAt}
 use Rattle.order.specs.Ordered.{Formed, Ordered, Bounded}
 use Rattle.bounds.specs.Scan.{meet-only}
-use Rattle.lattice.specs.Tables.{tableEntry, filled-order, at-meet, at-join}
+use Rattle.lattice.specs.Tables.{FilledTo, tableEntry, filled-order, at-meet, at-join}
 use Rattle.rules.specs.Pairs.{sized, tableOps}
 use Rattle.rules.specs.Pairs.{met-pairs}
 use Rattle.guesses.specs.Tested.{Tested}
@@ -30,13 +32,13 @@ pub record DistributiveIn (P : LatticePart) (t : List ℕ) : Type 0 where
   pub ordered : Ordered P
   pub bounds : Bounded P
   pub distributes : distributive (P .size) (meetOf P) (joinOf P) ≡ true
-  pub filled : Filled (tableEntry (opsOf P)) 12288 t
+  pub filled : FilledTo P 12288 t
 
 -- a guess keeps the order
 pub kept-filled : {f : ℕ → ℕ} {t u : List ℕ} → Filled f 4096 t → OrderKept t u → Filled f 4096 u
 kept-filled h k = record { at = λ i l. k .at i l ∙ h .at i l }
 
-module _ (P : LatticePart) {t : List ℕ} (w : Formed P) (f : Filled (tableEntry (opsOf P)) 4096 t) (p : Tested (P .size) t) where
+module _ (P : LatticePart) {t : List ℕ} (w : Formed P) (f : FilledTo P 4096 t) (p : Tested (P .size) t) where
   abbrev c : Coded t (sized (P .size)) (p .words)
   c = p .coded
 

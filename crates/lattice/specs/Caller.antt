@@ -1,4 +1,6 @@
--- What a caller of the check learns of a part from the answer. Rests on theory's Lattice, Reading, Answer, Accepted.
+-- What a caller of the check learns of a part from the answer. Rests on theory's Lattice, order's Sound, Reading, Answer, Accepted.
+--   AcceptedPart: the part is accepted, size and bounds and tables are its own, no refusal applies, and the laws hold
+--   when-accepted, when-refused: after each answer
 use Prim.Native.Nat.{ℕ}
 use mathlib.Core.Path.{_≡_, refl}
 use mathlib.Core.List.{List}

@@ -1,5 +1,9 @@
--- The steps of the check: what the tests on the tables say of the part, and the answer after each test. Rests on Reading, Answer, Accepted,
--- Tables, Pairs.
+-- The steps of the check: what the tests on the tables say of the part, and the answer after each test. Rests on order's Ordered, rules' Pairs and
+-- Distributive, Reading, Answer, Accepted, Tables.
+--   TablesHold, tables-hold: the tables hold the part's operations up to a place
+--   order-same, distributive-same, complement-same: each test on the tables is that of the part
+--   top-same, bot-same: the join of all is the top, the meet of all the bottom
+--   answered-here, answered-next, answered-accepted: the answer where a test fails, passes, where all have passed
 use Prim.Native.Nat.{ℕ, zero, suc, _≤_, _<_}
 use mathlib.Core.Path.{_≡_, refl, sym, ap, ap₂, _∙_}
 use mathlib.Core.Bool.{Bool, true, false, cond, _&&_}
@@ -7,7 +11,7 @@ use mathlib.Core.List.{List}
 use native.Mathlib.Nat.{le-refl}
 use native.Mathlib.Omega.{arith}
 use lib.Dec.{leb, eqb}
-use Rattle.theory.specs.Lists.{Filled}
+use Rattle.theory.specs.Loop.{fold}
 use Rattle.theory.specs.Part.{LatticePart, meetOf, joinOf, topOf, botOf, element, opsOf}
 use Rattle.theory.specs.Test.{_⇒_}
 use Rattle.theory.specs.TestLaws.{all-cong}
@@ -25,7 +29,7 @@ use Rattle.order.specs.Ordered.{Formed, Ordered, Bounded, top-found, bot-found}
 use Rattle.lattice.specs.Accepted.{formed}
 use Rattle.bounds.specs.Scan.{joinOrMeet}
 use Rattle.rules.specs.Distributive.{distributes, distributePair, distribute-pairs}
-use Rattle.lattice.specs.Tables.{tableEntry, filled-order, filled-meet, filled-join, filled-neg, filled-ops}
+use Rattle.lattice.specs.Tables.{FilledTo, filled-order, filled-meet, filled-join, filled-neg, filled-ops}
 use Rattle.rules.specs.Pairs.{tableOps}
 use Rattle.rules.specs.Pairs.{allPairs, order-pairs, distributive-pairs, complement-pairs}
 
@@ -61,7 +65,7 @@ module _ (n : ℕ) where
       (all-cong n _ _ (λ a l. all-cong n _ _ (λ b m. ap₂ _⇒_ (h a b l m) (ap₂ f (w b m) (w a l) ∙ h _ _ (x b m) (x a l)))))
 
   bound-cong : (f g : ℕ → ℕ → ℕ) → Same f g → 0 < n → ((a b : ℕ) → a < n → b < n → g a b < n) → (k : ℕ) → k ≤ n → (boundUpTo f k ≡ boundUpTo g k) × (boundUpTo g k < n)
-  unfolding boundUpTo
+  unfolding fold
   bound-cong f g h s x zero l = (refl, s)
   bound-cong f g h s x (suc k) l = let w = bound-cong f g h s x k (omega arith) in (ap (λ a. f a k) (w .0) ∙ h _ k (w .1) l, x _ k (w .1) l)
 
@@ -71,7 +75,7 @@ module _ (n : ℕ) where
 pub record TablesHold (P : LatticePart) (q n : ℕ) (t : List ℕ) : Type 0 where
   pub formed : Formed P
   pub sizes : n ≡ P .size
-  pub filled : Filled (tableEntry (opsOf P)) q t
+  pub filled : FilledTo P q t
 
 module _ {P : LatticePart} {q n : ℕ} {t : List ℕ} (h : TablesHold P q n t) where
   id : (a : ℕ) → a < P .size → element (P .size) a ≡ a
@@ -126,7 +130,7 @@ module _ {P : LatticePart} {q n : ℕ} {t : List ℕ} (h : TablesHold P q n t) w
         ∙ sym (bot-found P (h .formed .some) o b)
 
 -- the tables of the part that some bytes of the right form give
-pub tables-hold : (b : List ℕ) {q n : ℕ} {t : List ℕ} → latticeForm b ≡ true → n ≡ latticeOf b .size → Filled (tableEntry (opsOf (latticeOf b))) q t → TablesHold (latticeOf b) q n t
+pub tables-hold : (b : List ℕ) {q n : ℕ} {t : List ℕ} → latticeForm b ≡ true → n ≡ latticeOf b .size → FilledTo (latticeOf b) q t → TablesHold (latticeOf b) q n t
 tables-hold b f e w = record { formed = formed b f; sizes = e; filled = w }
 
 -- ---- the answer after each test

@@ -12,7 +12,6 @@ use borrow.Author.Tests.{ltb-true, ltb-false, leb-true, leb-false}
 use lib.Dec.{ltb, leb}
 use lib.ListN.{getD, length, set}
 use Rattle.theory.specs.Loop.{filled-more}
-use Rattle.theory.specs.Lists.{Filled}
 use Rattle.theory.specs.TestLaws.{below-suc, not-passed}
 use Rattle.theory.specs.Part.{LatticePart, meetOf, joinOf, element, opsOf}
 use Rattle.operations.specs.Table.{atMostIn}
@@ -26,7 +25,7 @@ use Rattle.bounds.specs.declared.Found.{Found}
 use Rattle.bounds.specs.declared.Found.the-variants.{At, Nothing}
 use Rattle.bounds.specs.Scan.{orderFor, at, boundFrom, Finds, bound-is-meet}
 use Rattle.bounds.specs.Place.{placeOf, boundAt}
-use Rattle.lattice.specs.Tables.{tableEntry, at-meet, at-join, filled-order}
+use Rattle.lattice.specs.Tables.{FilledTo, tableEntry, at-meet, at-join, filled-order}
 
 -- the row and the column of a place
 row-of : (c i j : ℕ) → i < 64 → j < 64 → (c * 4096 + (i * 64 + j)) / 64 % 64 ≡ i % 64
@@ -97,14 +96,14 @@ module _ (P : LatticePart) (w : Formed P) (o : Ordered P) where
 -- what it leaves: whether every two elements have both, and where they do, the tables so far
 pub record BoundsFilled (P : LatticePart) (r : Bool) (t : List ℕ) : Type 0 where
   pub says : r ≡ bounded P
-  pub filled : r ≡ true → Filled (tableEntry (opsOf P)) 12288 t
+  pub filled : r ≡ true → FilledTo P 12288 t
 
 -- where it stands at place k
 pub record BoundsUpTo (P : LatticePart) (k : ℕ) (t : List ℕ) : Type 0 where
-  pub filled : Filled (tableEntry (opsOf P)) k t
+  pub filled : FilledTo P k t
   pub inside : (j : ℕ) → 4096 ≤ j → j < k → tableEntry (opsOf P) j < P .size
 
-pub bounds-none : (P : LatticePart) (t : List ℕ) → Filled (tableEntry (opsOf P)) 4096 t → BoundsUpTo P 4096 t
+pub bounds-none : (P : LatticePart) (t : List ℕ) → FilledTo P 4096 t → BoundsUpTo P 4096 t
 bounds-none P t f = record { filled = f; inside = λ j l m. absurd (omega arith) }
 
 -- n is the part's size, and f is what the code found at place k

@@ -1,4 +1,9 @@
--- What a part of the right form lets the code read: sizes, places and bytes. Rests on theory's Part, Reading, Accepted.
+-- What a part of the right form lets the code read: sizes, places and bytes. Rests on theory's Part, Panel, Reading, Accepted.
+--   part-panel, part-explicit: which part the bytes give
+--   form-explicit, form-out, form-panel, form-length: what the form says of the bytes
+--   form-complements, form-last: the tests of an explicit part, one after the other; square-le: n · n is at most 4,096
+--   OrderEntry, order-at: where an order entry stands, and what it is; explicit-complement: the same of a complement
+--   panelEntry, PanelOrder, panel-at, panel-complement: the panel's
 use Prim.Native.Nat.{ℕ, zero, suc, _+_, _*_, _-_, _/_, _%_, _≤_, _<_}
 use mathlib.Core.Path.{_≡_, refl, ap, _∙_}
 use mathlib.Core.Bool.{Bool, true, false}

@@ -1,6 +1,7 @@
--- The panel lattice is a distributive De Morgan lattice: the one byte 0 is accepted. An explicit part of the same order and complement has
--- the same operations. Rests on theory's Lattice, Panel, Reading, Accepted, Form,
--- Agree.
+-- The panel lattice is a distributive De Morgan lattice. Rests on theory's Lattice, order's Exactly and Agree, Panel, Reading, Accepted, Form.
+--   panel-read, panel-accepted: the one byte 0 is the panel lattice, and is accepted
+--   PanelBytes: an explicit part with the panel's elements, complements and order
+--   panel-bytes-same, panel-bytes-accepted: it has the same operations, and is accepted
 use Prim.Native.Nat.{ℕ, _+_, _*_, _-_, _/_, _%_, min, max, _≤_, _<_}
 use mathlib.Core.Path.{_≡_, refl, sym, ap, ap₂, _∙_}
 use mathlib.Core.Bool.{Bool, true, false, _&&_}

@@ -1,5 +1,6 @@
 -- The tables of a lattice by their places: what belongs at each, and what a filled table says. Rests on theory's Part and Loop, operations' Table,
 -- order's Bounds.
+--   FilledTo: the tables hold the part's operations up to a place
 --   tableEntry: what belongs at a place; by its region at-order, at-meet, at-join, at-neg
 --   filled-order, filled-meet, filled-join, filled-neg: a filled table's lookups are the part's; filled-ops: all of them
 --   order-fill, complement-fill: what the code writes at a place belongs there; filled-reached: at a loop's end
@@ -27,6 +28,10 @@ tableEntry O k =
     (cond (ltb k 12288) (O .join (k / 64) k)
     (O .neg k)))
 
+-- the first q places of the tables t hold what belongs there
+abbrev pub FilledTo : LatticePart → ℕ → List ℕ → Type 0
+FilledTo P q t = Filled (tableEntry (opsOf P)) q t
+
 -- ---- a place by its region
 
 module _ (O : Ops ℕ) (k : ℕ) where
@@ -48,7 +53,7 @@ module _ (O : Ops ℕ) (k : ℕ) where
 
 -- ---- what filled tables say
 
-module _ (P : LatticePart) (t : List ℕ) (q : ℕ) (f : Filled (tableEntry (opsOf P)) q t) where
+module _ (P : LatticePart) (t : List ℕ) (q : ℕ) (f : FilledTo P q t) where
   pub filled-order : 4096 ≤ q → atMostIn t ≡ opsOf P .atMost
   filled-order l =
       let h : (a b : ℕ) → atMostIn t a b ≡ opsOf P .atMost a b = λ a b.

@@ -11,12 +11,11 @@ ghost use mathlib.Core.Bool.{true};
 ghost use Prim.Native.Nat.{_<_};
 ghost use lib.ListN.{length};
 ghost use Rattle.theory.specs.Simulation.{one};
-ghost use Rattle.theory.specs.Lists.{Filled};
-ghost use Rattle.theory.specs.Part.{opsOf};
-ghost use Rattle.lattice.specs.Reading.{isPanel, latticeOf, latticeForm, latticeReading, partReading, partialOrder};
+ghost use Rattle.order.specs.Ordered.{Ordered};
+ghost use Rattle.lattice.specs.Reading.{isPanel, latticeOf, latticeForm, latticeReading, partReading};
 ghost use Rattle.lattice.specs.Form.{PanelOrder};
 ghost use Rattle.lattice.specs.Answer.{Answered};
-ghost use Rattle.lattice.specs.Tables.{tableEntry};
+ghost use Rattle.lattice.specs.Tables.{FilledTo};
 ghost use Rattle.lattice.specs.Filling.{BoundsFilled};
 ghost use Rattle.lattice.specs.ByCodes.{DistributiveIn};
 
@@ -111,7 +110,7 @@ fn entries(t: &[u8]) -> usize
 
 fn fill_order(part: &[u8], t: &mut [u8; 12352])
     requires { ⌜ latticeForm (now part) ≡ true ⌝ }
-    ensures { λ _. ⌜ Filled (tableEntry (opsOf (latticeOf (now (part .entry))))) 4096 (now (t .exit)) ⌝ }
+    ensures { λ _. ⌜ FilledTo (latticeOf (now (part .entry))) 4096 (now (t .exit)) ⌝ }
 {
     let _ = entries(t);
     let n = size(part);
@@ -128,7 +127,7 @@ fn fill_order(part: &[u8], t: &mut [u8; 12352])
 
 // Fills the meets and the joins, and says whether each two elements have both.
 fn fill_bounds(part: &[u8], t: &mut [u8; 12352]) -> bool
-    requires { ⌜ (latticeForm (now part) ≡ true) × (partialOrder (latticeOf (now part) .size) (latticeOf (now part) .order) ≡ true) × Filled (tableEntry (opsOf (latticeOf (now part)))) 4096 (now t) ⌝ }
+    requires { ⌜ (latticeForm (now part) ≡ true) × Ordered (latticeOf (now part)) × FilledTo (latticeOf (now part)) 4096 (now t) ⌝ }
     ensures { λ r. ⌜ BoundsFilled (latticeOf (now (part .entry))) r (now (t .exit)) ⌝ }
 {
     let _ = entries(t);
@@ -143,8 +142,8 @@ fn fill_bounds(part: &[u8], t: &mut [u8; 12352]) -> bool
 }
 
 fn fill_complements(part: &[u8], t: &mut [u8; 12352])
-    requires { ⌜ (latticeForm (now part) ≡ true) × Filled (tableEntry (opsOf (latticeOf (now part)))) 12288 (now t) ⌝ }
-    ensures { λ _. ⌜ Filled (tableEntry (opsOf (latticeOf (now (part .entry))))) 12352 (now (t .exit)) ⌝ }
+    requires { ⌜ (latticeForm (now part) ≡ true) × FilledTo (latticeOf (now part)) 12288 (now t) ⌝ }
+    ensures { λ _. ⌜ FilledTo (latticeOf (now (part .entry))) 12352 (now (t .exit)) ⌝ }
 {
     let _ = entries(t);
     let n = size(part);

@@ -1,4 +1,8 @@
--- Parts that agree on their elements have the same meets, joins, bounds and operations. Rests on theory's Part and Test, Bounds.
+-- Parts that agree on their elements have the same meets, joins, bounds and operations. Rests on theory's Part and Test, Bounds, DeMorgan.
+--   SameOrder: the same elements in the same order; same-reversed
+--   meet-same-order, join-same-order, top-same-order, bot-same-order: the same meets, joins, top and bottom; ops-same: the same operations
+--   meet-comm, join-comm: the order of the two elements does not matter; by-number: the lesser number may be taken first
+--   first-cong: tests that agree have the same first number
 use Prim.Native.Nat.{ℕ, zero, suc, min, max, _<_}
 use mathlib.Core.Path.{_≡_, refl, sym, ap, ap₂, _∙_}
 use mathlib.Core.Bool.{Bool, true, false, _&&_}

@@ -1,12 +1,20 @@
--- Meets, joins, top and bottom found from an order: what they are, and that there is only one of each. Rests on theory's Part and Test, Reading.
-use Prim.Native.Nat.{ℕ, zero, suc, _+_, _%_, _≤_, _<_}
+-- Meets, joins, top and bottom found from an order: what they are, and that there is only one of each. Rests on theory's Part, Test and Loop,
+-- Tests, DeMorgan.
+--   element-lt, element-id, element-same: any number read as an element; one-test: a test as a byte
+--   all2-at, all2-in, all3-at, all3-in: tests of every two and every three, as facts
+--   first-only, first-some: the only number that passes is the first
+--   join-reversed, meet-reversed, bot-reversed: one order and the other way round
+--   meet-out, meet-in: the test of a meet, as a fact; meet-is: where there is a meet, it is found; meet-some, meet-same: it exists, and is one
+--   Antisymmetric: two elements at or below one another are the same
+--   TopAt, top-only: a top, and that it is one; boundUpTo: one bound of the first numbers
+use Prim.Native.Nat.{ℕ, _%_, _≤_, _<_}
 use mathlib.Core.Path.{_≡_, refl, sym}
 use mathlib.Core.Bool.{Bool, true, false, cond, _&&_}
-use native.Mathlib.Numerals.{add-one}
 use native.Mathlib.Omega.{arith}
 use borrow.Author.Tests.{ltb-true, lt-ltb}
 use lib.Dec.{ltb, eqb}
 use Rattle.theory.specs.Simulation.{one}
+use Rattle.theory.specs.Loop.{fold}
 use Rattle.theory.specs.Part.{LatticePart, isMeet, isJoin, meetOf, joinOf, topOf, botOf, element}
 use Rattle.theory.specs.Test.{allBelow, firstBelow}
 use Rattle.theory.specs.TestLaws.{and-l, and-r, and-in, ⇒-elim, ⇒-in, not-passed, false-true, all-at, all-in, first-is, first-unique}
@@ -125,14 +133,5 @@ top-only P m s w =
     (λ i l t. s .same i m l (w .inside) (w .above i l) (all-at (P .size) _ t m (w .inside)))
 
 -- f 0 1, f (f 0 1) 2, ..: one bound of all the numbers below k
-unfoldable pub boundUpTo : (ℕ → ℕ → ℕ) → ℕ → ℕ
-boundUpTo f zero = 0
-boundUpTo f (suc k) = f (boundUpTo f k) k
-
-pub bound-none : (f : ℕ → ℕ → ℕ) → 0 ≡ boundUpTo f 0
-unfolding boundUpTo
-bound-none f = refl
-
-pub bound-more : (f : ℕ → ℕ → ℕ) (k : ℕ) → boundUpTo f (k + 1) ≡ f (boundUpTo f k) k
-unfolding boundUpTo
-bound-more f k = rw add-one
+abbrev pub boundUpTo : (ℕ → ℕ → ℕ) → ℕ → ℕ
+boundUpTo f k = fold f 0 (λ i. i) k

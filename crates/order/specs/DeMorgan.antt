@@ -1,4 +1,6 @@
 -- What a distributive De Morgan lattice on the numbers below n is, by its order and complement. Rests on theory's Part.
+--   DeMorganLattice: order, complement, and some meet and join, are those of such a lattice
+--   MeetAt: a number is the meet of two; reversed: the order the other way round, in which a join is a meet
 use Prim.Native.Nat.{ℕ, _<_}
 use mathlib.Core.Path.{_≡_}
 use mathlib.Core.Bool.{true}

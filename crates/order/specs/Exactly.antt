@@ -1,4 +1,8 @@
--- The parts that pass every test are exactly the distributive De Morgan lattices. Rests on theory's Lattice, Tests, Bounds, DeMorgan, Ordered, Sound.
+-- The parts that pass every test are exactly the distributive De Morgan lattices. Rests on theory's Lattice, Tests, Bounds, DeMorgan, Ordered,
+-- Sound.
+--   lattice-ordered, lattice-bounded, lattice-distributive, lattice-complements: such a lattice passes each test
+--   sound-lattice: what passes is one
+--   SameLattice, ops-lattice: a part whose order and complement are those of operations that obey the laws is one
 use Prim.Native.Nat.{ℕ, _<_}
 use mathlib.Core.Path.{_≡_, sym, ap, _∙_}
 use mathlib.Core.Bool.{true}

@@ -1,4 +1,10 @@
--- What the tests of an order say of its elements, and that an order with all meets and joins has a top and a bottom. Rests on Tests, Bounds, DeMorgan.
+-- What the tests of an order say of its elements, and that an order with all meets and joins has a top and a bottom. Rests on theory's Part, Test
+-- and Loop, Tests, Bounds, DeMorgan.
+--   Formed: 1 to 64 elements, and their complements are elements
+--   Ordered: a partial order; ordered-out, ordered-in: from and to the test; ordered-reversed
+--   Bounded: every two elements have a meet and a join; bounded-out, bounded-in, bounded-reversed
+--   meet-at, join-at: what the meet and the join of two elements are
+--   top-is, top-found, bot-found: top and bottom are the join and the meet of all
 use Prim.Native.Nat.{ℕ, zero, suc, _≤_, _<_}
 use mathlib.Core.Path.{_≡_, _∙_}
 use mathlib.Core.Bool.{true, _&&_}
@@ -6,6 +12,7 @@ use native.Mathlib.Nat.{le-refl, not-suc-le-zero}
 use native.Mathlib.Omega.{arith}
 use borrow.Author.Tests.{ltb-true, lt-ltb, eqb-true, eq-eqb}
 use lib.Dec.{ltb}
+use Rattle.theory.specs.Loop.{fold}
 use Rattle.theory.specs.Test.{_⇒_}
 use Rattle.theory.specs.TestLaws.{below-suc, and-l, and-r, and-in, ⇒-elim, ⇒-in, all-at, all-in}
 use Rattle.theory.specs.Part.{LatticePart, meetOf, joinOf, topOf, botOf}
@@ -94,7 +101,7 @@ record AboveUpTo (P : LatticePart) (k m : ℕ) : Type 0 where
   above : (c : ℕ) → c < k → P .order c m ≡ true
 
 above-up-to : (P : LatticePart) → 0 < P .size → Ordered P → Bounded P → (k : ℕ) → k ≤ P .size → AboveUpTo P k (boundUpTo (joinOf P) k)
-unfolding boundUpTo
+unfolding fold
 above-up-to P s o w zero l = record { inside = s; above = λ c h. absurd (not-suc-le-zero h) }
 above-up-to P s o w (suc k) l = go (above-up-to P s o w k (omega arith))
   where

@@ -1,5 +1,8 @@
 -- The operations of a part that passes every test obey the laws of a distributive De Morgan lattice. Rests on theory's Lattice, Tests, Bounds,
--- Ordered.
+-- DeMorgan, Ordered.
+--   LatticeSound: a part to which none of the refusals applies
+--   lawsOf: its operations obey the laws
+--   id, dist-same, neg-same, neg-order: elements, distributivity and the complement's rules, as the tests give them
 use Prim.Native.Nat.{ℕ, _<_}
 use mathlib.Core.Path.{_≡_, sym, _∙_}
 use mathlib.Core.Bool.{true}

@@ -1,5 +1,7 @@
 -- Distributivity is tested for each two elements that are not in order, once: for the others it holds in every lattice. Rests on theory's
--- Part and Test, Reading, Bounds, Accepted, Agree.
+-- Part and Test, order's Tests, Bounds, Ordered and Agree.
+--   distributePair: the test of two elements; distributes, distributesAt: of these with every third, with one
+--   distribute-pairs: every two pass exactly when meet distributes over join
 use Prim.Native.Nat.{ℕ, _<_}
 use mathlib.Core.Path.{_≡_, refl, sym, ap, _∙_}
 use mathlib.Core.Bool.{Bool, true, false, cond}

@@ -1,4 +1,9 @@
--- The tests of refusals 5, 7 and 8, and of an order by its meets, each put as one test of every two elements. Rests on theory's Lattice and Test, Reading.
+-- The tests of refusals 5, 7 and 8, and of an order by its meets, each put as one test of every two elements. Rests on theory's Lattice and Test,
+-- operations' Table, order's Tests and Ordered, Distributive.
+--   tableOps: the operations of n elements that the tables hold; sized
+--   allPairs: a rule holds for every two elements; rowTest, pairTest: for one and every other, for two
+--   orderPair, above, stepsTo; metPair; complementPair: each rule at two elements
+--   order-pairs, met-pairs, distributive-pairs, complement-pairs: what allPairs says of each rule
 use Prim.Native.Nat.{ℕ, _<_}
 use mathlib.Core.Path.{_≡_, refl, sym}
 use mathlib.Core.Bool.{Bool, true, false, cond, not, _&&_}

@@ -37,8 +37,11 @@ returns c = λ e. absurd (false-true refl e)
 loop-again : tie.Need-loop-again Inv-loop μ-loop
 loop-again c =
     let s = c .before .before .before .before .before .before .before .before .before .before .before .before in
-    let e : (s .args .row / 64 * 64 + c .before .before .before .before .before .before .before .before .before .before .index .result) * 64 + c .before .before .index4 .result ≡ (s .args .row / 64 * 64 + element (s .args .n) (s .args .row)) * 64 + element (s .args .n) (c .before .before .before .before .before .before .before .loop .b) = omega (arith, c .before .before .before .before .before .before .before .before .before .before .before .element-of .ensures, c .before .before .before .before .before .before .before .before .before .before .index .ensures .0, c .before .before .before .element-of2 .ensures, c .before .before .index4 .ensures .0) in
-    (omega arith, omega arith, below-more _ _ (c .before .before .before .before .before .before .before .loop .inv .2) (c .if2 .left ∙ ap (λ (i : ℕ). getD (s .args .t .now) i 0) e))
+    let b = c .before .before .before .before .before .before .before .loop .b in
+    let home = (s .args .row / 64 * 64 + c .before .before .before .before .before .before .before .before .before .before .index .result) * 64 in
+    let same : getD (s .args .t .now) (s .args .row * 64 + b) 0 ≡ getD (s .args .t .now) (home + c .before .before .index4 .result) 0 = c .if2 .left in
+    let e : home + c .before .before .index4 .result ≡ (s .args .row / 64 * 64 + element (s .args .n) (s .args .row)) * 64 + element (s .args .n) b = omega (arith, c .before .before .before .before .before .before .before .before .before .before .before .element-of .ensures, c .before .before .before .before .before .before .before .before .before .before .index .ensures .0, c .before .before .before .element-of2 .ensures, c .before .before .index4 .ensures .0) in
+    (omega arith, omega arith, below-more _ _ (c .before .before .before .before .before .before .before .loop .inv .2) (same ∙ ap (λ (i : ℕ). getD (s .args .t .now) i 0) e))
 
 returns-2 : tie.Need-returns-2 Inv-loop μ-loop
 returns-2 c = λ e. record { at = λ i l. c .before .loop .inv .2 i (omega arith) }

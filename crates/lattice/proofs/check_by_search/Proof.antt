@@ -32,7 +32,7 @@ fill-bounds-requires c κs =
     let p = c .before .before .before .before .before .before .before .before .before .before .args .part .now in
     let f = sym (c .before .before .before .before .before .before .before .before .has-form .ensures) ∙ not-false _ (c .before .before .before .before .before .before .before .if1 .left) in
     let h = tables-hold p f (c .before .before .before .before .size .ensures) (c .before .before .before .before .before .fill-order .ensures) in
-    (f, sym (order-same h (le-refl _)) ∙ sym (c .before .before .passes .ensures) ∙ not-false _ (c .before .if2 .left), h .filled)
+    (f, ordered-out _ (sym (order-same h (le-refl _)) ∙ sym (c .before .before .passes .ensures) ∙ not-false _ (c .before .if2 .left)), h .filled)
 
 returns-3 : tie.Need-returns-3
 unfolding latticeReading partReading

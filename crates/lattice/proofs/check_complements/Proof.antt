@@ -3,7 +3,7 @@ use mathlib.Core.Path.{refl, sym, _∙_}
 use native.Mathlib.Nat.{le-refl}
 use native.Mathlib.Omega.{arith}
 use borrow.Author.Tests.{not-true, not-false}
-use Rattle.lattice.specs.Reading.{latticeOf, partReading}
+use Rattle.lattice.specs.Reading.{partReading}
 use Rattle.order.specs.Ordered.{ordered-in, bounded-in}
 use Rattle.lattice.specs.Check.{tables-hold, complement-same, top-same, bot-same, answered-here, answered-next, answered-accepted}
 use borrow.Author.Needs.{needs}

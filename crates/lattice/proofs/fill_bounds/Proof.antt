@@ -9,7 +9,6 @@ use Rattle.lattice.specs.Filling.{BoundsUpTo, bounds-none, bounds-more, 
 use Rattle.lattice.specs.Tables.{filled-reached}
 use Rattle.lattice.specs.Reading.{latticeOf}
 use Rattle.lattice.specs.Accepted.{formed}
-use Rattle.order.specs.Ordered.{ordered-out}
 use Rattle.lattice.proofs.fill_bounds.Statement.{statement}
 use Rattle.lattice.proofs.fill_bounds.Tie as tie
 
@@ -30,7 +29,7 @@ returns c =
     let i = c .before .before .before .before .before .loop .inv in
     let p = c .before .before .before .before .before .before .before .before .before .before .before .pre in
     record {
-      says = bounds-fail _ (formed _ (p .0)) (ordered-out _ (p .1)) _ _ _ _ (i .0) (c .before .before .before .before .loop-test .taken) (i .3) (c .before .before .before .before .before .before .size .ensures) (c .before .before .bound-at .ensures) (c .enum-told .given .1);
+      says = bounds-fail _ (formed _ (p .0)) (p .1) _ _ _ _ (i .0) (c .before .before .before .before .loop-test .taken) (i .3) (c .before .before .before .before .before .before .size .ensures) (c .before .before .bound-at .ensures) (c .enum-told .given .1);
       filled = λ x. absurd (false-true refl x);
     }
 
@@ -38,7 +37,7 @@ loop-again : tie.Need-loop-again Inv-loop μ-loop
 loop-again c =
     let i = c .before .before .before .before .before .before .loop .inv in
     let p = c .before .before .before .before .before .before .before .before .before .before .before .before .pre in
-    (omega arith, omega arith, simp length-set (i .2), bounds-more _ (formed _ (p .0)) (ordered-out _ (p .1)) _ _ _ _ (i .0) (c .before .before .before .before .before .loop-test .taken) (i .3) (c .before .before .before .before .before .before .before .size .ensures) (c .before .before .before .bound-at .ensures) _ (c .before .e .given .1) (omega (arith, i .2)))
+    (omega arith, omega arith, simp length-set (i .2), bounds-more _ (formed _ (p .0)) (p .1) _ _ _ _ (i .0) (c .before .before .before .before .before .loop-test .taken) (i .3) (c .before .before .before .before .before .before .before .size .ensures) (c .before .before .before .bound-at .ensures) _ (c .before .e .given .1) (omega (arith, i .2)))
 
 returns-2 : tie.Need-returns-2 Inv-loop μ-loop
 returns-2 c =

@@ -5,17 +5,15 @@ use borrow.Author.Needs.{needs}
 use Prim.Native.Nat.{_≤_, _-_}
 use lib.ListN.{length, length-set}
 use Rattle.theory.specs.Loop.{filled-more}
-use Rattle.theory.specs.Lists.{Filled}
-use Rattle.theory.specs.Part.{opsOf}
 use Rattle.lattice.specs.Reading.{latticeOf}
-use Rattle.lattice.specs.Tables.{tableEntry, filled-reached, complement-fill}
+use Rattle.lattice.specs.Tables.{FilledTo, filled-reached, complement-fill}
 use Rattle.lattice.specs.Accepted.{formed}
 use Rattle.order.specs.Bounds.{element-lt}
 use Rattle.lattice.proofs.fill_complements.Statement.{statement}
 use Rattle.lattice.proofs.fill_complements.Tie as tie
 
 abbrev Inv-loop : tie.InvT-loop
-Inv-loop part t₀ n k₀ t k = (12288 ≤ k) × (k ≤ 12352) × (length t ≡ 12352) × Filled (tableEntry (opsOf (latticeOf part))) k t
+Inv-loop part t₀ n k₀ t k = (12288 ≤ k) × (k ≤ 12352) × (length t ≡ 12352) × FilledTo (latticeOf part) k t
 
 abbrev μ-loop : tie.MeasureT-loop
 μ-loop part t₀ n k₀ t k = 12352 - k

@@ -5,19 +5,18 @@ use borrow.Author.Needs.{needs}
 use Prim.Native.Nat.{_≤_, _-_}
 use lib.ListN.{length, length-set}
 use Rattle.theory.specs.Loop.{filled-none, filled-more, tab-at}
-use Rattle.theory.specs.Lists.{Filled, tab}
-use Rattle.theory.specs.Part.{opsOf}
+use Rattle.theory.specs.Lists.{tab}
 use Rattle.lattice.specs.Panel.{panelOrder}
 use Rattle.lattice.specs.Reading.{latticeOf}
 use Rattle.lattice.specs.Form.{panelEntry}
-use Rattle.lattice.specs.Tables.{tableEntry, filled-reached, order-fill}
+use Rattle.lattice.specs.Tables.{FilledTo, filled-reached, order-fill}
 use Rattle.lattice.specs.Accepted.{formed}
 use Rattle.order.specs.Bounds.{element-lt}
 use Rattle.lattice.proofs.fill_order.Statement.{statement}
 use Rattle.lattice.proofs.fill_order.Tie as tie
 
 abbrev Inv-loop : tie.InvT-loop
-Inv-loop part t₀ n order k₀ t k = (k ≤ 4096) × (length t ≡ 12352) × Filled (tableEntry (opsOf (latticeOf part))) k t
+Inv-loop part t₀ n order k₀ t k = (k ≤ 4096) × (length t ≡ 12352) × FilledTo (latticeOf part) k t
 
 abbrev μ-loop : tie.MeasureT-loop
 μ-loop part t₀ n order k₀ t k = 4096 - k
