@@ -1,5 +1,11 @@
 -- The answer at a place, by the code there: one law for each arm of the valuer, and that its parts stand where it looks for them.
 -- Rests on Node, maps' Code, Places.
+--   either: a code of a pair is one of the two
+--   here-inside, here-variable, Number and here-number: the place, a variable's and a proposition's number are within the part
+--   here-first, here-inner, here-body: the first part stands at the next place; Second, here-second: the second where the first one's answer says
+--   held: the environment that the three lists hold
+--   bottom-arm, top-arm, literal-arm, variable-arm, pair-arm, next-arm, fixpoint-arm: what each arm answers; no-arm: no formula has another code
+--   here-read, part-values, part-whole: a whole part, its values, and its value on the whole model
 use Prim.Native.Nat.{ℕ, _+_, _*_, _-_, _≤_, _<_}
 use mathlib.Core.Path.{_≡_, refl, sym, ap, ap₂, _∙_, subst}
 use mathlib.Core.Logic.{_⊎_, inl, inr, ⊎-elim}

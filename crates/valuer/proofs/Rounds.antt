@@ -1,4 +1,7 @@
--- The rounds of a fixpoint: one more round, a round that changes nothing, and the last one. Rests on Node.
+-- The rounds of a fixpoint. Rests on Node, theory's Fixpoint.
+--   Turned: a list holds what r rounds give
+--   turned-none, turned-more: no round, and one more
+--   turned-all, turned-still: the last round that is needed, and one that changes nothing, give the fixpoint
 use Prim.Native.Nat.{ℕ, zero, suc, _≤_, _<_}
 use mathlib.Core.Path.{_≡_, sym, _∙_}
 use mathlib.Core.Bool.{true}

@@ -1,5 +1,9 @@
 -- What stands at a place of a formula part, and what the valuer of that place answers. Rests on theory's Value, operations' Table,
 -- formula's Bytes, maps' Code.
+--   Spelled, Here: a formula stands at a place
+--   SlotsHold: three lists hold an environment
+--   rounds, roundLimit: a body applied n times, and how often at most
+--   Answer, Node: what the valuer of a place answers; Fixed, Iterated: what the iteration of a body answers
 use Prim.Native.Nat.{ℕ, suc, _+_, _*_, _-_, _≤_, _<_}
 use mathlib.Core.Path.{_≡_}
 use mathlib.Core.Bool.{true}

@@ -57,7 +57,8 @@ fn value_node(
     out: &mut [u8; 64],
 ) -> usize
     requires { ⌜ ModelShape (now m) × Here (now f) at (getD (now m) 1 0) × Coding (now t) l (now m) (now codes) (now words) ⌝ }
-    ensures { λ r. ⌜ Node (now (t .entry)) l (now (m .entry)) (now (f .entry)) at (now (near .entry)) (now (mid .entry)) (now (far .entry)) (now (out .exit)) r ⌝ }
+    ensures { λ r. ⌜ Node (now (t .entry)) l (now (m .entry)) (now (f .entry)) at
+        (now (near .entry)) (now (mid .entry)) (now (far .entry)) (now (out .exit)) r ⌝ }
 {
     let code = f[at];
     let here = at + 1;
@@ -103,7 +104,8 @@ fn iterate(
     out: &mut [u8; 64],
 ) -> usize
     requires { ⌜ ModelShape (now m) × Here (now f) body (getD (now m) 1 0) × Coding (now t) l (now m) (now codes) (now words) ⌝ }
-    ensures { λ r. ⌜ Iterated (now (t .entry)) l (now (m .entry)) (now (f .entry)) body (now (near .entry)) (now (mid .entry)) (start .0) (now (out .exit)) r ⌝ }
+    ensures { λ r. ⌜ Iterated (now (t .entry)) l (now (m .entry)) (now (f .entry)) body
+        (now (near .entry)) (now (mid .entry)) (start .0) (now (out .exit)) r ⌝ }
 {
     let n = model::states(m);
     let mut current = [start.0; 64];
