@@ -1,4 +1,9 @@
 -- What the code at a place says of the formula that stands there, and where its parts stand. Rests on Node.
+--   build: the formula of a code, a number and two parts
+--   inside, code-small, by-code: the code at a place, and what holds of every formula with it
+--   Numbered: a number stands after the code; of-prop, of-negated, of-var: so it is of these
+--   Parts: two parts stand after it; of-or, of-and; one part: of-AX, of-EX, and under one more binder of-mu, of-nu
+--   read-spelled: a part that is read as φ spells it from its first byte on
 use Prim.Native.Nat.{ℕ, suc, _+_, _≤_, _<_, max}
 use mathlib.Core.Path.{_≡_, refl, sym, ap, _∙_, subst}
 use mathlib.Core.Bool.{cond, _&&_}
@@ -16,58 +21,6 @@ use Rattle.valuer.specs.Node.{Spelled}
 
 -- ---- a formula by its code, its number and its parts
 
-codeOf : Formula → ℕ
-codeOf bottom = 0
-codeOf top = 1
-codeOf (prop p) = 2
-codeOf (negated p) = 3
-codeOf (var v) = 4
-codeOf (or f g) = 5
-codeOf (and f g) = 6
-codeOf (AX f) = 7
-codeOf (EX f) = 8
-codeOf (mu f) = 9
-codeOf (nu f) = 10
-
-numberOf : Formula → ℕ
-numberOf bottom = 0
-numberOf top = 0
-numberOf (prop p) = p
-numberOf (negated p) = p
-numberOf (var v) = v
-numberOf (or f g) = 0
-numberOf (and f g) = 0
-numberOf (AX f) = 0
-numberOf (EX f) = 0
-numberOf (mu f) = 0
-numberOf (nu f) = 0
-
-firstOf : Formula → Formula
-firstOf bottom = bottom
-firstOf top = bottom
-firstOf (prop p) = bottom
-firstOf (negated p) = bottom
-firstOf (var v) = bottom
-firstOf (or f g) = f
-firstOf (and f g) = f
-firstOf (AX f) = f
-firstOf (EX f) = f
-firstOf (mu f) = f
-firstOf (nu f) = f
-
-secondOf : Formula → Formula
-secondOf bottom = bottom
-secondOf top = bottom
-secondOf (prop p) = bottom
-secondOf (negated p) = bottom
-secondOf (var v) = bottom
-secondOf (or f g) = g
-secondOf (and f g) = g
-secondOf (AX f) = bottom
-secondOf (EX f) = bottom
-secondOf (mu f) = bottom
-secondOf (nu f) = bottom
-
 abbrev pub build : ℕ → ℕ → Formula → Formula → Formula
 build c p g h =
     cond (eqb c 0) bottom
@@ -79,33 +32,33 @@ build c p g h =
     (cond (eqb c 6) (and g h)
     (cond (eqb c 7) (AX g) (cond (eqb c 8) (EX g) (cond (eqb c 9) (mu g) (nu g))))))))))
 
-built : (φ : Formula) → build (codeOf φ) (numberOf φ) (firstOf φ) (secondOf φ) ≡ φ
-unfolding codeOf numberOf firstOf secondOf
-built bottom = refl
-built top = refl
-built (prop p) = refl
-built (negated p) = refl
-built (var v) = refl
-built (or f g) = refl
-built (and f g) = refl
-built (AX f) = refl
-built (EX f) = refl
-built (mu f) = refl
-built (nu f) = refl
+-- what a formula is built of, and its bytes
+record Shape (φ : Formula) : Type 0 where
+  code : ℕ
+  number : ℕ
+  first : Formula
+  second : Formula
+  built : build code number first second ≡ φ
+  most : code ≤ 10
+  others : List ℕ
+  bytes : bytesOf φ ≡ code ∷ others
 
-code-most : (φ : Formula) → codeOf φ ≤ 10
-unfolding codeOf
-code-most bottom = omega arith
-code-most top = omega arith
-code-most (prop p) = omega arith
-code-most (negated p) = omega arith
-code-most (var v) = omega arith
-code-most (or f g) = omega arith
-code-most (and f g) = omega arith
-code-most (AX f) = omega arith
-code-most (EX f) = omega arith
-code-most (mu f) = omega arith
-code-most (nu f) = omega arith
+made : (c p : ℕ) (g h : Formula) {xs : List ℕ} → c ≤ 10 → bytesOf (build c p g h) ≡ c ∷ xs → Shape (build c p g h)
+made c p g h {xs} l e = record { code = c; number = p; first = g; second = h; built = refl; most = l; others = xs; bytes = e }
+
+shape : (φ : Formula) → Shape φ
+unfolding bytesOf
+shape bottom = made 0 0 bottom bottom (omega arith) refl
+shape top = made 1 0 bottom bottom (omega arith) refl
+shape (prop p) = made 2 p bottom bottom (omega arith) refl
+shape (negated p) = made 3 p bottom bottom (omega arith) refl
+shape (var v) = made 4 v bottom bottom (omega arith) refl
+shape (or f g) = made 5 0 f g (omega arith) refl
+shape (and f g) = made 6 0 f g (omega arith) refl
+shape (AX f) = made 7 0 f bottom (omega arith) refl
+shape (EX f) = made 8 0 f bottom (omega arith) refl
+shape (mu f) = made 9 0 f bottom (omega arith) refl
+shape (nu f) = made 10 0 f bottom (omega arith) refl
 
 -- ---- the bytes from a place on
 
@@ -124,36 +77,21 @@ front f at c xs e = record {
 after : (f : List ℕ) (at : ℕ) (xs ys : List ℕ) → drop at f ≡ xs ++ ys → drop (at + length xs) f ≡ ys
 after f at xs ys e = sym (drop-drop (length xs) at f) ∙ ap (drop (length xs)) e ∙ drop-append-seam xs ys
 
--- the first byte is the formula's code
-first-byte : (φ : Formula) (rest : List ℕ) → (xs : List ℕ) × (bytesOf φ ++ rest ≡ codeOf φ ∷ xs)
-unfolding bytesOf codeOf
-first-byte bottom r = (_, refl)
-first-byte top r = (_, refl)
-first-byte (prop p) r = (_, refl)
-first-byte (negated p) r = (_, refl)
-first-byte (var v) r = (_, refl)
-first-byte (or f g) r = (_, refl)
-first-byte (and f g) r = (_, refl)
-first-byte (AX f) r = (_, refl)
-first-byte (EX f) r = (_, refl)
-first-byte (mu f) r = (_, refl)
-first-byte (nu f) r = (_, refl)
-
 module _ {f : List ℕ} {at d k : ℕ} {φ : Formula} (s : Spelled f at d k φ) where
-  headed : Front f at (codeOf φ) (first-byte φ (s .rest) .0)
-  headed = front f at _ _ (s .bytes ∙ first-byte φ (s .rest) .1)
+  headed : Front f at (shape φ .code) (shape φ .others ++ s .rest)
+  headed = front f at _ _ (s .bytes ∙ ap (λ (l : List ℕ). l ++ s .rest) (shape φ .bytes))
 
   pub inside : at < length f
   inside = headed .inside
 
   pub code-small : getD f at 0 ≤ 10
-  code-small = omega (arith, headed .code, code-most φ)
+  code-small = omega (arith, headed .code, shape φ .most)
 
   -- what holds of every formula with this code holds of φ
   pub by-code : (c : ℕ) → getD f at 0 ≡ c → (P : Formula → Type 0) → ((p : ℕ) (g h : Formula) → P (build c p g h)) → P φ
   by-code c e P w =
-      subst P (built φ)
-      (subst (λ (x : ℕ). P (build x (numberOf φ) (firstOf φ) (secondOf φ))) (sym e ∙ headed .code) (w (numberOf φ) (firstOf φ) (secondOf φ)))
+      let u = shape φ in
+      subst P (u .built) (subst (λ (x : ℕ). P (build x (u .number) (u .first) (u .second))) (sym e ∙ headed .code) (w (u .number) (u .first) (u .second)))
 
 -- ---- where the parts of a formula stand
 
@@ -183,10 +121,10 @@ module _ {f : List ℕ} {at d k : ℕ} where
   unfolding bytesOf
   of-var v s = numbered f at 4 v (s .rest) (s .bytes)
 
-  -- one part, under the same binders
-  one-part : (c : ℕ) (ψ g : Formula) → bytesOf ψ ≡ c ∷ bytesOf g → boundBy d ψ ≡ boundBy d g → overProps k ψ ≡ overProps k g → nestedBinders ψ ≡ nestedBinders g
-      → Spelled f at d k ψ → Spelled f (at + 1) d k g
-  one-part c ψ g b p o n s = record {
+  -- one part, under d′ binders
+  one-part : (c d′ : ℕ) (ψ g : Formula) → bytesOf ψ ≡ c ∷ bytesOf g → boundBy d ψ ≡ boundBy d′ g → overProps k ψ ≡ overProps k g → nestedBinders g + d′ ≤ nestedBinders ψ + d
+      → Spelled f at d k ψ → Spelled f (at + 1) d′ k g
+  one-part c d′ ψ g b p o n s = record {
     rest = s .rest;
     bytes = front f at c (bytesOf g ++ s .rest) (s .bytes ∙ ap (λ (l : List ℕ). l ++ s .rest) b) .others;
     bound = sym p ∙ s .bound;
@@ -196,30 +134,19 @@ module _ {f : List ℕ} {at d k : ℕ} where
 
   pub of-AX : (g : Formula) → Spelled f at d k (AX g) → Spelled f (at + 1) d k g
   unfolding bytesOf boundBy overProps nestedBinders
-  of-AX g = one-part 7 (AX g) g refl refl refl refl
+  of-AX g = one-part 7 d (AX g) g refl refl refl (omega arith)
 
   pub of-EX : (g : Formula) → Spelled f at d k (EX g) → Spelled f (at + 1) d k g
   unfolding bytesOf boundBy overProps nestedBinders
-  of-EX g = one-part 8 (EX g) g refl refl refl refl
-
-  -- one part, under one more binder
-  binder-part : (c : ℕ) (ψ g : Formula) → bytesOf ψ ≡ c ∷ bytesOf g → boundBy d ψ ≡ boundBy (suc d) g → overProps k ψ ≡ overProps k g → nestedBinders ψ ≡ suc (nestedBinders g)
-      → Spelled f at d k ψ → Spelled f (at + 1) (suc d) k g
-  binder-part c ψ g b p o n s = record {
-    rest = s .rest;
-    bytes = front f at c (bytesOf g ++ s .rest) (s .bytes ∙ ap (λ (l : List ℕ). l ++ s .rest) b) .others;
-    bound = sym p ∙ s .bound;
-    over = sym o ∙ s .over;
-    nested = omega (arith, s .nested);
-  }
+  of-EX g = one-part 8 d (EX g) g refl refl refl (omega arith)
 
   pub of-mu : (g : Formula) → Spelled f at d k (mu g) → Spelled f (at + 1) (suc d) k g
   unfolding bytesOf boundBy overProps nestedBinders
-  of-mu g = binder-part 9 (mu g) g refl refl refl refl
+  of-mu g = one-part 9 (suc d) (mu g) g refl refl refl (omega arith)
 
   pub of-nu : (g : Formula) → Spelled f at d k (nu g) → Spelled f (at + 1) (suc d) k g
   unfolding bytesOf boundBy overProps nestedBinders
-  of-nu g = binder-part 10 (nu g) g refl refl refl refl
+  of-nu g = one-part 10 (suc d) (nu g) g refl refl refl (omega arith)
 
   two-parts : (c : ℕ) (ψ g h : Formula) → bytesOf ψ ≡ c ∷ bytesOf g ++ bytesOf h → boundBy d ψ ≡ (boundBy d g && boundBy d h) → overProps k ψ ≡ (overProps k g && overProps k h)
       → nestedBinders ψ ≡ max (nestedBinders g) (nestedBinders h) → Spelled f at d k ψ → Parts f at d k g h

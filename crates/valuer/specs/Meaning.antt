@@ -1,5 +1,7 @@
 -- Demand 2 for the valuer's answers, over tables that hold a lattice and a model whose values are elements: they are the values of the
 -- latticed mu-calculus, and they are elements. Rests on Values, theory's Calculus and Fixpoint, formula's RoundTrip.
+--   values-calculus, value-at-calculus, whole-calculus: they are the calculus's, at all states, at one, and on the whole model
+--   values-elements, value-at-element, whole-element: they are elements
 use Prim.Native.Nat.{ℕ, _<_}
 use mathlib.Core.Path.{_≡_, ap, _∙_}
 use mathlib.Core.List.{List}

@@ -1,4 +1,7 @@
 -- What the valuer answers for a formula part. Rests on theory's Value, operations' Table, formula's Bytes.
+--   Reads: the part is read as some formula
+--   fromInitial: the meet over all states of initial value → value
+--   Values, ValueAt, WholeValue: the values at all states, at one, and on the whole model
 use Prim.Native.Nat.{ℕ}
 use mathlib.Core.Path.{_≡_}
 use mathlib.Core.List.{List}

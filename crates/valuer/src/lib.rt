@@ -2,6 +2,9 @@
 // each kind of node (maps, nexts). A map from states to elements is an array of 64, of which the first N entries count. t and l are a lattice's
 // tables and numbers (operations), m is a model part (model), f a formula part (formula). A map is written into the lent array `out`, so that
 // a level of nesting takes little of the stack. Where the lattice has codes (codes) and the model is large, AX and EX go by them (nexts).
+mod estimate;
+
+use estimate::worth;
 use maps::combined;
 use maps::constant;
 use maps::gathered;
@@ -16,34 +19,46 @@ use nexts::prepare;
 use operations::Element;
 use operations::Lattice;
 ghost use mathlib.Core.Path.{_≡_};
-ghost use Prim.Native.Nat.{_*_, _-_, _≤_, _<_};
-ghost use lib.ListN.{length, getD};
+ghost use Prim.Native.Nat.{_<_};
+ghost use lib.ListN.{getD};
 ghost use Rattle.theory.specs.Part.{modelOf, ModelShape};
 ghost use Rattle.operations.specs.Table.{opsIn};
 ghost use Rattle.nexts.specs.Words.{Coding};
 ghost use Rattle.valuer.specs.Values.{Reads, fromInitial, Values, ValueAt, WholeValue};
-ghost use Rattle.valuer.specs.Node.{Here, Node, Iterated};
+ghost use Rattle.valuer.specs.Node.{Here, roundLimit, Node, Iterated};
 
-// The formula at place `at`, where near, mid and far are the maps of the variables, the nearest binder's first, and limit is the most
-// rounds that a fixpoint takes. Its values are written into out; the answer is the place after it. `scratch` is for words, lent since an
-// array here would be one more for each level.
+// The most rounds that a fixpoint takes: each round that changes something moves some state's value along a chain.
+fn round_limit(l: Lattice, m: &[u8]) -> usize
+    requires { ⌜ ModelShape (now m) ⌝ }
+    ensures { λ r. ⌜ r ≡ roundLimit l (now (m .entry)) ⌝ }
+{
+    let n = model::states(m);
+    let size = operations::index(l.size);
+    if size == 0 {
+        return 0;
+    }
+    n * (size - 1)
+}
+
+// The formula at place `at`, where near, mid and far are the maps of the variables, the nearest binder's first. Its values are written into
+// out; the answer is the place after it. `w` is room for the words of a map, lent since an array here would be one more for each level.
 fn value_node(
     t: &[u8; 12352],
     l: Lattice,
     m: &[u8],
     f: &[u8],
     at: usize,
-    limit: usize,
     codes: &[u64; 64],
     words: &[u64],
-    scratch: &mut [u64; 64],
+    w: &mut [u64; 64],
     near: &[u8; 64],
     mid: &[u8; 64],
     far: &[u8; 64],
     out: &mut [u8; 64],
 ) -> usize
     requires { ⌜ ModelShape (now m) × Here (now f) at (getD (now m) 1 0) × Coding (now t) l (now m) (now codes) (now words) ⌝ }
-    ensures { λ r. ⌜ Node (now (t .entry)) l (now (m .entry)) (now (f .entry)) at limit (now (near .entry)) (now (mid .entry)) (now (far .entry)) (now (out .exit)) r ⌝ }
+    ensures { λ r. ⌜ Node (now (t .entry)) l (now (m .entry)) (now (f .entry)) at
+        (now (near .entry)) (now (mid .entry)) (now (far .entry)) (now (out .exit)) r ⌝ }
 {
     let code = f[at];
     let here = at + 1;
@@ -55,73 +70,20 @@ fn value_node(
         4 => variable(near, mid, far, f[here], here + 1, out),
         5 | 6 => {
             let mut y = [0u8; 64];
-            let second = value_node(
-                t,
-                l,
-                m,
-                f,
-                here,
-                limit,
-                codes,
-                words,
-                scratch,
-                near,
-                mid,
-                far,
-                &mut x,
-            );
-            let next = value_node(
-                t,
-                l,
-                m,
-                f,
-                second,
-                limit,
-                codes,
-                words,
-                scratch,
-                near,
-                mid,
-                far,
-                &mut y,
-            );
+            let second = value_node(t, l, m, f, here, codes, words, w, near, mid, far, &mut x);
+            let next = value_node(t, l, m, f, second, codes, words, w, near, mid, far, &mut y);
             combined(t, model::states(m), code, &x, &y, out);
             next
         }
         7 | 8 => {
-            let next = value_node(
-                t,
-                l,
-                m,
-                f,
-                here,
-                limit,
-                codes,
-                words,
-                scratch,
-                near,
-                mid,
-                far,
-                &mut x,
-            );
-            next_values(t, l, m, codes, words, scratch, code, &x, out);
+            let next = value_node(t, l, m, f, here, codes, words, w, near, mid, far, &mut x);
+            next_values(t, l, m, codes, words, w, code, &x, out);
             next
         }
-        9 | 10 => iterate(
-            t,
-            l,
-            m,
-            f,
-            here,
-            limit,
-            codes,
-            words,
-            scratch,
-            near,
-            mid,
-            start_of(l, code == 9),
-            out,
-        ),
+        9 | 10 => {
+            let start = start_of(l, code == 9);
+            iterate(t, l, m, f, here, codes, words, w, near, mid, start, out)
+        }
         11..=255 => here,
     }
 }
@@ -133,37 +95,23 @@ fn iterate(
     m: &[u8],
     f: &[u8],
     body: usize,
-    limit: usize,
     codes: &[u64; 64],
     words: &[u64],
-    scratch: &mut [u64; 64],
+    w: &mut [u64; 64],
     near: &[u8; 64],
     mid: &[u8; 64],
     start: Element,
     out: &mut [u8; 64],
 ) -> usize
     requires { ⌜ ModelShape (now m) × Here (now f) body (getD (now m) 1 0) × Coding (now t) l (now m) (now codes) (now words) ⌝ }
-    ensures { λ r. ⌜ Iterated (now (t .entry)) l (now (m .entry)) (now (f .entry)) body limit (now (near .entry)) (now (mid .entry)) (start .0) (now (out .exit)) r ⌝ }
+    ensures { λ r. ⌜ Iterated (now (t .entry)) l (now (m .entry)) (now (f .entry)) body
+        (now (near .entry)) (now (mid .entry)) (start .0) (now (out .exit)) r ⌝ }
 {
     let n = model::states(m);
     let mut current = [start.0; 64];
-    let mut left = limit;
+    let mut left = round_limit(l, m);
     loop {
-        let next = value_node(
-            t,
-            l,
-            m,
-            f,
-            body,
-            limit,
-            codes,
-            words,
-            scratch,
-            &current,
-            near,
-            mid,
-            out,
-        );
+        let next = value_node(t, l, m, f, body, codes, words, w, &current, near, mid, out);
         if left == 0 {
             *out = current;
             return next;
@@ -174,19 +122,6 @@ fn iterate(
         current = *out;
         left -= 1;
     }
-}
-
-// The most rounds that a fixpoint takes: each round that changes something moves some state's value along a chain.
-fn round_limit(l: Lattice, m: &[u8]) -> usize
-    requires { ⌜ ModelShape (now m) ⌝ }
-    ensures { λ r. ⌜ r ≡ getD (now (m .entry)) 0 0 * (l .size - 1) ⌝ }
-{
-    let n = model::states(m);
-    let size = operations::index(l.size);
-    if size == 0 {
-        return 0;
-    }
-    n * (size - 1)
 }
 
 // The values of a formula part at all states, with the words of the transitions or without.
@@ -203,18 +138,16 @@ fn valued(
 {
     let none = [0u8; 64];
     let mut out = [0u8; 64];
-    let mut scratch = [0u64; 64];
-    let limit = round_limit(l, m);
+    let mut w = [0u64; 64];
     let _ = value_node(
         t,
         l,
         m,
         f,
         0,
-        limit,
         codes,
         words,
-        &mut scratch,
+        &mut w,
         &none,
         &none,
         &none,
@@ -242,42 +175,6 @@ fn values_by_codes(t: &[u8; 12352], l: Lattice, m: &[u8], f: &[u8]) -> [u8; 64]
         return values_by_tables(t, l, m, f);
     }
     valued(t, l, m, f, &codes, &words)
-}
-
-fn one_if(b: bool) -> usize
-    ensures { λ r. ⌜ r ≤ 1 ⌝ }
-{
-    if b {
-        return 1;
-    }
-    0
-}
-
-// How many bytes of f are a or b.
-fn count(f: &[u8], a: u8, b: u8) -> usize
-    ensures { λ r. ⌜ r ≤ length (now (f .entry)) ⌝ }
-{
-    let mut c: usize = 0;
-    for i in 0..f.len() {
-        let x = f[i];
-        c += one_if(x == a || x == b);
-    }
-    c
-}
-
-// Whether AX and EX take longer by the tables than to find codes, in n·n steps, to fill the words, in N·N, and to clear them first. A
-// fixpoint is taken for two rounds more of all that the formula has.
-fn worth(l: Lattice, m: &[u8], f: &[u8]) -> bool
-    requires { ⌜ ModelShape (now m) × Reads (now m) (now f) ⌝ }
-{
-    let states = model::states(m);
-    if states < 8 {
-        return false;
-    }
-    let n = operations::index(l.size);
-    let square = states * states;
-    let steps = count(f, 7, 8) * (1 + 2 * count(f, 9, 10));
-    n * n + square + 1000 < square * steps
 }
 
 // The values of a formula part at all states.

@@ -19,6 +19,7 @@ use Rattle.maps.proofs.combined.Reads as combined-reads
 use Rattle.maps.proofs.constant.Reads as constant-reads
 use Rattle.maps.proofs.literals.Reads as literals-reads
 use Rattle.nexts.proofs.next_values.Reads as next-values-reads
+use Rattle.valuer.proofs.round_limit.Reads as round-limit-reads
 use Rattle.maps.proofs.same.Reads as same-reads
 use Rattle.maps.proofs.start_of.Reads as start-of-reads
 use Rattle.maps.proofs.variable.Reads as variable-reads
@@ -47,36 +48,39 @@ value-node-below t =
 
 -- what each member's callees ask and give, at the measure t
 abbrev i-claims : ℕ → iterate-lts.Claims
-i-claims t = (states-reads.Asked, states-reads.Learnt, value-node-below t, value-node.Post, same-reads.Asked, same-reads.Learnt)
+i-claims t = (states-reads.Asked, states-reads.Learnt, round-limit-reads.Asked, round-limit-reads.Learnt, value-node-below t, value-node.Post, same-reads.Asked, same-reads.Learnt)
 
 abbrev v-claims : ℕ → value-node-lts.Claims
 v-claims t = (constant-reads.Asked, constant-reads.Learnt, variable-reads.Asked, variable-reads.Learnt, literals-reads.Asked, literals-reads.Learnt, value-node-below t, value-node.Post, states-reads.Asked, states-reads.Learnt, combined-reads.Asked, combined-reads.Learnt, next-values-reads.Asked, next-values-reads.Learnt, start-of-reads.Asked, start-of-reads.Learnt, iterate-below t, iterate.Post)
 
 abbrev iterate-Inv-loop : iterate-lts.InvT-loop
-iterate-Inv-loop t l m f body limit codes words scratch₀ near mid out₀ n current₀ left₀ scratch out current left =
-    (left ≤ limit) × Turned t l m f body limit near mid (getD current₀ 0 0) (limit - left) current
+iterate-Inv-loop t l m f body codes words w₀ near mid out₀ n current₀ left₀ w out current left =
+    (left ≤ left₀) × Turned t l m f body near mid (getD current₀ 0 0) (left₀ - left) current
 
 abbrev iterate-μ-loop : iterate-lts.MeasureT-loop
-iterate-μ-loop t l m f body limit codes words scratch₀ near mid out₀ n current₀ left₀ scratch out current left = left
+iterate-μ-loop t l m f body codes words w₀ near mid out₀ n current₀ left₀ w out current left = left
 
 iterate-states-requires : (t : ℕ) → iterate-lts.Need-states-requires (i-claims t) (iterate-at t) iterate.Post iterate-Inv-loop iterate-μ-loop
 iterate-states-requires t c κs = c .before .before .before .pre .1 .0
 
+iterate-round-limit-requires : (t : ℕ) → iterate-lts.Need-round-limit-requires (i-claims t) (iterate-at t) iterate.Post iterate-Inv-loop iterate-μ-loop
+iterate-round-limit-requires t c κs = c .before .before .before .before .pre .1 .0
+
 iterate-loop-holds : (t : ℕ) → iterate-lts.Need-loop-holds (i-claims t) (iterate-at t) iterate.Post iterate-Inv-loop iterate-μ-loop
-iterate-loop-holds t c = (omega arith, turned-none (omega arith) (c .before .before .before .before .pre .1 .0 .states-most))
+iterate-loop-holds t c = (omega arith, turned-none (omega arith) (c .before .before .before .before .before .pre .1 .0 .states-most))
 
 iterate-value-node-requires : (t : ℕ) → iterate-lts.Need-value-node-requires (i-claims t) (iterate-at t) iterate.Post iterate-Inv-loop iterate-μ-loop
-iterate-value-node-requires t c κs = let p = c .before .before .before .before .before .before .before .before .pre in (omega (arith, p .0), p .1)
+iterate-value-node-requires t c κs = let p = c .before .before .before .before .before .before .before .before .before .pre in (omega (arith, p .0), p .1)
 
 iterate-returns : (t : ℕ) → iterate-lts.Need-returns (i-claims t) (iterate-at t) iterate.Post iterate-Inv-loop iterate-μ-loop
-iterate-returns t c = turned-all (c .before .before .before .before .before .loop .inv .1) (c .before .value-node .ensures) (omega arith)
+iterate-returns t c = turned-all (c .before .before .before .before .before .loop .inv .1) (c .before .value-node .ensures) (omega (arith, c .before .before .before .before .before .before .round-limit .ensures))
 
 iterate-same-requires : (t : ℕ) → iterate-lts.Need-same-requires (i-claims t) (iterate-at t) iterate.Post iterate-Inv-loop iterate-μ-loop
 iterate-same-requires t c κs = omega arith
 
 iterate-returns-2 : (t : ℕ) → iterate-lts.Need-returns-2 (i-claims t) (iterate-at t) iterate.Post iterate-Inv-loop iterate-μ-loop
 iterate-returns-2 t c =
-    turned-still (c .before .before .before .before .before .before .before .before .before .loop .inv .1) (c .before .before .before .before .before .value-node .ensures) (omega arith) (c .before .before .before .before .before .before .before .before .before .before .states .result) (omega arith)
+    turned-still (c .before .before .before .before .before .before .before .before .before .loop .inv .1) (c .before .before .before .before .before .value-node .ensures) (omega (arith, c .before .before .before .before .before .before .before .before .before .before .round-limit .ensures)) (c .before .before .before .before .before .before .before .before .before .before .before .states .result) (omega arith)
     (sym (c .before .same .ensures) ∙ c .if2 .taken)
 
 iterate-sub-left : (t : ℕ) → iterate-lts.Need-sub-left (i-claims t) (iterate-at t) iterate.Post iterate-Inv-loop iterate-μ-loop
@@ -171,7 +175,7 @@ value-node-returns-6 : (t : ℕ) → value-node-lts.Need-returns-6 (v-claims t) 
 value-node-returns-6 t c = next-arm (either _ 7 (omega arith) (omega arith)) (c .before .before .before .before .value-node3 .ensures) (c .next-values .ensures)
 
 value-node-returns-7 : (t : ℕ) → value-node-lts.Need-returns-7 (v-claims t) (value-node-at t) value-node.Post
-value-node-returns-7 t c = fixpoint-arm (either _ 9 (omega arith) (omega arith)) (c .before .before .start-of .ensures) (c .iterate .ensures)
+value-node-returns-7 t c = fixpoint-arm (either _ 9 (omega arith) (omega arith)) (c .before .before .before .start-of .ensures) (c .iterate .ensures)
 
 value-node-returns-8 : (t : ℕ) → value-node-lts.Need-returns-8 (v-claims t) (value-node-at t) value-node.Post
 value-node-returns-8 t c = no-arm (c .if4 .left)
@@ -183,6 +187,7 @@ pub +iterate+value-node-spec : {M : Type 1} → statement M
     iterate-Inv-loop
     iterate-μ-loop
     (iterate-states-requires t)
+    (iterate-round-limit-requires t)
     (iterate-loop-holds t)
     (iterate-value-node-requires t)
     (iterate-returns t)

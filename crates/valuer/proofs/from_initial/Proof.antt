@@ -23,7 +23,7 @@ gathered-requires : tie.Need-gathered-requires
 gathered-requires c κs = omega (arith, c .before .before .pre .states-most, c .before .before .pre .exact)
 
 returns : tie.Need-returns
-returns c = let a = c .before .before .before .args in c .gathered .ensures ∙ sum-initial (a .t .now) (a .l) (a .m .now) (a .x .now) (c .before .states .ensures)
+returns c = let a = c .before .before .before .args in rw (sum-initial (a .t .now) (a .l) (a .m .now) (a .x .now) (c .before .states .ensures)) at (c .gathered .ensures)
 
 pub from-initial-spec : {M : Type 1} → statement M
 from-initial-spec = tie.close (tie.spec (λ c κs. search needs) gathered-requires returns)

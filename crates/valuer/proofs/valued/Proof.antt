@@ -1,14 +1,13 @@
 -- `valuer::valued` meets its contract: the answer of the valuer at the first byte.
 use Rattle.valuer.proofs.Arms.{here-read, part-values}
-use borrow.Author.Needs.{needs}
 use Rattle.valuer.proofs.valued.Statement.{statement}
 use Rattle.valuer.proofs.valued.Tie as tie
 
 value-node-requires : tie.Need-value-node-requires
-value-node-requires c κs = (c .before .before .before .before .before .before .before .before .before .pre .0, here-read (c .before .before .before .before .before .before .before .before .before .args .m .now) _ (c .before .before .before .before .before .before .before .before .before .pre .1), c .before .before .before .before .before .before .before .before .before .pre .2)
+value-node-requires c κs = let p = c .before .before .before .before .before .before .before .before .pre in (p .0, here-read (c .before .before .before .before .before .before .before .before .args .m .now) _ (p .1), p .2)
 
 returns : tie.Need-returns
-returns c = part-values (c .value-node .ensures) (c .before .before .before .before .before .before .round-limit .ensures)
+returns c = part-values (c .value-node .ensures)
 
 pub valued-spec : {M : Type 1} → statement M
-valued-spec = tie.close (tie.spec (λ c κs. search needs) value-node-requires returns)
+valued-spec = tie.close (tie.spec value-node-requires returns)

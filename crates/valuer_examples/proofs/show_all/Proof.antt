@@ -1,4 +1,4 @@
--- `valuer_examples::main` is safe and ends: the model has its shape, and each part is read as a formula.
+-- `valuer_examples::show_all` is safe and ends: the model has its shape, and each part is read as a formula.
 use Prim.Native.Nat.{ℕ}
 use mathlib.Core.Path.{refl}
 use mathlib.Core.List.{List, [], _∷_}
@@ -7,8 +7,8 @@ use Rattle.theory.specs.Formula.{prop, negated, var, or, and, AX, EX, mu, nu, b
 use Rattle.theory.specs.Part.{ModelShape}
 use Rattle.formula.specs.Bytes.{formulaReading}
 use borrow.Author.Needs.{needs}
-use Rattle.valuer_examples.proofs.main.Statement.{statement}
-use Rattle.valuer_examples.proofs.main.Tie as tie
+use Rattle.valuer_examples.proofs.show_all.Statement.{statement}
+use Rattle.valuer_examples.proofs.show_all.Tie as tie
 
 -- the model
 m : List ℕ
@@ -46,9 +46,9 @@ show-requires-7 : tie.Need-show-requires-7
 unfolding m formulaReading boundBy overProps nestedBinders
 show-requires-7 c κs = (shape, (nu (mu (or (and (prop 0) (AX (var 1))) (AX (var 0)))), refl))
 
-pub main-spec : {M : Type 1} → statement M
-main-spec =
-    tie.close (tie.spec (λ c κs. search needs) (λ c. search needs) (λ c. search needs) (λ c. search needs) show-requires
+pub show-all-spec : {M : Type 1} → statement M
+show-all-spec =
+    tie.close (tie.spec (λ c. search needs) (λ c. search needs) (λ c. search needs) show-requires
     (λ c. search needs) (λ c. search needs) (λ c. search needs) show-requires-2 (λ c. search needs) (λ c. search needs)
     (λ c. search needs) show-requires-3 (λ c. search needs) (λ c. search needs) (λ c. search needs) show-requires-4
     (λ c. search needs) (λ c. search needs) (λ c. search needs) show-requires-5 (λ c. search needs) (λ c. search needs)

@@ -1,12 +1,12 @@
--- `valuer::worth` meets its contract: the products are small.
+-- `valuer::estimate::worth` meets its contract: the products are small.
 use Prim.Native.Nat.{_+_, _*_, _≤_}
 use lib.ListN.{length}
 use Rattle.model.specs.Places.{prod-le}
 use Rattle.formula.specs.RoundTrip.{formula-part}
 use borrow.Author.Needs.{needs}
 use native.Mathlib.Omega.{arith}
-use Rattle.valuer.proofs.worth.Statement.{statement}
-use Rattle.valuer.proofs.worth.Tie as tie
+use Rattle.valuer.proofs.estimate.worth.Statement.{statement}
+use Rattle.valuer.proofs.estimate.worth.Tie as tie
 
 -- the bytes of the formula, N·N, n·n, and the estimate
 bytes : (c : tie.After-count2) → length (c .before .before .before .before .before .before .before .args .f .now) ≤ 255

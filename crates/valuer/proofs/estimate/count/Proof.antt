@@ -1,10 +1,10 @@
--- `valuer::count` meets its contract: no more than the bytes so far.
+-- `valuer::estimate::count` meets its contract: no more than the bytes so far.
 use Prim.Native.Nat.{_≤_, _-_}
 use lib.ListN.{length}
 use borrow.Author.Needs.{needs}
 use native.Mathlib.Omega.{arith}
-use Rattle.valuer.proofs.count.Statement.{statement}
-use Rattle.valuer.proofs.count.Tie as tie
+use Rattle.valuer.proofs.estimate.count.Statement.{statement}
+use Rattle.valuer.proofs.estimate.count.Tie as tie
 
 abbrev Inv-loop : tie.InvT-loop
 Inv-loop f a b c₀ i₀ i-end c i = (i ≤ i-end) × (c ≤ i) × (i-end ≤ length f)
