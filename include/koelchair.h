@@ -1,5 +1,5 @@
 /* Koelchair's eight calls and its listing for C, C99 or later, and for C++. They stand in target/staticlib/libexports.a, which
-   `rt staticlib exports` proves and writes. The contracts are in crates/exports/src/lib.rt.
+   `rt staticlib exports` proves and writes. The contracts are in crates/exports/src.
 
    A desk is a standing, a store and two tables. The caller keeps all four: the standing as a struct, the others as bytes. A new desk
    is of any content, for instance zeros, and of KOELCHAIR_STORE_LENGTH and KOELCHAIR_TABLE_LENGTH bytes or more. koelchair_open and

@@ -9,6 +9,7 @@ use operations::Lattice;
 use refusal::Refusal;
 ghost use mathlib.Core.Path.{_≡_};
 ghost use Prim.Native.Nat.{_+_, _<_};
+ghost use lib.Dec.{ltb};
 ghost use lib.ListN.{getD};
 ghost use Rattle.casefile.specs.Directory.{partAt};
 ghost use Rattle.valuer.specs.Values.{ValueAt, WholeValue};
@@ -57,13 +58,13 @@ pub fn whole(s: Standing, store: &[u8], first: &[u8], second: &[u8], f: u8, m: u
     }
 }
 
-// N of model m.
-fn states_of(bytes: &[u8], f: u8, m: u8) -> u8
+// Model m has a state q.
+fn has_state(bytes: &[u8], f: u8, m: u8, q: State) -> bool
     requires { ⌜ Valuable (now bytes) f m ⌝ }
-    ensures { λ r. ⌜ r ≡ getD (partAt (now (bytes .entry)) m) 0 0 ⌝ }
+    ensures { λ r. ⌜ r ≡ ltb (q .0) (getD (partAt (now (bytes .entry)) m) 0 0) ⌝ }
 {
     let model = casefile::part(bytes, m);
-    model[0]
+    q.0 < model[0]
 }
 
 fn value_of(t: &[u8; 12352], l: Lattice, bytes: &[u8], f: u8, m: u8, q: State) -> Element
@@ -96,7 +97,7 @@ pub fn value(
                 return ElementAnswer::Refused(Refusal::OutOfRange);
             }
             let bytes = &store[..24576];
-            if states_of(bytes, f, m) <= q.0 {
+            if !has_state(bytes, f, m, q) {
                 return ElementAnswer::Refused(Refusal::OutOfRange);
             }
             ElementAnswer::Is(value_of(&t, l, bytes, f, m, q))

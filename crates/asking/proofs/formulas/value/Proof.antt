@@ -3,8 +3,7 @@ use mathlib.Core.Path.{refl, sym, _∙_}
 use Rattle.desk.specs.Desk.{Desk, Call, Question}
 use Rattle.examination.specs.Read.{deskOf}
 use Rattle.examination.specs.Held.{HeldDesk, when-held, refused-call}
-use borrow.Author.Tests.{not-true, not-false, lt-ltb, le-ltb}
-use native.Mathlib.Omega.{arith}
+use borrow.Author.Tests.{not-true, not-false, ltb-true}
 use lib.Seq.{length-take-le}
 use Rattle.asking.specs.Questions.{valuable, held-value, value-outside, value-state}
 use borrow.Author.Needs.{needs}
@@ -28,30 +27,30 @@ slice-aggregate-bytes c =
     let z = c .before .before .before .before .before in
     sym (length-take-le 24576 (desk (z .before .before) .store) (held z .lengths .store-long))
 
-states-of-requires : tie.Need-states-of-requires
-states-of-requires c κs =
+has-state-requires : tie.Need-has-state-requires
+has-state-requires c κs =
     let z = c .before .before .before .before .before in
     valuable (held z) _ _ (sym (c .before .before .in-range .ensures) ∙ not-false _ (c .before .if1 .left))
 
 returns-2 : tie.Need-returns-2
 returns-2 c =
-    let z = c .before .before .before .before .before .before .before .before in
-    value-state (held z) _ _ _ (sym (c .before .before .before .before .before .in-range .ensures) ∙ not-false _ (c .before .before .before .before .if1 .left)) (rw (c .before .before .states-of .ensures) at (le-ltb (c .before .before .before .before .before .before .before .before .before .before .before .before .before .before .before .args .q .0) (c .before .before .states-of .result) (omega (arith, c .if2 .taken))))
+    let z = c .before .before .before .before .before .before .before in
+    value-state (held z) _ _ _ (sym (c .before .before .before .before .in-range .ensures) ∙ not-false _ (c .before .before .before .if1 .left)) (sym (c .before .has-state .ensures) ∙ not-true _ (c .if2 .taken))
 
 value-of-requires : tie.Need-value-of-requires
 value-of-requires c κs =
-    let z = c .before .before .before .before .before .before .before .before .before in
-    (valuable (held z) _ _ (sym (c .before .before .before .before .before .before .in-range .ensures) ∙ not-false _ (c .before .before .before .before .before .if1 .left)), rw (c .before .before .before .states-of .ensures) at (c .before .if2 .left))
+    let z = c .before .before .before .before .before .before .before .before in
+    (valuable (held z) _ _ (sym (c .before .before .before .before .before .in-range .ensures) ∙ not-false _ (c .before .before .before .before .if1 .left)), ltb-true _ _ (sym (c .before .before .has-state .ensures) ∙ not-false _ (c .before .if2 .left)))
 
 returns-3 : tie.Need-returns-3
 returns-3 c = refused-call (Call.Ask (Question.Value (c .before .before .before .before .before .before .before .before .args .f) (c .before .before .before .before .before .before .before .before .args .m) (c .before .before .before .before .before .before .before .before .args .q .0))) (desk (c .before .before .before)) _ _ _ refl (c .before .before .before .examine .ensures) (c .before .x .given .1)
 
 returns-4 : tie.Need-returns-4
 returns-4 c =
-    let z = c .before .before .before .before .before .before .before .before .before .before in
-    held-value (held z) _ _ _ _ (sym (c .before .before .before .before .before .before .before .in-range .ensures) ∙ not-false _ (c .before .before .before .before .before .before .if1 .left)) (rw (c .before .before .before .before .states-of .ensures) at (lt-ltb _ _ (c .before .before .if2 .left))) (c .value-of .ensures)
+    let z = c .before .before .before .before .before .before .before .before .before in
+    held-value (held z) _ _ _ _ (sym (c .before .before .before .before .before .before .in-range .ensures) ∙ not-false _ (c .before .before .before .before .before .if1 .left)) (sym (c .before .before .before .has-state .ensures) ∙ not-false _ (c .before .before .if2 .left)) (c .value-of .ensures)
 
 pub value-spec : {M : Type 1} → statement M
 value-spec =
     tie.close (tie.spec (λ c κs. search needs) (λ c. search needs) (λ c. search needs) (λ c κs. search needs) returns
-    slice-aggregate-bytes states-of-requires returns-2 value-of-requires returns-3 returns-4)
+    slice-aggregate-bytes has-state-requires returns-2 value-of-requires returns-3 returns-4)

@@ -1,0 +1,10 @@
+-- `exports::koelchair_step` meets its contract: what the call does, told in numbers.
+use Rattle.exports.specs.Told.{told}
+use borrow.Author.Needs.{needs}
+use Rattle.exports.proofs.moves.koelchair_step.Statement.{statement}
+use Rattle.exports.proofs.moves.koelchair_step.Tie as tie
+
+pub koelchair-step-spec : {M : Type 1} → statement M
+koelchair-step-spec =
+    tie.close (tie.spec (λ c κs. search needs) (λ c κs. search needs) (λ c. search needs) (λ c. search needs)
+    (λ c. told _ _ _ _ _ (c .before .before .before .before .before .before .step .ensures) (c .stepped .ensures)))

@@ -1,0 +1,14 @@
+-- `exports::element` meets its contract: by the case of the call's answer.
+use mathlib.Core.Path.{ap, _∙_}
+use Rattle.calls.specs.Answer.{elementReply}
+use Rattle.exports.specs.Numbers.{given}
+use Rattle.exports.specs.Told.{by-case}
+use borrow.Author.Needs.{needs}
+use Rattle.exports.proofs.numbers.element.Statement.{statement}
+use Rattle.exports.proofs.numbers.element.Tie as tie
+
+pub element-spec : {M : Type 1} → statement M
+element-spec =
+    tie.close (tie.spec (λ c. search needs) (λ c κs. search needs) (λ c. search needs) (λ c κs. search needs)
+    (λ c κs. search needs) (λ c. by-case elementReply _ _ _ (c .before .before .a .given .1) (c .refused .ensures))
+    (λ c. by-case elementReply _ _ _ (c .before .before .before .a2 .given .1) (c .plain .ensures ∙ ap (given 5) (c .before .wide .ensures))))

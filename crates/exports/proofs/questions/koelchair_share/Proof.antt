@@ -1,0 +1,10 @@
+-- `exports::koelchair_share` meets its contract: what the call does, told in numbers.
+use Rattle.exports.specs.Told.{told}
+use borrow.Author.Needs.{needs}
+use Rattle.exports.proofs.questions.koelchair_share.Statement.{statement}
+use Rattle.exports.proofs.questions.koelchair_share.Tie as tie
+
+pub koelchair-share-spec : {M : Type 1} → statement M
+koelchair-share-spec =
+    tie.close (tie.spec (λ c κs. search needs) (λ c κs. search needs)
+    (λ c. told _ _ _ _ _ (c .before .share .ensures) (c .per-cent .ensures)))

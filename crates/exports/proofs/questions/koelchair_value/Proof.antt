@@ -1,0 +1,10 @@
+-- `exports::koelchair_value` meets its contract: what the call does, told in numbers.
+use Rattle.exports.specs.Told.{told}
+use borrow.Author.Needs.{needs}
+use Rattle.exports.proofs.questions.koelchair_value.Statement.{statement}
+use Rattle.exports.proofs.questions.koelchair_value.Tie as tie
+
+pub koelchair-value-spec : {M : Type 1} → statement M
+koelchair-value-spec =
+    tie.close (tie.spec (λ c κs. search needs) (λ c κs. search needs)
+    (λ c. told _ _ _ _ _ (c .before .value .ensures) (c .element .ensures)))

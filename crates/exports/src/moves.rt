@@ -1,0 +1,49 @@
+// The calls that move the standing on.
+use crate::Moved;
+use crate::numbers::opened;
+use crate::numbers::stepped;
+use calls::Standing;
+ghost use Rattle.desk.specs.Desk.{Call};
+ghost use Rattle.examination.specs.Read.{deskOf};
+ghost use Rattle.exports.specs.Numbers.{Tells};
+
+// Takes a case, and makes the desk anew.
+#[no_mangle]
+pub extern "C" fn koelchair_open(
+    s: Standing,
+    case: &[u8],
+    store: &mut [u8],
+    first: &mut [u8],
+    second: &mut [u8],
+) -> Moved
+    ensures { λ r. ⌜ Tells (Call.Open (now (case .entry))) (deskOf s (now (store .entry)) (now (first .entry)) (now (second .entry)))
+        (r .answer) (deskOf (r .standing) (now (store .exit)) (now (first .exit)) (now (second .exit))) ⌝ }
+{
+    let o = calls::open(s, case, store, first, second);
+    let after = o.standing;
+    let a = o.answer;
+    Moved {
+        standing: after,
+        answer: opened(a),
+    }
+}
+
+// Works the next row.
+#[no_mangle]
+pub extern "C" fn koelchair_step(
+    s: Standing,
+    store: &[u8],
+    first: &mut [u8],
+    second: &mut [u8],
+) -> Moved
+    ensures { λ r. ⌜ Tells Call.Step (deskOf s (now (store .entry)) (now (first .entry)) (now (second .entry)))
+        (r .answer) (deskOf (r .standing) (now (store .entry)) (now (first .exit)) (now (second .exit))) ⌝ }
+{
+    let o = calls::step(s, store, first, second);
+    let next = o.standing;
+    let a = o.answer;
+    Moved {
+        standing: next,
+        answer: stepped(a),
+    }
+}

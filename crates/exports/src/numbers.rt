@@ -1,0 +1,92 @@
+// The calls' answers as numbers.
+use crate::Answer;
+use calls::ElementAnswer;
+use calls::JudgeAnswer;
+use calls::OpenAnswer;
+use calls::ShareAnswer;
+use calls::StepAnswer;
+use refusal::Refusal;
+ghost use mathlib.Core.Path.{_≡_};
+ghost use Rattle.desk.specs.Refused.{numberReply};
+ghost use Rattle.calls.specs.Answer.{stepReply, openReply, elementReply, shareReply, judgeReply};
+ghost use Rattle.exports.specs.Numbers.{given, numbers};
+
+pub fn refused(f: Refusal) -> Answer
+    ensures { λ r. ⌜ r ≡ numbers (numberReply f) ⌝ }
+{
+    Answer {
+        kind: 0,
+        number: refusal::number(f),
+        part: refusal::part(f),
+        value: 0,
+    }
+}
+
+pub fn plain(kind: u8, value: u32) -> Answer
+    ensures { λ r. ⌜ r ≡ given kind value ⌝ }
+{
+    Answer {
+        kind: kind,
+        number: 0,
+        part: 0,
+        value: value,
+    }
+}
+
+fn wide(x: u8) -> u32
+    ensures { λ r. ⌜ r ≡ x ⌝ }
+{
+    x as u32
+}
+
+pub fn opened(a: OpenAnswer) -> Answer
+    ensures { λ r. ⌜ r ≡ numbers (openReply a) ⌝ }
+{
+    match a {
+        OpenAnswer::Refused(f) => refused(f),
+        OpenAnswer::Opened => plain(1, 0),
+    }
+}
+
+pub fn stepped(a: StepAnswer) -> Answer
+    ensures { λ r. ⌜ r ≡ numbers (stepReply a) ⌝ }
+{
+    match a {
+        StepAnswer::Refused(f) => refused(f),
+        StepAnswer::Row => plain(2, 0),
+        StepAnswer::Round(r) => plain(3, r),
+        StepAnswer::Settled(t) => plain(4, t),
+    }
+}
+
+pub fn element(a: ElementAnswer) -> Answer
+    ensures { λ r. ⌜ r ≡ numbers (elementReply a) ⌝ }
+{
+    match a {
+        ElementAnswer::Refused(f) => refused(f),
+        ElementAnswer::Is(e) => plain(5, wide(e.0)),
+    }
+}
+
+pub fn per_cent(a: ShareAnswer) -> Answer
+    ensures { λ r. ⌜ r ≡ numbers (shareReply a) ⌝ }
+{
+    match a {
+        ShareAnswer::Refused(f) => refused(f),
+        ShareAnswer::PerCent(p) => plain(6, wide(p)),
+    }
+}
+
+pub fn judged(a: JudgeAnswer) -> Answer
+    ensures { λ r. ⌜ r ≡ numbers (judgeReply a) ⌝ }
+{
+    match a {
+        JudgeAnswer::Refused(f) => refused(f),
+        JudgeAnswer::Says(yes) => {
+            if yes {
+                return plain(7, 1);
+            }
+            plain(7, 0)
+        }
+    }
+}
