@@ -69,7 +69,7 @@ fn rows(
     requires { ⌜ Sized states (now m1) × Sized states (now m2) × (length (now s) ≡ 4096) × (length (now out) ≡ 4096) ⌝ }
 {
     for i in 0..count {
-        rounds::row(t, l, m1, m2, s, out, State((i % (states as usize)) as u8));
+        rowcodes::row(t, l, m1, m2, s, out, State((i % (states as usize)) as u8));
     }
 }
 
@@ -87,7 +87,7 @@ fn whole(
     requires { ⌜ Sized states (now m1) × Sized states (now m2) × (length (now s) ≡ 4096) × (length (now out) ≡ 4096) ⌝ }
 {
     for _ in 0..count {
-        rounds::round(t, l, m1, m2, s, out);
+        rowcodes::round(t, l, m1, m2, s, out);
     }
 }
 

@@ -1,4 +1,4 @@
--- `calls::simulation_of` meets its contract: by that of `rounds::is_simulation`.
+-- `calls::simulation_of` meets its contract: by that of `rowcodes::is_simulation`.
 use borrow.Author.Needs.{needs}
 use Rattle.calls.proofs.asking.simulation_of.Statement.{statement}
 use Rattle.calls.proofs.asking.simulation_of.Tie as tie
