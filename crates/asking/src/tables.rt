@@ -100,7 +100,7 @@ fn simulation_of(t: &[u8; 12352], l: Lattice, bytes: &[u8], table: &[u8]) -> boo
 {
     let m1 = casefile::part(bytes, 1);
     let m2 = casefile::part(bytes, 2);
-    rounds::is_simulation(t, l, m1, m2, table)
+    rowcodes::is_simulation(t, l, m1, m2, table)
 }
 
 // Whether a table is a simulation.

@@ -32,7 +32,7 @@ fn rows(t: &[u8; 12352], l: Lattice, m1: &[u8], m2: &[u8], s: &[u8], out: &mut [
     requires { ⌜ Full (now m1) × Full (now m2) × (length (now s) ≡ 4096) × (length (now out) ≡ 4096) ⌝ }
 {
     for q in 0..64u8 {
-        rounds::row(t, l, m1, m2, s, out, State(q));
+        rowcodes::row(t, l, m1, m2, s, out, State(q));
     }
 }
 

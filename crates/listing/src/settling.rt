@@ -26,10 +26,10 @@ fn settle(
 {
     let mut r: usize = 0;
     loop {
-        if !rounds::round(t, l, m1, m2, first, second) {
+        if !rowcodes::round(t, l, m1, m2, first, second) {
             return r + 1;
         }
-        if !rounds::round(t, l, m1, m2, second, first) {
+        if !rowcodes::round(t, l, m1, m2, second, first) {
             return r + 2;
         }
         r += 2;

@@ -31,7 +31,7 @@ fn work_row(
 {
     let m1 = casefile::part(bytes, 1);
     let m2 = casefile::part(bytes, 2);
-    rounds::row(t, l, m1, m2, whole, other, row)
+    rowcodes::row(t, l, m1, m2, whole, other, row)
 }
 
 fn either(a: bool, b: bool) -> bool

@@ -7,5 +7,3 @@ pub mod Share
 -- ---- for the code
 pub mod Row
 pub mod Entry
-pub mod Folded
-pub mod Codes

@@ -1,5 +1,13 @@
 -- A whole round by its rows is F; no row changed exactly when the round equals the one before; the test for a simulation.
 -- Rests on Table, Row, and theory's Simulation, Rounds, Loop, Test.
+--   RoundSoFar, RoundIn: the rows below q are worked, with what they changed; a whole round on bytes
+--   round-none, round-more, round-reached: no row, one row more, all rows
+--   round-done, RoundDone: after all rows of round r the table is round r + 1, unchanged exactly when the two are equal
+--   round-test, simulation-test: a round that changes nothing is the test for a simulation, which exactly the simulations pass
+--   top-round, byte-at, shown-bytes, cell-lt: round 0; the entries as bytes
+--   Worked, worked-none, worked-more, worked-all, worked-cong, worked-round, row-elements: the rows alone
+--   changed-none, changed-more, changed-cong, row-same-cong, unchanged-simulation, unchanged-round: what changed alone
+--   ReadsPairs, F-reads, share-cong: F and share read no more than the pairs of states
 use Prim.Native.Nat.{ℕ, suc, _+_, _*_, _/_, _%_, _≤_, _<_}
 use mathlib.Core.Path.{_≡_, refl, sym, ap, ap₂, _∙_}
 use mathlib.Core.Bool.{Bool, true, false, not, _||_}
@@ -14,16 +22,17 @@ use lib.ListN.{length, getD, take}
 use lib.Seq.{ext-getD, getD-take, length-take-le}
 use Rattle.theory.specs.Lattice.{Ops, Element}
 use Rattle.theory.specs.Model.{Model}
+use Rattle.theory.specs.Part.{modelOf}
 use Rattle.theory.specs.Simulation.{F, roundOf, SameTable, FixedBy, perCent, share}
 use Rattle.theory.specs.Rounds.{F-cong}
-use Rattle.theory.specs.Loop.{tab-at, tab-length}
+use Rattle.theory.specs.Loop.{tab-at, tab-length, count-cong}
 use Rattle.theory.specs.Lists.{tab}
 use Rattle.theory.specs.Written.{written-length, written-at, written-before, written-after, written-all}
 use Rattle.theory.specs.Test.{allBelow}
 use Rattle.theory.specs.TestLaws.{all-at, all-in, all-cong}
+use Rattle.operations.specs.declared.Lattice.{Lattice}
 use Rattle.model.specs.Places.{row-le}
-use Rattle.rounds.specs.Folded.{count-cong}
-use Rattle.rounds.specs.Table.{tableOf, rowWritten, entrySame, rowSame, rowChanged, changedBelow, simulationTest}
+use Rattle.rounds.specs.Table.{tableOf, rowWritten, entrySame, rowSame, rowChanged, changedBelow, simulationTest, FIn}
 use Rattle.rounds.specs.Row.{not-and}
 
 -- in `out` the rows below q are those of F S, and every byte past them is that of `before`
@@ -166,6 +175,11 @@ module _ (O : Ops ℕ) (M₁ M₂ : Model ℕ) (G : (ℕ → ℕ → ℕ) → �
 pub record RoundSoFar (M₁ M₂ : Model ℕ) (G : (ℕ → ℕ → ℕ) → ℕ → ℕ → ℕ) (S : ℕ → ℕ → ℕ) (before : List ℕ) (q : ℕ) (out : List ℕ) (changed : Bool) : Type 0 where
   pub worked : Worked M₁ M₂ G S before q out
   pub changed-is : changed ≡ changedBelow M₁ M₂ G S q
+
+-- the same on bytes, of a whole round: F of the table s is worked into `before`, which gives `out`
+abbrev pub RoundIn : List ℕ → Lattice → List ℕ → List ℕ → List ℕ → List ℕ → List ℕ → Bool → Type 0
+RoundIn t l m₁ m₂ s before out changed =
+    RoundSoFar (modelOf m₁) (modelOf m₂) (FIn t l m₁ m₂) (tableOf s (getD m₂ 0 0)) before (getD m₁ 0 0) out changed
 
 module _ {M₁ M₂ : Model ℕ} {G : (ℕ → ℕ → ℕ) → ℕ → ℕ → ℕ} {S : ℕ → ℕ → ℕ} {before : List ℕ} where
   pub round-none : RoundSoFar M₁ M₂ G S before 0 before false

@@ -61,12 +61,13 @@ pub not-and : (a b : Bool) → not (a && b) ≡ (not a || not b)
 not-and true b = refl
 not-and false b = refl
 
-pub row-more : {at : ℕ} {f g : ℕ → ℕ} {before : List ℕ} {q : ℕ} {out : List ℕ} {changed now : Bool} {d e : ℕ} → RowSoFar at f g before q out changed → at + q < length before → d ≡ g q → e ≡ f q → now ≡ (changed || not (eqb d e)) → RowSoFar at f g before (q + 1) (set out (at + q) e) now
+-- one entry more: e is written where d stood in the table that is read
+pub row-more : {at : ℕ} {f g : ℕ → ℕ} {before : List ℕ} {q : ℕ} {out : List ℕ} {changed : Bool} {d e : ℕ} → RowSoFar at f g before q out changed → at + q < length before → d ≡ g q → e ≡ f q → RowSoFar at f g before (q + 1) (set out (at + q) e) (changed || not (eqb d e))
 unfolding allBelow
-row-more {at} {f} {g} {before} {q} {out} {changed} {now} {d} {e} u l p r z =
+row-more {at} {f} {g} {before} {q} u l p r =
     record {
       out-is = rw (u .out-is, r) (written-turn at f q before l);
-      changed-is = z ∙ rw (add-one, p, r, u .changed-is, not-and);
+      changed-is = rw (add-one, p, r, u .changed-is, not-and);
     }
 
 -- at the loop's end the counter has reached the row's end

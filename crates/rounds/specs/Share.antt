@@ -1,12 +1,14 @@
--- Share by the tables of a lattice. Rests on theory's Simulation and operations' Table.
-use Prim.Native.Nat.{ℕ}
+-- Share by the tables of a lattice. Rests on Table, theory's Simulation and Loop, and operations' Table.
+use Prim.Native.Nat.{ℕ, _*_, _/_, _<_}
 use mathlib.Core.Path.{_≡_, refl, ap}
 use mathlib.Core.List.{List}
+use native.Mathlib.Nat.{div-lt-iff-lt-mul}
+use native.Mathlib.Omega.{arith}
 use lib.ListN.{getD}
 use Rattle.theory.specs.Simulation.{perCent, share}
+use Rattle.theory.specs.Loop.{Counted}
 use Rattle.operations.specs.declared.Lattice.{Lattice}
 use Rattle.operations.specs.Table.{atMostIn, opsIn}
-use Rattle.rounds.specs.Folded.{Counted}
 use Rattle.rounds.specs.Table.{shareIn}
 
 -- it is theory's share, whatever the lattice's size and bounds
@@ -18,3 +20,7 @@ share-in t l e s n = refl
 pub share-counted : (t : List ℕ) (e : ℕ) (s : List ℕ) (n c : ℕ) → Counted (λ i. atMostIn t e (getD s i 0)) n c → perCent c n ≡ shareIn t e s n
 unfolding shareIn
 share-counted t e s n c u = ap (λ (x : ℕ). perCent x n) (u .eq)
+
+-- a quotient by twice t, as a per cent is, fits a byte
+pub percent-fits : {x t : ℕ} → 0 < t → x < 256 * (2 * t) → x / (2 * t) < 256
+percent-fits {x} {t} p h = div-lt-iff-lt-mul {k = 2 * t} {x = x} {y = 256} (omega arith) .1 h

@@ -4,7 +4,7 @@ use native.Mathlib.Omega.{arith}
 use borrow.Author.Needs.{needs}
 use lib.ListN.{getD}
 use Rattle.operations.specs.Table.{atMostIn}
-use Rattle.rounds.specs.Folded.{Counted, one-most, counted-none, counted-more, counted-all}
+use Rattle.theory.specs.Loop.{Counted, one-most, counted-none, counted-more, counted-all}
 use Rattle.rounds.proofs.count_from.Statement.{statement}
 use Rattle.rounds.proofs.count_from.Tie as tie
 

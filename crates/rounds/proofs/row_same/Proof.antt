@@ -6,11 +6,9 @@ use borrow.Author.Needs.{needs}
 use lib.ListN.{getD}
 use Rattle.theory.specs.Part.{modelOf}
 use Rattle.theory.specs.TestLaws.{all-fails}
-use Rattle.operations.specs.Table.{opsIn}
-use Rattle.theory.specs.Simulation.{F}
-use Rattle.rounds.specs.Table.{tableOf, entrySame, rowSame}
+use Rattle.rounds.specs.Table.{tableOf, entrySame, rowSame, FIn}
 use Rattle.rounds.specs.Row.{RowAt, row-at, row-entry, same-eqb, differ-eqb}
-use Rattle.rounds.specs.Folded.{Passed, passed-none, passed-more, passed-all}
+use Rattle.theory.specs.Loop.{Passed, passed-none, passed-more, passed-all}
 use Rattle.rounds.proofs.row_same.Statement.{statement}
 use Rattle.rounds.proofs.row_same.Tie as tie
 
@@ -18,7 +16,7 @@ abbrev Inv-loop : tie.InvT-loop
 Inv-loop t l m1 m2 s q1 n2 at q2₀ q2 =
     RowAt m1 m2 (q1 .0) n2 at
     × (q2 ≤ n2)
-    × Passed (entrySame (modelOf m1) (modelOf m2) (F (opsIn t l) (modelOf m1) (modelOf m2)) (tableOf s (getD m2 0 0)) (q1 .0)) q2
+    × Passed (entrySame (modelOf m1) (modelOf m2) (FIn t l m1 m2) (tableOf s (getD m2 0 0)) (q1 .0)) q2
 
 abbrev μ-loop : tie.MeasureT-loop
 μ-loop t l m1 m2 s q1 n2 at q2₀ q2 = n2 - q2

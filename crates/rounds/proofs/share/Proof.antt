@@ -1,7 +1,6 @@
 -- `rounds::share` meets its contract: the count, as a per cent. Assumes nothing.
 use native.Mathlib.Omega.{arith}
-use Rattle.rounds.specs.Folded.{percent-fits}
-use Rattle.rounds.specs.Share.{share-counted}
+use Rattle.rounds.specs.Share.{share-counted, percent-fits}
 use borrow.Author.Needs.{needs}
 use Rattle.rounds.proofs.share.Statement.{statement}
 use Rattle.rounds.proofs.share.Tie as tie

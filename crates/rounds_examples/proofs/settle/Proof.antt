@@ -19,27 +19,27 @@ loop-holds c =
     let p = c .before .before .before .before .pre in
     (omega arith, refl, refl, rw (c .before .states .ensures, c .states2 .ensures) (p .3), p .3)
 
-work-requires : tie.Need-work-requires Inv-loop μ-loop
-work-requires c κs =
+round-requires : tie.Need-round-requires Inv-loop μ-loop
+round-requires c κs =
     let p = c .before .before .before .before .before .before .before .before .pre in
     (record { first = p .0; second = p .1; same-propositions = p .2; held = omega arith }, omega arith)
 
 show-round-requires : tie.Need-show-round-requires Inv-loop μ-loop
-show-round-requires c κs = omega (arith, c .before .before .work .ensures .worked .same-length)
+show-round-requires c κs = omega (arith, c .before .before .round .ensures .worked .same-length)
 
 show-settled-requires : tie.Need-show-settled-requires Inv-loop μ-loop
 show-settled-requires c κs =
     let p = c .before .before .before .before .before .before .before .before .before .before .before .before .before .before .pre in
-    record { first = p .0; second = p .1; same-propositions = p .2; held = omega (arith, c .before .before .before .before .before .work .ensures .worked .same-length) }
+    record { first = p .0; second = p .1; same-propositions = p .2; held = omega (arith, c .before .before .before .before .before .round .ensures .worked .same-length) }
 
 loop-again : tie.Need-loop-again Inv-loop μ-loop
 loop-again c =
     let i = c .before .before .before .before .before .before .before .before .loop .inv in
-    let e = c .before .before .before .before .work .ensures .worked .same-length ∙ i .2 in
+    let e = c .before .before .before .before .round .ensures .worked .same-length ∙ i .2 in
     (omega arith, e, e, i .3, i .4)
 
 pub settle-spec : {M : Type 1} → statement M
 settle-spec =
     tie.close (tie.spec Inv-loop μ-loop (λ c κs. search needs) (λ c κs. search needs) loop-holds (λ c. search needs)
-    (λ c. search needs) work-requires (λ c. search needs) show-round-requires (λ c. search needs) show-settled-requires
+    (λ c. search needs) round-requires (λ c. search needs) show-round-requires (λ c. search needs) show-settled-requires
     (λ c. search needs) (λ c. search needs) (λ c. search needs) loop-again (λ c. search needs))

@@ -1,4 +1,4 @@
--- `asking::simulation_of` meets its contract: by that of `rounds::is_simulation`.
+-- `asking::simulation_of` meets its contract: by that of `rowcodes::is_simulation`.
 use borrow.Author.Needs.{needs}
 use Rattle.asking.proofs.tables.simulation_of.Statement.{statement}
 use Rattle.asking.proofs.tables.simulation_of.Tie as tie

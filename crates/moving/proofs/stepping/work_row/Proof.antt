@@ -1,4 +1,4 @@
--- `moving::work_row` meets its contract: by that of `rounds::row`.
+-- `moving::work_row` meets its contract: by that of `rowcodes::row`.
 use Prim.Native.Nat.{ℕ}
 use mathlib.Core.Path.{_≡_}
 use mathlib.Core.Bool.{Bool}

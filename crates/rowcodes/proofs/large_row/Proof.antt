@@ -1,0 +1,12 @@
+-- `rowcodes::large_row` meets its contract. Assumes nothing.
+use borrow.Author.Needs.{needs}
+use Rattle.rowcodes.proofs.large_row.Statement.{statement}
+use Rattle.rowcodes.proofs.large_row.Tie as tie
+
+coded-row-requires : tie.Need-coded-row-requires
+coded-row-requires c κs = (c .before .before .before .before .before .before .before .before .before .before .before .before .before .before .pre .0, c .before .before .before .before .before .before .prepare .ensures (c .before .before .before .before .if1 .taken), c .before .before .before .before .before .before .before .before .before .before .before .before .before .before .pre .1, c .before .before .before .before .before .before .before .before .before .before .before .before .before .before .pre .2)
+
+pub large-row-spec : {M : Type 1} → statement M
+large-row-spec =
+    tie.close (tie.spec (λ c. search needs) (λ c κs. search needs) coded-row-requires (λ c. search needs)
+    (λ c. search needs) (λ c κs. search needs) (λ c. search needs) (λ c. search needs))
