@@ -1,7 +1,7 @@
 -- The content of a case, or its refusal. Rests on Directory, and on the readings of lattice, model and formula parts.
 --   Content, contentParts: what an accepted case holds, and its parts
---   caseReading: the content of a case, or its refusal; storeReading: that of a store
---   partsReading, afterLattice, modelsReading, afterFormulas, formulasReading, readOne: its steps, part by part
+--   caseReading: the content of a case, or its refusal (CaseReading); storeReading: that of a store
+--   partsReading, afterLattice, modelsReading, afterFormulas, formulasReading (FormulasReading), readOne: its steps, part by part
 use Prim.Native.Nat.{ℕ, suc, _-_}
 use mathlib.Core.Bool.{cond, _&&_}
 use mathlib.Core.List.{List, [], _∷_}

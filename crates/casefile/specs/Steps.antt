@@ -1,5 +1,6 @@
 -- What the steps of the check answer, and what the steps of the writer leave in a buffer. Rests on Answer and Gapless.
---   wellPlaced, isRead, formulasAnswer, restAnswer, secondAnswer, modelsAnswer, partsAnswer, PartsAnswered: what the steps of the check answer
+--   wellPlaced, isRead, isAccepted: the tests of the check; partsAnswer, PartsAnswered: what it answers for the parts
+--   afterChecked, modelsAnswer, afterFirst, secondAnswer, afterSecond, restAnswer, restOf, formulasAnswer: the same step by step
 --   withWord, withPair, withPairs, withParts: what the steps of the writer leave in a buffer
 use Prim.Native.Nat.{ℕ, _+_, _*_, _-_, _/_, _%_}
 use mathlib.Core.Path.{_≡_}

@@ -1,7 +1,7 @@
 -- The two calls that move the desk: open and step. Rests on Desk, Case, theory's Lists, casefile's Reading and Gapless, rounds' Table.
---   opened: the desk after an accepted opening
---   rowWorked, changedNow: the row of F that a step works, and whether anything has changed in this round by then
---   nextRow, nextRound, movedOn: the standing after a row
+--   opened: the desk after an accepted opening; fresh, stored, topped: its standing, its store and its tables
+--   shownTable: the table that is shown; rowWorked, changedNow: the row of F that a step works, and whether this round has changed anything by then
+--   nextRow, nextRound, movedOn: the standing after a row; worked: the desk after it
 --   stepped, stepAnswer: the desk after an accepted step, and what it answers
 use Prim.Native.Nat.{ℕ, _+_}
 use mathlib.Core.Bool.{Bool, false, cond, not, _||_}

@@ -1,8 +1,9 @@
 -- Which refusal a call gets, or the content that it works on. Rests on Desk, Case, theory's Test, casefile's Reading, and refusal.
---   short: 11, a buffer is too short
---   Rules, rulesKept, spoiled: 12, the rules of the standing, the store and the tables, and their tests
---   InRange, inRange: 13, the ranges of a question's arguments, and their test
---   examined, accepted: the refusal that a call gets, or the content that it works on
+--   short, by tooShort: 11, a buffer is too short
+--   Rules: 12, the rules of the standing, the store and the tables; spoiled, by spoiledAs, keptFor and rulesKept: their test
+--   sizesKept, rowKept, settledKept, roundKept, standingKept, tableKept: the test rule by rule
+--   InRange, inRange, callInRange: 13, the ranges of a question's arguments, and their test, by hasFormula, isModel and hasState
+--   examined: the refusal that a call gets, or the content that it works on, by afterShort and ofStore; accepted, by isContent: it gets none
 --   numberReply, refusedReply: what a refused call answers
 use Prim.Native.Nat.{ℕ, _+_, _*_, _-_, _≤_, _<_}
 use mathlib.Core.Path.{_≡_}

@@ -1,8 +1,9 @@
 -- Theorems on which refusal a call gets, or the content that it works on: for demand 1, demand 3 and the proofs of the code.
 -- Rests on Refused, Perform and RulesLaws.
 --   perform-refused, perform-accepted: what a call does, from its examination
---   is-short, open-long, is-spoiled, in-store: which refusal, and when
---   open-accepted, outcome, other-accepted: what an accepted call knows of its desk
+--   is-short, open-long, is-spoiled, in-store: which refusal, and when; Unspoiled: neither 11 nor 12 applies
+--   OpenAccepted, open-accepted, OtherAccepted, other-accepted: what an accepted call knows of its desk
+--   Outcome, outcome: what may come of a call that does not open; opens-or-not: a call opens or does not
 --   accepted-content, refused-refusal, content-accepted: accepted or refused, and never both
 use Prim.Native.Nat.{ℕ}
 use mathlib.Core.Path.{_≡_, refl, sym, ap, _∙_}

@@ -1,5 +1,6 @@
 -- Lists of calls, and what demand 3 says of one: the last accepted opening, s, r and the last step's answer. Rests on Desk, Case, Refused, Perform.
 --   run, replies: the desk after a list of calls, and what they answer
+--   openings, stepAnswers: how many openings among them are accepted, and what the accepted steps answer
 --   LastOpening, answersSince: the last accepted opening, and the answers of the accepted steps since
 --   roundAfter, answerAfter: r, and the last step's answer
 use Prim.Native.Nat.{ℕ, _+_, _/_, _%_, min}

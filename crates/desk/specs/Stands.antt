@@ -1,9 +1,8 @@
 -- The invariant of demand 3, 'this desk is what the content c gives after s accepted steps', and that an accepted opening starts it.
 -- Rests on Case, Refused, Moved, RulesLaws, rounds' Round, casefile's Accepted and Content.
---   Known: the content of an accepted case, and its T
---   Going, Ended, Progress: before T, at T, and what holds of both
---   Stands: the invariant
---   opening-starts: an accepted opening starts it
+--   Known: the content of an accepted case, and its T; known-sound, sizes-most, some-states: what it gives
+--   Going, Ended, Progress: before T, at T, and what holds of both; GoingAt, EndedAt, ProgressAt: the same of a desk
+--   Stands: the invariant; opening-starts: an accepted opening starts it
 use Prim.Native.Nat.{ℕ, _+_, _*_, _≤_, _<_}
 use mathlib.Core.Path.{_≡_, refl, _∙_}
 use mathlib.Core.Bool.{Bool, true, false}

@@ -1,8 +1,9 @@
 -- Rounds that are worked until one equals the one before: what a table holds on the way and at the end.
 -- Rests on theory's Simulation, Rounds and Sharp, and rounds' Round.
 --   Startable, SettledAt, textOfTable, WroteSettled: the terms of the code's contracts
---   AtRound, at-start, next-round: a table that holds round r, every round up to r having changed something
---   settled-out, settled-read: what it holds when a round changed nothing
+--   AtRound, at-start, next-round: a table that holds round r, every round up to r having changed something; rounds-few: r is bounded
+--   top-start, tops-start: tables that are all top hold round 0
+--   settled-out, settled-read: what it holds when a round changed nothing; settled-text: its text
 use Prim.Native.Nat.{ℕ, suc, _+_, _*_, _-_, _≤_, _<_}
 use mathlib.Core.Path.{_≡_, sym, subst, _∙_}
 use mathlib.Core.Bool.{Bool, true, false}

@@ -1,8 +1,9 @@
 -- The text that the program report prints for a case, in document 01's words. Rests on refusal's Number, casefile's Reading and desk's Case.
---   decimal: a number's digits
---   item, lastItem, heading: a word with a number
---   refusedText, tableText, formulasText, acceptedText: the parts of the text
---   listingText: the text of a case
+--   decimal, by decimalWithin: a number's digits; roundsWord, rowWord, scoreWord, formulaWord, refusedWord, blank, colon, lineEnd: the words
+--   item, lastItem, heading: a word with a number; each: f 0, f 1, .. one after the other
+--   refusedText, tableText, formulasText, acceptedText: the parts of the text; entriesText, rowText, rowsText: a table's rows
+--   formulaText, formulaLine: the line of a formula; settledRound: T
+--   listingText, by textOf: the text of a case
 --   Lists: what the code says that it wrote
 use Prim.Native.Nat.{ℕ, zero, suc, _+_, _/_, _%_, _≤_}
 use mathlib.Core.Path.{_≡_}
