@@ -1,9 +1,9 @@
 -- The steps of the check: what the tests on the tables say of the part, and the answer after each test. Rests on order's Ordered, rules' Pairs and
--- Distributive, Reading, Answer, Accepted, Tables.
+-- Distributive, Reading, Answer, Accepted, Tables, ByCodes.
 --   TablesHold, tables-hold: the tables hold the part's operations up to a place
 --   order-same, distributive-same, complement-same: each test on the tables is that of the part
 --   top-same, bot-same: the join of all is the top, the meet of all the bottom
---   answered-here, answered-next, answered-accepted: the answer where a test fails, passes, where all have passed
+--   answered-here, answered-next, answered-last, answered-accepted: the answer where a test fails, passes, where one is left, where all have passed
 use Prim.Native.Nat.{ℕ, zero, suc, _≤_, _<_}
 use mathlib.Core.Path.{_≡_, refl, sym, ap, ap₂, _∙_}
 use mathlib.Core.Bool.{Bool, true, false, cond, _&&_}
@@ -18,20 +18,22 @@ use Rattle.theory.specs.TestLaws.{all-cong}
 use Rattle.operations.specs.Table.{atMostIn, meetIn, joinIn, complementIn}
 use Rattle.operations.specs.declared.Lattice.{Lattice}
 use Rattle.refusal.specs.declared.Refusal.{Refusal}
+use Rattle.refusal.specs.declared.Refusal.the-variants.{BadComplement}
 use Rattle.rules.specs.declared.Rule.the-variants.{Order, Distributive, Complement}
 use Rattle.lattice.specs.declared.LatticeCheck.{LatticeCheck}
 use Rattle.lattice.specs.declared.LatticeCheck.the-variants.{Refused, Accepted}
-use Rattle.lattice.specs.Reading.{LatticeReading, accepted, reflexive, antisymmetric, transitive, partialOrder, distributive, complementRules, require, latticeForm, latticeOf}
+use Rattle.lattice.specs.Reading.{LatticeReading, accepted, reflexive, antisymmetric, transitive, partialOrder, distributive, complementRules, require, partReading, latticeForm, latticeOf}
 use Rattle.lattice.specs.Answer.{boundsOf, Answered}
 use Rattle.order.specs.Tests.{all2}
 use Rattle.order.specs.Bounds.{element-id, boundUpTo}
-use Rattle.order.specs.Ordered.{Formed, Ordered, Bounded, top-found, bot-found}
+use Rattle.order.specs.Ordered.{Formed, Ordered, Bounded, ordered-in, bounded-in, top-found, bot-found}
 use Rattle.lattice.specs.Accepted.{formed}
 use Rattle.bounds.specs.Scan.{joinOrMeet}
 use Rattle.rules.specs.Distributive.{distributes, distributePair, distribute-pairs}
 use Rattle.lattice.specs.Tables.{FilledTo, filled-order, filled-meet, filled-join, filled-neg, filled-ops}
 use Rattle.rules.specs.Pairs.{tableOps}
 use Rattle.rules.specs.Pairs.{allPairs, order-pairs, distributive-pairs, complement-pairs}
+use Rattle.lattice.specs.ByCodes.{DistributiveIn}
 
 -- ---- tests of functions that agree below n
 
@@ -144,6 +146,11 @@ pub answered-next : (x : Bool) (f : Refusal) (next : LatticeReading) (r : Lattic
 unfolding require
 answered-next true f next r t e w = w
 answered-next false f next r t e w = absurd (let z : _≡_ {A = ℕ} 0 1 = cc in omega arith)
+
+-- of a distributive lattice, the complement's rules are left to test
+pub answered-last : {P : LatticePart} {r : LatticeCheck} {t u : List ℕ} → DistributiveIn P u → Answered (require (complementRules (P .size) (P .order) (P .complement)) BadComplement (accepted P)) r t → Answered (partReading P) r t
+unfolding partReading
+answered-last d w = answered-next _ _ _ _ _ (ordered-in _ (d .ordered)) (answered-next _ _ _ _ _ (bounded-in _ (d .bounds)) (answered-next _ _ _ _ _ (d .distributes) w))
 
 pub answered-accepted : {P : LatticePart} {n : ℕ} {t : List ℕ} (l : Lattice) → TablesHold P 12352 n t → l .size ≡ n → l .top .0 ≡ topOf P → l .bottom .0 ≡ botOf P → Answered (accepted P) (Accepted l) t
 answered-accepted {P} {n} {t} l h s u d =

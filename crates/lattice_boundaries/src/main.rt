@@ -96,58 +96,34 @@ fn longest_chains() {
     run(b"a chain of 65", &chain65);
 }
 
+// Each part is n, the complements and the rows of the order.
 fn main() {
-    run(b"the panel lattice", &[0]);
-    run(b"one element", &[1, 0, 1]);
-    run(b"L3", &[3, 2, 1, 0, 1, 1, 1, 0, 1, 1, 0, 0, 1]);
+    run(b"the panel lattice", b"\x00");
+    run(b"one element", b"\x01\x00\x01");
+    run(
+        b"L3",
+        b"\x03\x02\x01\x00\x01\x01\x01\x00\x01\x01\x00\x00\x01",
+    );
     run(
         b"L3 with its top first",
-        &[3, 2, 1, 0, 1, 0, 0, 1, 1, 0, 1, 1, 1],
+        b"\x03\x02\x01\x00\x01\x00\x00\x01\x01\x00\x01\x01\x01",
     );
     longest_chains();
-    run(b"a byte 0 and more", &[0, 0]);
-    run(b"a complement not below n", &[1, 1, 1]);
-    run(b"an order byte of 2", &[1, 0, 2]);
-    run(b"two elements below one another", &[2, 1, 0, 1, 1, 1, 1]);
-    run(b"two unordered elements", &[2, 1, 0, 1, 0, 0, 1]);
+    run(b"a byte 0 and more", b"\x00\x00");
+    run(b"a complement not below n", b"\x01\x01\x01");
+    run(b"an order byte of 2", b"\x01\x00\x02");
+    run(
+        b"two elements below one another",
+        b"\x02\x01\x00\x01\x01\x01\x01",
+    );
+    run(b"two unordered elements", b"\x02\x01\x00\x01\x00\x00\x01");
     run(
         b"bottom, three unordered elements and top",
-        &[
-            5,
-            4,
-            1,
-            2,
-            3,
-            0,
-            1,
-            1,
-            1,
-            1,
-            1,
-            0,
-            1,
-            0,
-            0,
-            1,
-            0,
-            0,
-            1,
-            0,
-            1,
-            0,
-            0,
-            0,
-            1,
-            1,
-            0,
-            0,
-            0,
-            0,
-            1,
-        ],
+        b"\x05\x04\x01\x02\x03\x00\
+        \x01\x01\x01\x01\x01\x00\x01\x00\x00\x01\x00\x00\x01\x00\x01\x00\x00\x00\x01\x01\x00\x00\x00\x00\x01",
     );
     run(
         b"L3 with each its own complement",
-        &[3, 0, 1, 2, 1, 1, 1, 0, 1, 1, 0, 0, 1],
+        b"\x03\x00\x01\x02\x01\x01\x01\x00\x01\x01\x00\x00\x01",
     );
 }
