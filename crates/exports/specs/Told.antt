@@ -1,4 +1,9 @@
 -- What the exports' numbers tell, and how they follow from what the calls do. Rests on Numbers, calls' Answer, desk's RefusedLaws and casefile's Content.
+--   isShown, replyOf: whether a reply is show's; the reply that numbers tell
+--   numbers-back: the numbers lose nothing of a reply that is not show's
+--   refused-zero, accepted-some: what show's export names on a refused desk, and on any other
+--   by-case, told: for the exports of the other calls, from the call's answer and from what it does
+--   empty-named, whole-named: for show's export, from the length of what show answered
 use Prim.Native.Nat.{ℕ, _≤_, _<_}
 use mathlib.Core.Path.{_≡_, refl, sym, ap, _∙_}
 use mathlib.Core.Bool.{Bool, true, false, cond}

@@ -1,9 +1,10 @@
-// The calls open, step and show with the standing lent, on worked example 4 of document 01: from open to Settled(3).
+// The calls open, step and show with the standing lent, on worked example 4 of document 01: from open to Settled(3). The input is its case in hexadecimal.
 use calls::OpenAnswer;
 use calls::Opened;
 use calls::Standing;
 use calls::StepAnswer;
 use calls::Stepped;
+use libc::STDIN_FILENO;
 use printing::say;
 
 // ---- each call, with a standing that is lent to it
@@ -89,17 +90,6 @@ fn steps(s: Standing, n: u8, store: &[u8], first: &mut [u8], second: &mut [u8]) 
     t
 }
 
-fn example(s: Standing, store: &mut [u8], first: &mut [u8], second: &mut [u8]) {
-    let t = opened(
-        s,
-        b"\x04\x11\x00\x07\x00\x18\x00\x0a\x00\x22\x00\x0a\x00\x2c\x00\x03\x00\x02\x01\x00\x01\x01\x00\x01\x02\x01\x01\x00\x00\x01\x00\x01\x00\x00\x02\x01\x01\x00\x00\x00\x00\x01\x00\x00\x07\x03\x00",
-        store,
-        first,
-        second,
-    );
-    let _ = steps(t, 7, store, first, second);
-}
-
 fn main() {
     let s = Standing {
         states1: 0,
@@ -113,5 +103,10 @@ fn main() {
     let mut store = [0u8; 24576];
     let mut first = [0u8; 4096];
     let mut second = [0u8; 4096];
-    example(s, &mut store, &mut first, &mut second);
+    let mut text = io::buffer();
+    let count = io::read_full(STDIN_FILENO, &mut text);
+    let mut case = [0u8; 64];
+    let size = printing::hexadecimal(&text[..count], &mut case);
+    let t = opened(s, &case[..size], &mut store, &mut first, &mut second);
+    let _ = steps(t, 7, &store, &mut first, &mut second);
 }

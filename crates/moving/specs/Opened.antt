@@ -1,4 +1,7 @@
 -- What open does, from the check of its case and what it wrote. Rests on desk's Moved and RefusedLaws, casefile's Caller, theory's Written.
+--   freshStanding: the standing of a desk that is made anew
+--   short-open, refused-open, accepted-open: an open of a desk that is too short, of a refused case, of an accepted one
+--   fill-none, fill-more, fill-done: the loop that fills a table, where it begins, after one turn more, at its end
 use Prim.Native.Nat.{ℕ, _+_, _*_, _≤_, _<_}
 use mathlib.Core.Path.{_≡_, sym, ap, ap₂, _∙_}
 use mathlib.Core.Bool.{true, false}

@@ -1,0 +1,2 @@
+-- What the proofs of `lent` share.
+pub mod Walk
