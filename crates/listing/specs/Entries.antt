@@ -1,4 +1,4 @@
--- The text of a table hangs on its entries at the pairs of states alone. Rests on Text and Writing.
+-- The text of a table depends on its entries at the pairs of states alone. Rests on Text and Writing.
 use Prim.Native.Nat.{ℕ}
 use mathlib.Core.Path.{_≡_, ap, ap₂}
 use mathlib.Core.List.{List, _++_}

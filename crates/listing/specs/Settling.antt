@@ -1,4 +1,4 @@
--- Rounds that are worked until one equals the one before: what a table holds on the way and at the end.
+-- Rounds that are worked until one equals the one before: what a table holds after each of them and at the end.
 -- Rests on theory's Simulation, Rounds and Sharp, and rounds' Round.
 --   Startable, SettledAt, textOfTable, WroteSettled: the terms of the code's contracts
 --   AtRound, at-start, next-round: a table that holds round r, every round up to r having changed something; rounds-few: r is bounded
