@@ -1,2 +1,3 @@
--- Laws of `reader`
+-- What the proofs of `reader` share: laws of tokens, and the struct in the walks.
 pub mod Laws
+mod Struct

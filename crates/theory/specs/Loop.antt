@@ -1,6 +1,7 @@
 -- Loops that count up from 0: the invariant of each kind, with a law for its begin (-none), for one turn more (-more) and for its end.
 -- Rests on Lattice, Simulation, Test, Lists.
---   Folded: x is the fold of the first n values; folded-none, folded-more; as a finite meet or join folded-meet, folded-join
+--   Folded: x is the fold of the first n values; folded-none, folded-more, folded-all; as a finite meet or join folded-meet, folded-join
+--   fold-cong, count-cong: equal values, equal folds and counts
 --   Counted: c of the first n pass; counted-none, counted-more, counted-all
 --   Passed: the first n pass; passed-none, passed-more, passed-all; where one fails passed-stop
 --   Filled (Lists): the first q entries of a list are filled; filled-none, filled-more, filled-all; fewer of them, by a rule that says the same filled-as
@@ -74,6 +75,15 @@ pub folded-more : {A : Type 0} {g : A → A → A} {start : A} {f : ℕ → A} {
 unfolding fold
 folded-more u d e = record { eq = e ∙ rw (add-one, d, ← u .eq) }
 
+-- at the loop's end the counter i has reached n
+pub folded-all : {A : Type 0} {g : A → A → A} {start : A} {f : ℕ → A} {n i : ℕ} {x : A} → Folded g start f i x → i ≤ n → n ≤ i → x ≡ fold g start f n
+folded-all {g = g} {start = start} {f = f} u p q = u .eq ∙ reached (fold g start f) p q
+
+pub fold-cong : {A : Type 0} (g : A → A → A) (start : A) (f h : ℕ → A) (n : ℕ) → ((i : ℕ) → i < n → f i ≡ h i) → fold g start f n ≡ fold g start h n
+unfolding fold
+fold-cong g start f h zero e = refl
+fold-cong g start f h (suc n) e = ap₂ g (fold-cong g start f h n (λ i l. e i (omega arith))) (e n (le-refl _))
+
 module _ {A : Type 0} (O : Ops A) where
   meet-fold : (n : ℕ) (f : ℕ → A) → fold (O .meet) (O .top) f n ≡ bigMeet O n f
   unfolding fold bigMeet
@@ -85,12 +95,11 @@ module _ {A : Type 0} (O : Ops A) where
   join-fold zero f = refl
   join-fold (suc n) f = ap₂ (O .join) (join-fold n f) refl
 
-  -- at the loop's end the counter i has reached n
   pub folded-meet : {f : ℕ → A} {n i : ℕ} {x : A} → Folded (O .meet) (O .top) f i x → i ≤ n → n ≤ i → x ≡ bigMeet O n f
-  folded-meet {f} {n} u p q = u .eq ∙ reached (fold (O .meet) (O .top) f) p q ∙ meet-fold n f
+  folded-meet {f} {n} u p q = folded-all u p q ∙ meet-fold n f
 
   pub folded-join : {f : ℕ → A} {n i : ℕ} {x : A} → Folded (O .join) (O .bot) f i x → i ≤ n → n ≤ i → x ≡ bigJoin O n f
-  folded-join {f} {n} u p q = u .eq ∙ reached (fold (O .join) (O .bot) f) p q ∙ join-fold n f
+  folded-join {f} {n} u p q = folded-all u p q ∙ join-fold n f
 
 -- ---- a loop that counts
 
@@ -111,6 +120,11 @@ counted-more {f} {n} {c} {d} {b} u t e = record { eq = rw (e, t, count-more n f,
 
 pub counted-all : {f : ℕ → Bool} {i n c : ℕ} → Counted f i c → i ≤ n → n ≤ i → Counted f n c
 counted-all {i = i} {n = n} u p q = let e : i ≡ n = omega arith in rw e at u
+
+pub count-cong : (n : ℕ) (f g : ℕ → Bool) → ((i : ℕ) → i < n → f i ≡ g i) → count n f ≡ count n g
+unfolding count
+count-cong zero f g h = refl
+count-cong (suc n) f g h = ap₂ _+_ (count-cong n f g (λ i l. h i (omega arith))) (ap one (h n (le-refl _)))
 
 -- ---- a loop that tests, up to the first failure
 

@@ -1,8 +1,8 @@
--- `codes::fill_keys` meets its contract: each step is within its bounds. Assumes nothing.
+-- `codes::guess::fill_keys` meets its contract: each step is within its bounds. Assumes nothing.
 use Prim.Native.Nat.{_≤_, _-_}
 use borrow.Author.Needs.{needs}
-use Rattle.codes.proofs.fill_keys.Statement.{statement}
-use Rattle.codes.proofs.fill_keys.Tie as tie
+use Rattle.codes.proofs.guess.fill_keys.Statement.{statement}
+use Rattle.codes.proofs.guess.fill_keys.Tie as tie
 
 abbrev Inv-loop : tie.InvT-loop
 Inv-loop down key₀ a₀ key a = a ≤ 64

@@ -1,8 +1,8 @@
--- `codes::is_irreducible` meets its contract: each step is within its bounds. Assumes nothing.
+-- `codes::guess::is_irreducible` meets its contract: each step is within its bounds. Assumes nothing.
 use Prim.Native.Nat.{_≤_, _-_}
 use borrow.Author.Needs.{needs}
-use Rattle.codes.proofs.is_irreducible.Statement.{statement}
-use Rattle.codes.proofs.is_irreducible.Tie as tie
+use Rattle.codes.proofs.guess.is_irreducible.Statement.{statement}
+use Rattle.codes.proofs.guess.is_irreducible.Tie as tie
 
 abbrev Inv-loop : tie.InvT-loop
 Inv-loop down n a others b₀ b = b ≤ n

@@ -1,8 +1,8 @@
--- `codes::irreducibles` meets its contract: each step is within its bounds. Assumes nothing.
+-- `codes::guess::irreducibles` meets its contract: each step is within its bounds. Assumes nothing.
 use Prim.Native.Nat.{_≤_, _-_}
 use borrow.Author.Needs.{needs}
-use Rattle.codes.proofs.irreducibles.Statement.{statement}
-use Rattle.codes.proofs.irreducibles.Tie as tie
+use Rattle.codes.proofs.guess.irreducibles.Statement.{statement}
+use Rattle.codes.proofs.guess.irreducibles.Tie as tie
 
 abbrev Inv-loop : tie.InvT-loop
 Inv-loop down n x₀ a₀ x a = a ≤ n

@@ -1,8 +1,8 @@
--- `codes::guess_codes` meets its contract: each step is within its bounds. Assumes nothing.
+-- `codes::guess::guess_codes` meets its contract: each step is within its bounds. Assumes nothing.
 use Prim.Native.Nat.{_≤_, _-_}
 use borrow.Author.Needs.{needs}
-use Rattle.codes.proofs.guess_codes.Statement.{statement}
-use Rattle.codes.proofs.guess_codes.Tie as tie
+use Rattle.codes.proofs.guess.guess_codes.Statement.{statement}
+use Rattle.codes.proofs.guess.guess_codes.Tie as tie
 
 abbrev Inv-loop : tie.InvT-loop
 Inv-loop t n codes₀ x a₀ codes a = a ≤ 64

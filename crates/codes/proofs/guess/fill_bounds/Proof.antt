@@ -1,10 +1,10 @@
--- `codes::fill_bounds` meets its contract: only places past the order are written. Assumes nothing.
+-- `codes::guess::fill_bounds` meets its contract: only places past the order are written. Assumes nothing.
 use Rattle.codes.specs.Coded.{OrderKept, kept-none, kept-set}
 use Prim.Native.Nat.{_≤_, _-_}
 use native.Mathlib.Omega.{arith}
 use borrow.Author.Needs.{needs}
-use Rattle.codes.proofs.fill_bounds.Statement.{statement}
-use Rattle.codes.proofs.fill_bounds.Tie as tie
+use Rattle.codes.proofs.guess.fill_bounds.Statement.{statement}
+use Rattle.codes.proofs.guess.fill_bounds.Tie as tie
 
 abbrev Inv-loop : tie.InvT-loop
 Inv-loop t₀ element down up k₀ t k = (k ≤ 4096) × OrderKept t₀ t

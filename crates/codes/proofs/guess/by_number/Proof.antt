@@ -1,8 +1,8 @@
--- `codes::by_number` meets its contract: each step is within its bounds. Assumes nothing.
+-- `codes::guess::by_number` meets its contract: each step is within its bounds. Assumes nothing.
 use Prim.Native.Nat.{_≤_, _-_}
 use borrow.Author.Needs.{needs}
-use Rattle.codes.proofs.by_number.Statement.{statement}
-use Rattle.codes.proofs.by_number.Tie as tie
+use Rattle.codes.proofs.guess.by_number.Statement.{statement}
+use Rattle.codes.proofs.guess.by_number.Tie as tie
 
 abbrev Inv-loop : tie.InvT-loop
 Inv-loop place₀ a₀ place a = a ≤ 64

@@ -1,8 +1,8 @@
--- `codes::fill_words` meets its contract: each step is within its bounds. Assumes nothing.
+-- `codes::guess::fill_words` meets its contract: each step is within its bounds. Assumes nothing.
 use Prim.Native.Nat.{_≤_, _-_}
 use borrow.Author.Needs.{needs}
-use Rattle.codes.proofs.fill_words.Statement.{statement}
-use Rattle.codes.proofs.fill_words.Tie as tie
+use Rattle.codes.proofs.guess.fill_words.Statement.{statement}
+use Rattle.codes.proofs.guess.fill_words.Tie as tie
 
 abbrev Inv-loop : tie.InvT-loop
 Inv-loop t n place up words₀ a₀ words a = a ≤ 64

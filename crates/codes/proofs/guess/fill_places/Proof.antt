@@ -1,8 +1,8 @@
--- `codes::fill_places` meets its contract: each step is within its bounds. Assumes nothing.
+-- `codes::guess::fill_places` meets its contract: each step is within its bounds. Assumes nothing.
 use Prim.Native.Nat.{_≤_, _-_}
 use borrow.Author.Needs.{needs}
-use Rattle.codes.proofs.fill_places.Statement.{statement}
-use Rattle.codes.proofs.fill_places.Tie as tie
+use Rattle.codes.proofs.guess.fill_places.Statement.{statement}
+use Rattle.codes.proofs.guess.fill_places.Tie as tie
 
 abbrev Inv-loop : tie.InvT-loop
 Inv-loop key n place₀ element₀ a₀ place element a = a ≤ n

@@ -1,10 +1,10 @@
--- `codes::place_of` meets its contract: each turn adds at most 1. Assumes nothing.
+-- `codes::guess::place_of` meets its contract: each turn adds at most 1. Assumes nothing.
 use Prim.Native.Nat.{_≤_, _-_}
 use mathlib.Core.Logic.{⊎-elim}
 use native.Mathlib.Omega.{arith}
 use borrow.Author.Needs.{needs}
-use Rattle.codes.proofs.place_of.Statement.{statement}
-use Rattle.codes.proofs.place_of.Tie as tie
+use Rattle.codes.proofs.guess.place_of.Statement.{statement}
+use Rattle.codes.proofs.guess.place_of.Tie as tie
 
 abbrev Inv-loop : tie.InvT-loop
 Inv-loop key n a x k₀ b₀ k b = (b ≤ n) × (k ≤ b)

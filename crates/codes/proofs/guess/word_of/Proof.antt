@@ -1,8 +1,8 @@
--- `codes::word_of` meets its contract: each step is within its bounds. Assumes nothing.
+-- `codes::guess::word_of` meets its contract: each step is within its bounds. Assumes nothing.
 use Prim.Native.Nat.{_≤_, _-_}
 use borrow.Author.Needs.{needs}
-use Rattle.codes.proofs.word_of.Statement.{statement}
-use Rattle.codes.proofs.word_of.Tie as tie
+use Rattle.codes.proofs.guess.word_of.Statement.{statement}
+use Rattle.codes.proofs.guess.word_of.Tie as tie
 
 abbrev Inv-loop : tie.InvT-loop
 Inv-loop t n place up a x₀ b₀ x b = b ≤ n
