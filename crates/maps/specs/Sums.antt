@@ -1,6 +1,6 @@
 -- The sum that a loop over states makes, by the tables, and what it is: AX, EX, or the value on the whole model. Rests on Code, theory's
--- Folds and Loop, model's Places.
-use Prim.Native.Nat.{ℕ, _+_, _<_}
+-- Loop, model's Places.
+use Prim.Native.Nat.{ℕ, _+_}
 use mathlib.Core.Path.{_≡_, refl, ap, _∙_}
 use mathlib.Core.Bool.{Bool, true, false, not}
 use mathlib.Core.List.{List}
@@ -8,8 +8,7 @@ use native.Mathlib.Nat.{le-refl}
 use lib.Dec.{eqb}
 use lib.ListN.{getD}
 use Rattle.theory.specs.Lattice.{Ops, imp}
-use Rattle.theory.specs.Folds.{bigMeet-cong, bigJoin-cong}
-use Rattle.theory.specs.Loop.{fold, folded-meet, folded-join}
+use Rattle.theory.specs.Loop.{fold, fold-cong, folded-meet, folded-join}
 use Rattle.theory.specs.Model.{Model}
 use Rattle.theory.specs.Part.{modelOf}
 use Rattle.theory.specs.Value.{allNext, someNext}
@@ -29,11 +28,6 @@ unfolding gather startOf step bound imp
 sum-gather t l true n v f e = rw e (folded-meet (opsIn t l) (record { eq = refl }) (le-refl n) (le-refl n))
 sum-gather t l false n v f e = rw e (folded-join (opsIn t l) (record { eq = refl }) (le-refl n) (le-refl n))
 
-gather-cong : (O : Ops ℕ) (all : Bool) (n : ℕ) (v w f : ℕ → ℕ) → ((i : ℕ) → i < n → v i ≡ w i) → gather O all n v f ≡ gather O all n w f
-unfolding gather
-gather-cong O true n v w f h = bigMeet-cong O n _ _ (λ i l. ap (λ (a : ℕ). imp O a (f i)) (h i l))
-gather-cong O false n v w f h = bigJoin-cong O n _ _ (λ i l. ap (λ (a : ℕ). O .meet a (f i)) (h i l))
-
 -- over all transitions from a state it is AX or EX there
 pub gather-next : (O : Ops ℕ) (M : Model ℕ) (c : ℕ) (f : ℕ → ℕ) (q : ℕ) {n : ℕ} → n ≡ M .states → gather O (eqb c 7) n (M .transition q) f ≡ nextOf O M c f q
 unfolding gather nextOf allNext someNext
@@ -41,7 +35,7 @@ gather-next O M c f q e = rw e
 
 pub sum-next : (t : List ℕ) (l : Lattice) (m x : List ℕ) (c q : ℕ) {first n : ℕ} → first ≡ startOf l (not (eqb c 7)) → n ≡ getD m 0 0
     → sumOf t (eqb c 7) first m (transitionRow m q) x n ≡ nextOf (opsIn t l) (modelOf m) c (λ s. getD x s 0) q
-sum-next t l m x c q {n = n} e k =
-    sum-gather t l (eqb c 7) n _ _ e
-    ∙ gather-cong (opsIn t l) (eqb c 7) n _ (modelOf m .transition q) _ (λ i b. transition-at m q _ i refl)
+sum-next t l m x c q {first} {n} e k =
+    fold-cong (bound t (not (eqb c 7))) first _ _ n (λ i b. ap (λ (a : ℕ). step t (eqb c 7) a (getD x i 0)) (transition-at m q _ i refl))
+    ∙ sum-gather t l (eqb c 7) n (modelOf m .transition q) _ e
     ∙ gather-next (opsIn t l) (modelOf m) c (λ s. getD x s 0) q k

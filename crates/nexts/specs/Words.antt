@@ -3,7 +3,7 @@
 --   wordBound, wordSum: what maps' `bound` and `sumOf` are for words
 --   Elements, ElementsOf: what is tested; Prepared: what is ready after it; Coding: it is so where there are words
 --   placeOf, place-most: where the words of the transitions, or of their complements, begin
---   all-fit: all transitions are within the part
+--   all-fit, all-most: all transitions are within the part, and as many words within 4096
 --   prepared: the three encodings leave Prepared
 --   coded-next: the element of a sum of words is AX or EX
 use Prim.Native.Nat.{ℕ, zero, suc, _+_, _*_, _%_, _≤_, _<_}
@@ -22,7 +22,7 @@ use Rattle.theory.specs.Part.{modelOf, ModelShape}
 use Rattle.theory.specs.Written.{written-length, written-before, slice-at}
 use Rattle.operations.specs.Table.{complementIn, opsIn}
 use Rattle.operations.specs.declared.Lattice.{Lattice}
-use Rattle.model.specs.Places.{row-le}
+use Rattle.model.specs.Places.{row-le, prod-le}
 use Rattle.model.specs.Reading.{transitionRow}
 use Rattle.codes.specs.Coded.{Coded, firstOf}
 use Rattle.codes.specs.Means.{wordOf, wordsOf, Means, means-word, means-meet, means-join, means-first}
@@ -87,9 +87,12 @@ unfolding placeOf
 place-most true = omega arith
 place-most false = omega arith
 
--- all transitions are within the part
+-- all transitions are within the part, and as many words within 4096
 pub all-fit : {m : List ℕ} {from n : ℕ} → ModelShape m → from ≡ transitionRow m 0 → n ≡ getD m 0 0 → from + n * n ≤ length m
 all-fit shape e g = rw g (omega (arith, e, shape .exact))
+
+pub all-most : {m : List ℕ} {n : ℕ} → ModelShape m → n ≡ getD m 0 0 → n * n ≤ 4096
+all-most {n = n} shape g = prod-le n n 64 64 (omega (arith, shape .states-most)) (omega (arith, shape .states-most))
 
 -- ---- the words that are written
 

@@ -6,7 +6,7 @@
 --   held: the environment that the three lists hold
 --   bottom-arm, top-arm, literal-arm, variable-arm, pair-arm, next-arm, fixpoint-arm: what each arm answers; no-arm: no formula has another code
 --   here-read, part-values, part-whole: a whole part, its values, and its value on the whole model
-use Prim.Native.Nat.{ℕ, _+_, _*_, _-_, _≤_, _<_}
+use Prim.Native.Nat.{ℕ, _+_, _≤_, _<_}
 use mathlib.Core.Path.{_≡_, refl, sym, ap, ap₂, _∙_, subst}
 use mathlib.Core.Logic.{_⊎_, inl, inr, ⊎-elim}
 use mathlib.Core.List.{List}

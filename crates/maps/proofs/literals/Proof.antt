@@ -1,6 +1,6 @@
 -- `maps::literals` meets its contract: the entries so far are the values or their complements.
 use mathlib.Core.Path.{_≡_, refl, ap, _∙_}
-use Prim.Native.Nat.{ℕ, _≤_, _-_}
+use Prim.Native.Nat.{_≤_, _-_}
 use lib.ListN.{length, length-set}
 use Rattle.theory.specs.Part.{modelOf}
 use Rattle.theory.specs.Loop.{filled-none, filled-more, filled-as}

@@ -1,35 +1,30 @@
 -- `maps::same` meets its contract: the entries so far are the same.
-use mathlib.Core.Path.{_≡_, sym}
-use mathlib.Core.Bool.{true}
 use Prim.Native.Nat.{_≤_, _-_}
 use native.Mathlib.Omega.{arith}
 use lib.Dec.{eqb}
 use lib.ListN.{getD}
 use borrow.Author.Tests.{eq-eqb, ne-eqb}
-use Rattle.theory.specs.Test.{allBelow}
-use Rattle.theory.specs.TestLaws.{all-none, all-more, all-fails, all-done}
+use Rattle.theory.specs.Loop.{Passed, passed-none, passed-more, passed-stop, passed-all}
 use Rattle.maps.proofs.same.Statement.{statement}
 use Rattle.maps.proofs.same.Tie as tie
 
 abbrev Inv-loop : tie.InvT-loop
-Inv-loop n x y q₀ q = (q ≤ n) × (allBelow q (λ s. eqb (getD x s 0) (getD y s 0)) ≡ true)
+Inv-loop n x y q₀ q = (q ≤ n) × Passed (λ s. eqb (getD x s 0) (getD y s 0)) q
 
 abbrev μ-loop : tie.MeasureT-loop
 μ-loop n x y q₀ q = n - q
 
 loop-holds : tie.Need-loop-holds Inv-loop μ-loop
-loop-holds c = (omega arith, all-none _)
+loop-holds c = (omega arith, passed-none)
 
 returns : tie.Need-returns Inv-loop μ-loop
-returns c = sym (all-fails _ (c .before .before .before .before .loop .q) _ (c .before .before .before .loop-test .taken) (ne-eqb _ _ (c .if1 .taken)))
+returns c = passed-stop (c .before .before .before .before .loop .inv .1) (c .before .before .before .loop-test .taken) (ne-eqb _ _ (c .if1 .taken))
 
 loop-again : tie.Need-loop-again Inv-loop μ-loop
-loop-again c =
-    let i = c .before .before .before .before .loop .inv in
-    (omega arith, all-more _ _ (i .1) (eq-eqb _ _ (c .if1 .left)))
+loop-again c = (omega arith, passed-more (c .before .before .before .before .loop .inv .1) (eq-eqb _ _ (c .if1 .left)))
 
 returns-2 : tie.Need-returns-2 Inv-loop μ-loop
-returns-2 c = let i = c .before .loop .inv in sym (all-done _ _ _ (i .0) (c .loop-test .left) (i .1))
+returns-2 c = let l = c .before .loop .inv in passed-all (l .1) (l .0) (c .loop-test .left)
 
 pub same-spec : {M : Type 1} → statement M
 same-spec =

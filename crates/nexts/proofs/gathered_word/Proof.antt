@@ -1,9 +1,8 @@
 -- `nexts::gathered_word` meets its contract: the sum so far.
 use Prim.Native.Nat.{_+_, _≤_, _-_}
-use mathlib.Core.Path.{_∙_}
 use mathlib.Core.Bool.{not}
 use lib.ListN.{getD}
-use Rattle.theory.specs.Loop.{fold, Folded, folded-none, folded-more, reached}
+use Rattle.theory.specs.Loop.{Folded, folded-none, folded-more, folded-all}
 use Rattle.nexts.specs.Words.{wordBound}
 use borrow.Author.Needs.{needs}
 use native.Mathlib.Omega.{arith}
@@ -23,7 +22,7 @@ loop-again : tie.Need-loop-again Inv-loop μ-loop
 loop-again c = (omega arith, folded-more (c .before .before .before .before .before .loop .inv .1) (c .before .word-bound .ensures) (c .word-bound2 .ensures))
 
 returns : tie.Need-returns Inv-loop μ-loop
-returns c = let l = c .before .loop .inv in l .1 .eq ∙ reached (fold _ _ _) (l .0) (c .loop-test .left)
+returns c = let l = c .before .loop .inv in folded-all (l .1) (l .0) (c .loop-test .left)
 
 pub gathered-word-spec : {M : Type 1} → statement M
 gathered-word-spec =

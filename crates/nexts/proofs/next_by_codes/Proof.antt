@@ -1,5 +1,5 @@
 -- `nexts::next_by_codes` meets its contract: the entries so far are the elements of the sums.
-use mathlib.Core.Path.{_≡_, refl, ap, _∙_}
+use mathlib.Core.Path.{_≡_, refl, ap}
 use Prim.Native.Nat.{ℕ, _+_, _*_, _≤_, _-_}
 use lib.Dec.{eqb}
 use lib.ListN.{length, length-set}
@@ -8,7 +8,7 @@ use Rattle.theory.specs.Lists.{Filled}
 use Rattle.model.specs.Places.{row-le, prod-le}
 use Rattle.codes.specs.Coded.{firstOf}
 use Rattle.codes.specs.Means.{wordOf}
-use Rattle.nexts.specs.Words.{wordSum, place-most, coded-next}
+use Rattle.nexts.specs.Words.{wordSum, place-most, all-most, coded-next}
 use borrow.Author.Needs.{needs}
 use native.Mathlib.Omega.{arith}
 use Rattle.nexts.proofs.next_by_codes.Statement.{statement}
@@ -30,21 +30,29 @@ mul-gathered-word : tie.Need-mul-gathered-word Inv-loop μ-loop
 mul-gathered-word c = omega (arith, prod-le (c .before .loop .q) (c .before .before .before .before .before .before .before .before .before .before .states .result) 64 64 (omega arith) (omega arith))
 
 add-gathered-word : tie.Need-add-gathered-word Inv-loop μ-loop
-add-gathered-word c = omega (arith, place-most (eqb (c .before .before .before .before .before .before .before .before .before .before .before .before .before .args .code) 7), c .before .before .before .before .before .before .before .before .before .place .ensures, prod-le (c .before .loop .q) (c .before .before .before .before .before .before .before .before .before .before .states .result) 64 64 (omega arith) (omega arith))
+add-gathered-word c =
+    let n = c .before .before .before .before .before .before .before .before .before .before .states .result in
+    omega (arith, place-most (eqb (c .before .before .before .before .before .before .before .before .before .before .before .before .before .args .code) 7), c .before .before .before .before .before .before .before .before .before .place .ensures, prod-le (c .before .loop .q) n 64 64 (omega arith) (omega arith))
 
 gathered-word-requires : tie.Need-gathered-word-requires Inv-loop μ-loop
-gathered-word-requires c κs = omega (arith, place-most (eqb (c .before .before .before .before .before .before .before .before .before .before .before .before .before .before .args .code) 7), c .before .before .before .before .before .before .before .before .before .before .place .ensures, row-le (c .before .before .loop .q) (c .before .before .before .before .before .before .before .before .before .before .before .states .result) (c .before .before .before .before .before .before .before .before .before .before .before .states .result) (omega arith), prod-le (c .before .before .before .before .before .before .before .before .before .before .before .states .result) (c .before .before .before .before .before .before .before .before .before .before .before .states .result) 64 64 (omega arith) (omega arith), c .before .before .before .before .before .before .before .before .before .before .before .before .before .before .pre .2)
+gathered-word-requires c κs =
+    let n = c .before .before .before .before .before .before .before .before .before .before .before .states .result in
+    let s = c .before .before .before .before .before .before .before .before .before .before .before .before .before .before in
+    omega (arith, place-most (eqb (s .args .code) 7), c .before .before .before .before .before .before .before .before .before .before .place .ensures, row-le (c .before .before .loop .q) n n (omega arith), all-most (s .pre .0) (c .before .before .before .before .before .before .before .before .before .before .before .states .ensures), s .pre .2)
 
 loop-again : tie.Need-loop-again Inv-loop μ-loop
 loop-again c =
     let i = c .before .before .before .before .loop .inv in
-    (omega arith, simp length-set (i .1), filled-more (i .2) (omega arith) (c .decode .ensures ∙ ap (firstOf (c .before .before .before .before .before .before .before .before .before .before .before .before .before .before .before .before .args .codes .now)) (c .before .gathered-word .ensures)))
+    (omega arith, simp length-set (i .1), filled-more (i .2) (omega arith) (rw (c .before .gathered-word .ensures) at (c .decode .ensures)))
 
 returns : tie.Need-returns Inv-loop μ-loop
 returns c =
     let a = c .before .before .before .before .before .before .before .before .before .before .before .before .before .args in
+    let p = c .before .before .before .before .before .before .before .before .before .before .before .before .before .pre in
+    let n = c .before .before .before .before .before .before .before .before .before .before .states .result in
     filled-as (c .before .loop .inv .2) (omega arith)
-    (λ q b. coded-next (c .before .before .before .before .before .before .before .before .before .before .before .before .before .pre .1) (c .before .before .before .before .before .before .before .before .before .before .before .before .before .pre .3) (c .before .before .before .before .before .before .before .before .before .before .states .result) (a .y .now) (c .before .before .before .encode .ensures) (omega (arith, c .before .before .before .before .before .before .before .before .before .before .before .before .before .pre .0 .states-most)) (a .code) q _ _ (ap (wordOf (a .codes .now)) (c .before .before .before .before .before .before .before .before .start-of .ensures)) (ap (λ (j : ℕ). j + q * c .before .before .before .before .before .before .before .before .before .before .states .result) (c .before .before .before .before .before .before .before .before .before .place .ensures)) (c .before .before .before .before .before .before .before .before .before .before .states .ensures) b)
+    (λ q b. coded-next (p .1) (p .3) n (a .y .now) (c .before .before .before .encode .ensures) (omega (arith, p .0 .states-most)) (a .code) q _ _
+    (ap (wordOf (a .codes .now)) (c .before .before .before .before .before .before .before .before .start-of .ensures)) (ap (λ (j : ℕ). j + q * n) (c .before .before .before .before .before .before .before .before .before .place .ensures)) (c .before .before .before .before .before .before .before .before .before .before .states .ensures) b)
 
 pub next-by-codes-spec : {M : Type 1} → statement M
 next-by-codes-spec =

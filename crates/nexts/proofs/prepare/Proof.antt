@@ -3,8 +3,7 @@ use mathlib.Core.Path.{refl}
 use lib.ListN.{replicate}
 use borrow.Author.Tests.{not-false}
 use Rattle.theory.specs.TestLaws.{false-true}
-use Rattle.model.specs.Places.{prod-le}
-use Rattle.nexts.specs.Words.{all-fit, prepared}
+use Rattle.nexts.specs.Words.{all-fit, all-most, prepared}
 use borrow.Author.Needs.{needs}
 use native.Mathlib.Omega.{arith}
 use Rattle.nexts.proofs.prepare.Statement.{statement}
@@ -23,16 +22,22 @@ transition-row-requires : tie.Need-transition-row-requires
 transition-row-requires c κs = (c .before .before .before .before .before .before .before .before .before .pre .0, omega (arith, c .before .before .before .before .before .before .before .before .before .pre .0 .some))
 
 mul-encode : tie.Need-mul-encode
-mul-encode c = omega (arith, prod-le (c .before .before .before .before .before .before .before .before .states .result) (c .before .before .before .before .before .before .before .before .states .result) 64 64 (omega (arith, c .before .before .before .before .before .before .before .before .before .before .before .before .before .before .before .before .pre .0 .states-most)) (omega (arith, c .before .before .before .before .before .before .before .before .before .before .before .before .before .before .before .before .pre .0 .states-most)))
+mul-encode c = omega (arith, all-most (c .before .before .before .before .before .before .before .before .before .before .before .before .before .before .before .before .pre .0) (c .before .before .before .before .before .before .before .before .states .ensures))
 
 encode-requires-2 : tie.Need-encode-requires-2
-encode-requires-2 c κs = (all-fit (c .before .before .before .before .before .before .before .before .before .before .before .before .before .before .before .before .before .pre .0) (rw (c .before .before .before .before .before .before .before .before .state .ensures) at (c .before .before .before .before .before .before .before .transition-row .ensures .0)) (c .before .before .before .before .before .before .before .before .before .states .ensures), omega (arith, c .before .before .before .before .before .before .before .before .before .before .before .before .before .before .before .before .before .pre .1, prod-le (c .before .before .before .before .before .before .before .before .before .states .result) (c .before .before .before .before .before .before .before .before .before .states .result) 64 64 (omega (arith, c .before .before .before .before .before .before .before .before .before .before .before .before .before .before .before .before .before .pre .0 .states-most)) (omega (arith, c .before .before .before .before .before .before .before .before .before .before .before .before .before .before .before .before .before .pre .0 .states-most))))
+encode-requires-2 c κs =
+    let p = c .before .before .before .before .before .before .before .before .before .before .before .before .before .before .before .before .before .pre in
+    let n = c .before .before .before .before .before .before .before .before .before .states .ensures in
+    (all-fit (p .0) (rw (c .before .before .before .before .before .before .before .before .state .ensures) at (c .before .before .before .before .before .before .before .transition-row .ensures .0)) n, omega (arith, p .1, all-most (p .0) n))
 
 mul-encode-2 : tie.Need-mul-encode-2
-mul-encode-2 c = omega (arith, prod-le (c .before .before .before .before .before .before .before .before .before .before .before .before .before .states .result) (c .before .before .before .before .before .before .before .before .before .before .before .before .before .states .result) 64 64 (omega (arith, c .before .before .before .before .before .before .before .before .before .before .before .before .before .before .before .before .before .before .before .before .before .pre .0 .states-most)) (omega (arith, c .before .before .before .before .before .before .before .before .before .before .before .before .before .before .before .before .before .before .before .before .before .pre .0 .states-most)))
+mul-encode-2 c = omega (arith, all-most (c .before .before .before .before .before .before .before .before .before .before .before .before .before .before .before .before .before .before .before .before .before .pre .0) (c .before .before .before .before .before .before .before .before .before .before .before .before .before .states .ensures))
 
 encode-requires-3 : tie.Need-encode-requires-3
-encode-requires-3 c κs = (all-fit (c .before .before .before .before .before .before .before .before .before .before .before .before .before .before .before .before .before .before .before .before .before .before .pre .0) (rw (c .before .before .before .before .before .before .before .before .before .before .before .before .before .state .ensures) at (c .before .before .before .before .before .before .before .before .before .before .before .before .transition-row .ensures .0)) (c .before .before .before .before .before .before .before .before .before .before .before .before .before .before .states .ensures), omega (arith, c .before .before .before .before .before .before .before .before .before .before .before .before .before .before .before .before .before .before .before .before .before .before .pre .1, prod-le (c .before .before .before .before .before .before .before .before .before .before .before .before .before .before .states .result) (c .before .before .before .before .before .before .before .before .before .before .before .before .before .before .states .result) 64 64 (omega (arith, c .before .before .before .before .before .before .before .before .before .before .before .before .before .before .before .before .before .before .before .before .before .before .pre .0 .states-most)) (omega (arith, c .before .before .before .before .before .before .before .before .before .before .before .before .before .before .before .before .before .before .before .before .before .before .pre .0 .states-most))))
+encode-requires-3 c κs =
+    let p = c .before .before .before .before .before .before .before .before .before .before .before .before .before .before .before .before .before .before .before .before .before .before .pre in
+    let n = c .before .before .before .before .before .before .before .before .before .before .before .before .before .before .states .ensures in
+    (all-fit (p .0) (rw (c .before .before .before .before .before .before .before .before .before .before .before .before .before .state .ensures) at (c .before .before .before .before .before .before .before .before .before .before .before .before .transition-row .ensures .0)) n, omega (arith, p .1, all-most (p .0) n))
 
 returns-3 : tie.Need-returns-3
 returns-3 c =
@@ -40,7 +45,7 @@ returns-3 c =
     λ e.
     prepared (p .0) (c .before .before .before .before .before .before .before .before .before .before .before .before .before .before .before .before .before .before .before .before .before .find .ensures (not-false _ (c .before .before .before .before .before .before .before .before .before .before .before .before .before .before .before .before .before .before .before .before .if1 .left))) (c .before .before .before .before .before .before .before .before .before .before .before .before .before .before .before .before .before .before .before .only-elements .ensures (not-false _ (c .before .before .before .before .before .before .before .before .before .before .before .before .before .before .before .before .before .before .if2 .left))) _ _ (replicate 64 0) (c .before .before .before .before .before .before .before .before .before .before .before .before .before .before .before .before .before .before .before .before .before .before .before .before .before .args .words .now)
     (c .before .before .before .before .before .before .before .before .before .before .before .encode .ensures) (rw (c .before .before .before .before .before .before .before .encode2 .ensures) at (c .before .before .encode3 .ensures)) (rw (c .before .before .before .before .before .before .before .before .before .before .before .before .before .before .before .before .state .ensures) at (c .before .before .before .before .before .before .before .before .before .before .before .before .before .before .before .transition-row .ensures .0)) (c .before .before .before .before .before .before .before .before .before .before .before .before .before .before .before .before .before .states .ensures)
-    (prod-le (c .before .before .before .before .before .before .before .before .before .before .before .before .before .before .before .before .before .states .result) (c .before .before .before .before .before .before .before .before .before .before .before .before .before .before .before .before .before .states .result) 64 64 (omega (arith, p .0 .states-most)) (omega (arith, p .0 .states-most))) refl (p .1)
+    (all-most (p .0) (c .before .before .before .before .before .before .before .before .before .before .before .before .before .before .before .before .before .states .ensures)) refl (p .1)
 
 pub prepare-spec : {M : Type 1} → statement M
 prepare-spec =

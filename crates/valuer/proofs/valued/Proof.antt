@@ -1,6 +1,5 @@
 -- `valuer::valued` meets its contract: the answer of the valuer at the first byte.
 use Rattle.valuer.proofs.Arms.{here-read, part-values}
-use borrow.Author.Needs.{needs}
 use Rattle.valuer.proofs.valued.Statement.{statement}
 use Rattle.valuer.proofs.valued.Tie as tie
 
