@@ -75,19 +75,10 @@ iterate-value-node-requires t c κs = let p = c .before .before .before .before 
 iterate-returns : (t : ℕ) → iterate-lts.Need-returns (i-claims t) (iterate-at t) iterate.Post iterate-Inv-loop iterate-μ-loop
 iterate-returns t c = turned-all (c .before .before .before .before .before .loop .inv .1) (c .before .value-node .ensures) (omega (arith, c .before .before .before .before .before .before .round-limit .ensures))
 
-iterate-same-requires : (t : ℕ) → iterate-lts.Need-same-requires (i-claims t) (iterate-at t) iterate.Post iterate-Inv-loop iterate-μ-loop
-iterate-same-requires t c κs = omega arith
-
 iterate-returns-2 : (t : ℕ) → iterate-lts.Need-returns-2 (i-claims t) (iterate-at t) iterate.Post iterate-Inv-loop iterate-μ-loop
 iterate-returns-2 t c =
     turned-still (c .before .before .before .before .before .before .before .before .before .loop .inv .1) (c .before .before .before .before .before .value-node .ensures) (omega (arith, c .before .before .before .before .before .before .before .before .before .before .round-limit .ensures)) (c .before .before .before .before .before .before .before .before .before .before .before .states .result) (omega arith)
     (sym (c .before .same .ensures) ∙ c .if2 .taken)
-
-iterate-sub-left : (t : ℕ) → iterate-lts.Need-sub-left (i-claims t) (iterate-at t) iterate.Post iterate-Inv-loop iterate-μ-loop
-iterate-sub-left t c = omega arith
-
-iterate-loop-less : (t : ℕ) → iterate-lts.Need-loop-less (i-claims t) (iterate-at t) iterate.Post iterate-Inv-loop iterate-μ-loop
-iterate-loop-less t c = omega arith
 
 iterate-loop-again : (t : ℕ) → iterate-lts.Need-loop-again (i-claims t) (iterate-at t) iterate.Post iterate-Inv-loop iterate-μ-loop
 iterate-loop-again t c = (omega arith, turned-more (c .before .before .before .before .before .before .before .before .before .before .loop .inv .1) (c .before .before .before .before .before .before .value-node .ensures) _ (omega arith))
@@ -98,20 +89,11 @@ value-node-shared-slice-read-code t c = here-inside (c .before .before .before .
 value-node-add-here : (t : ℕ) → value-node-lts.Need-add-here (v-claims t) (value-node-at t) value-node.Post
 value-node-add-here t c = omega (arith, here-inside (c .before .before .before .before .pre .1 .1))
 
-value-node-constant-requires : (t : ℕ) → value-node-lts.Need-constant-requires (v-claims t) (value-node-at t) value-node.Post
-value-node-constant-requires t c κs = tt
-
-value-node-constant-requires-2 : (t : ℕ) → value-node-lts.Need-constant-requires-2 (v-claims t) (value-node-at t) value-node.Post
-value-node-constant-requires-2 t c κs = tt
-
 value-node-shared-slice-read-variable : (t : ℕ) → value-node-lts.Need-shared-slice-read-variable (v-claims t) (value-node-at t) value-node.Post
 value-node-shared-slice-read-variable t c = here-variable (c .before .match .keys3) (c .before .before .before .before .before .before .pre .1 .1)
 
 value-node-add-variable : (t : ℕ) → value-node-lts.Need-add-variable (v-claims t) (value-node-at t) value-node.Post
 value-node-add-variable t c = omega (arith, here-variable (c .before .match .keys3) (c .before .before .before .before .before .before .pre .1 .1))
-
-value-node-variable-requires : (t : ℕ) → value-node-lts.Need-variable-requires (v-claims t) (value-node-at t) value-node.Post
-value-node-variable-requires t c κs = tt
 
 value-node-shared-slice-read-t32 : (t : ℕ) → value-node-lts.Need-shared-slice-read-t32 (v-claims t) (value-node-at t) value-node.Post
 value-node-shared-slice-read-t32 t c = here-number (either _ 2 (omega arith) (omega arith)) (c .before .before .before .before .before .before .before .pre .1 .1) .inside
@@ -147,9 +129,6 @@ value-node-value-node-requires-3 t c κs =
 value-node-next-values-requires : (t : ℕ) → value-node-lts.Need-next-values-requires (v-claims t) (value-node-at t) value-node.Post
 value-node-next-values-requires t c κs = let p = c .before .before .before .before .before .before .before .before .before .before .before .before .before .before .pre in (p .1 .0, p .1 .2)
 
-value-node-start-of-requires : (t : ℕ) → value-node-lts.Need-start-of-requires (v-claims t) (value-node-at t) value-node.Post
-value-node-start-of-requires t c κs = tt
-
 value-node-iterate-requires : (t : ℕ) → value-node-lts.Need-iterate-requires (v-claims t) (value-node-at t) value-node.Post
 value-node-iterate-requires t c κs =
     let p = c .before .before .before .before .before .before .before .before .before .before .before .before .pre in
@@ -181,47 +160,18 @@ value-node-returns-8 : (t : ℕ) → value-node-lts.Need-returns-8 (v-claims t) 
 value-node-returns-8 t c = no-arm (c .if4 .left)
 
 pub +iterate+value-node-spec : {M : Type 1} → statement M
-+iterate+value-node-spec = close μ-iterate μ-value-node (λ t. iterate-lts.spec (i-claims t)
-    (iterate-at t)
-    iterate.Post
-    iterate-Inv-loop
-    iterate-μ-loop
-    (iterate-states-requires t)
-    (iterate-round-limit-requires t)
-    (iterate-loop-holds t)
-    (iterate-value-node-requires t)
-    (iterate-returns t)
-    (iterate-same-requires t)
-    (iterate-returns-2 t)
-    (iterate-sub-left t)
-    (iterate-loop-less t)
++iterate+value-node-spec =
+    close μ-iterate μ-value-node
+    (λ t. iterate-lts.spec (i-claims t) (iterate-at t) iterate.Post iterate-Inv-loop iterate-μ-loop
+    (iterate-states-requires t) (iterate-round-limit-requires t) (iterate-loop-holds t) (iterate-value-node-requires t)
+    (iterate-returns t) (λ c κs. omega arith) (iterate-returns-2 t) (λ c. omega arith) (λ c. omega arith)
     (iterate-loop-again t))
-    λ t. value-node-lts.spec (v-claims t)
-    (value-node-at t)
-    value-node.Post
-    (value-node-shared-slice-read-code t)
-    (value-node-add-here t)
-    (value-node-constant-requires t)
-    (value-node-constant-requires-2 t)
-    (value-node-shared-slice-read-variable t)
-    (value-node-add-variable t)
-    (value-node-variable-requires t)
-    (value-node-shared-slice-read-t32 t)
-    (value-node-add-literals t)
-    (value-node-literals-requires t)
-    (value-node-value-node-requires t)
-    (value-node-value-node-requires-2 t)
-    (value-node-states-requires t)
-    (value-node-combined-requires t)
-    (value-node-value-node-requires-3 t)
-    (value-node-next-values-requires t)
-    (value-node-start-of-requires t)
-    (value-node-iterate-requires t)
-    (value-node-returns t)
-    (value-node-returns-2 t)
-    (value-node-returns-3 t)
-    (value-node-returns-4 t)
-    (value-node-returns-5 t)
-    (value-node-returns-6 t)
-    (value-node-returns-7 t)
-    (value-node-returns-8 t)
+    (λ t. value-node-lts.spec (v-claims t) (value-node-at t) value-node.Post
+    (value-node-shared-slice-read-code t) (value-node-add-here t) (λ c κs. tt) (λ c κs. tt)
+    (value-node-shared-slice-read-variable t) (value-node-add-variable t) (λ c κs. tt)
+    (value-node-shared-slice-read-t32 t) (value-node-add-literals t) (value-node-literals-requires t)
+    (value-node-value-node-requires t) (value-node-value-node-requires-2 t) (value-node-states-requires t)
+    (value-node-combined-requires t) (value-node-value-node-requires-3 t) (value-node-next-values-requires t)
+    (λ c κs. tt) (value-node-iterate-requires t) (value-node-returns t) (value-node-returns-2 t)
+    (value-node-returns-3 t) (value-node-returns-4 t) (value-node-returns-5 t) (value-node-returns-6 t)
+    (value-node-returns-7 t) (value-node-returns-8 t))
