@@ -57,36 +57,29 @@ module _ {f : List ℕ} {at k : ℕ} where
   known : (c : ℕ) → getD f at 0 ≡ c → (Q : Type 0) → ((d p : ℕ) (g h : Formula) → Spelled f at d k (build c p g h) → Q) → Here f at k → Q
   known c e Q w x = by-code (x .spelled) c e (λ φ. Spelled f at (x .depth) k φ → Q) (w (x .depth)) (x .spelled)
 
+  -- with a code of a pair
+  known-pair : (c : ℕ) → (getD f at 0 ≡ c) ⊎ (getD f at 0 ≡ c + 1) → (Q : Type 0) → ((d p : ℕ) (g h : Formula) → Spelled f at d k (build c p g h) → Q)
+      → ((d p : ℕ) (g h : Formula) → Spelled f at d k (build (c + 1) p g h) → Q) → Here f at k → Q
+  known-pair c e Q u v x = ⊎-elim (λ e. known c e Q u x) (λ e. known (c + 1) e Q v x) e
+
   pub here-inside : Here f at k → at < length f
   here-inside x = inside (x .spelled)
 
   pub here-number : (getD f at 0 ≡ 2) ⊎ (getD f at 0 ≡ 3) → Here f at k → Number f at k
   unfolding overProps
-  here-number c x =
-      ⊎-elim
-      (λ e. known 2 e _ (λ d p g h s. number (of-prop p s) (ltb-true p k (s .over))) x)
-      (λ e. known 3 e _ (λ d p g h s. number (of-negated p s) (ltb-true p k (s .over))) x) c
+  here-number c = known-pair 2 c _ (λ d p g h s. number (of-prop p s) (ltb-true p k (s .over))) (λ d p g h s. number (of-negated p s) (ltb-true p k (s .over)))
 
   pub here-variable : getD f at 0 ≡ 4 → Here f at k → at + 1 < length f
   here-variable e x = known 4 e _ (λ d p g h s. of-var p s .inside) x
 
   pub here-first : (getD f at 0 ≡ 5) ⊎ (getD f at 0 ≡ 6) → Here f at k → Here f (at + 1) k
-  here-first c x =
-      ⊎-elim
-      (λ e. known 5 e _ (λ d p g h s. here (of-or g h s .first)) x)
-      (λ e. known 6 e _ (λ d p g h s. here (of-and g h s .first)) x) c
+  here-first c = known-pair 5 c _ (λ d p g h s. here (of-or g h s .first)) (λ d p g h s. here (of-and g h s .first))
 
   pub here-inner : (getD f at 0 ≡ 7) ⊎ (getD f at 0 ≡ 8) → Here f at k → Here f (at + 1) k
-  here-inner c x =
-      ⊎-elim
-      (λ e. known 7 e _ (λ d p g h s. here (of-AX g s)) x)
-      (λ e. known 8 e _ (λ d p g h s. here (of-EX g s)) x) c
+  here-inner c = known-pair 7 c _ (λ d p g h s. here (of-AX g s)) (λ d p g h s. here (of-EX g s))
 
   pub here-body : (getD f at 0 ≡ 9) ⊎ (getD f at 0 ≡ 10) → Here f at k → Here f (at + 1) k
-  here-body c x =
-      ⊎-elim
-      (λ e. known 9 e _ (λ d p g h s. here (of-mu g s)) x)
-      (λ e. known 10 e _ (λ d p g h s. here (of-nu g s)) x) c
+  here-body c = known-pair 9 c _ (λ d p g h s. here (of-mu g s)) (λ d p g h s. here (of-nu g s))
 
 -- the maps that the three lists hold
 pub held : (n : ℕ) (near mid far : List ℕ) (d : ℕ) → SlotsHold n near mid far d (λ v q. getD (slotOf near mid far v) q 0)
@@ -104,10 +97,7 @@ module _ {t : List ℕ} {l : Lattice} {m f : List ℕ} {at : ℕ} {near mid far 
       record { further = omega (arith, a .next); stands = subst (λ (i : ℕ). Here f i (getD m 1 0)) (sym (a .next)) (here (p .second)) }
 
   pub here-second : {x : List ℕ} {i : ℕ} → (getD f at 0 ≡ 5) ⊎ (getD f at 0 ≡ 6) → Here f at (getD m 1 0) → Node t l m f (at + 1) near mid far x i → Second f at (getD m 1 0) i
-  here-second c y n =
-      ⊎-elim
-      (λ e. known 5 e _ (λ d p g h s. second (of-or g h s) n) y)
-      (λ e. known 6 e _ (λ d p g h s. second (of-and g h s) n) y) c
+  here-second c y n = known-pair 5 c _ (λ d p g h s. second (of-or g h s) n) (λ d p g h s. second (of-and g h s) n) y
 
 -- ---- the arms
 
