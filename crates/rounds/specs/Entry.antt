@@ -1,5 +1,9 @@
 -- The parts of an entry of F, and score, from what the loops find in the bytes of models and tables. Rests on Table,
 -- theory's Folds, Part, Simulation, and model's Places.
+--   implies-next, both-ways: → and ↔ from what the lookups give
+--   held-by: a table that is held, by the numbers that the code found
+--   proposition-part, successor-part: the two parts of an entry, from the rows of values that the code reads
+--   score-whole: score, from the initial values
 use Prim.Native.Nat.{ℕ, _+_, _*_, _≤_}
 use mathlib.Core.Path.{_≡_, ap, ap₂, _∙_}
 use mathlib.Core.List.{List}

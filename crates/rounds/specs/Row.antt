@@ -1,5 +1,10 @@
 -- One row: where it stands in a table, and what a loop over a row's entries has done so far.
--- Rests on Table, theory's Test, Loop and Written, and model's Places.
+-- Rests on Table, theory's Test and Written, and model's Places.
+--   RowAt, row-at, row-entry: where a row stands, and its entries; few-entries: a table has at most 4,096
+--   same-eqb, differ-eqb: the test of two bytes that stand for two entries
+--   RowSoFar: the entries so far are written and compared; row-none, row-more, row-all: its begin, turn and end
+--   row-written: at the row's end, what `row` says
+--   not-and: not of an and
 use Prim.Native.Nat.{ℕ, _+_, _*_, _≤_, _<_}
 use mathlib.Core.Path.{_≡_, refl, sym, _∙_}
 use mathlib.Core.Bool.{Bool, true, false, not, _&&_, _||_}

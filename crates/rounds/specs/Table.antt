@@ -4,7 +4,8 @@
 --   Shaped, Room: what the functions ask of models and tables
 --   rowWritten, rowSame, rowChanged, changedBelow, simulationTest: a row in its place, what it changes, S = G(S)
 --   iffIn, shareIn: ↔ and share by a lattice's tables
---   entryIn, propositionsIn, successorsIn, scoreIn, matched, matchedIn, joinOfMeets: F's entry, its two parts, score, and their common form
+--   FIn, entryIn, propositionsIn, successorsIn, scoreIn, matched, matchedIn, joinOfMeets: F's entry, its two parts, score, and their
+--     common form
 --   RowIn, rowSameIn, simulationIn: what working a row does, the tests on bytes
 use Prim.Native.Nat.{ℕ, _+_, _*_, _≤_}
 use mathlib.Core.Path.{_≡_}

@@ -1,9 +1,9 @@
 // The two ways of working a row, held against each other: every entry of F by `rounds::entry`, which goes by the tables; the same by rows, and by a
 // whole round, of `rowcodes`. First over the subsets of six things, whose elements have codes; then over the same tables with one join
 // changed, which no codes fit, so that rows and rounds go by the tables too. Models of 24 states and two propositions.
-use lattice::LatticeCheck;
 use libc::STDOUT_FILENO;
 use model::State;
+use operations::Element;
 use operations::Lattice;
 ghost use mathlib.Core.Path.{_≡_};
 ghost use Prim.Native.Nat.{_+_, _≤_};
@@ -26,18 +26,16 @@ fn within(a: u8, b: u8) -> u8 {
     if (a & b) == a { 1 } else { 0 }
 }
 
-// The lattice part of the subsets: a number's bits are the things in it.
-fn fill_subsets(part: &mut [u8; 4161]) {
-    part[0] = 64;
+// The tables of the subsets: a number's bits are the things in it.
+fn fill_subsets(t: &mut [u8; 12352]) {
     for k in 0..4096usize {
         let a = (k / 64) as u8;
-        part[1 + k / 64] = 63 - a;
-        part[65 + k] = within(a, (k % 64) as u8);
+        let b = (k % 64) as u8;
+        t[k] = within(a, b);
+        t[4096 + k] = a & b;
+        t[8192 + k] = a | b;
+        t[12288 + k / 64] = 63 - a;
     }
-}
-
-fn check(part: &[u8; 4161], t: &mut [u8; 12352]) -> LatticeCheck {
-    lattice::check(part, t)
 }
 
 fn set_sizes(m: &mut [u8])
@@ -114,9 +112,14 @@ fn say_codes(t: &[u8; 12352], l: Lattice) {
 }
 
 // The three ways over one lattice's tables.
-fn ways(t: &[u8; 12352], l: Lattice, m1: &[u8], m2: &[u8])
+fn ways(t: &[u8; 12352], m1: &[u8], m2: &[u8])
     requires { ⌜ Full (now m1) × Full (now m2) ⌝ }
 {
+    let l = Lattice {
+        size: 64,
+        top: Element(63),
+        bottom: Element(0),
+    };
     say_codes(t, l);
     let mut s = [0u8; 650];
     scatter(&mut s, 7);
@@ -141,13 +144,9 @@ fn main() {
     let mut m2 = [0u8; 650];
     scatter(&mut m2, 5);
     set_sizes(&mut m2);
-    let mut part = [0u8; 4161];
-    fill_subsets(&mut part);
     let mut t = [0u8; 12352];
-    let LatticeCheck::Accepted(l) = check(&part, &mut t) else {
-        return;
-    };
-    ways(&t, l, &m1, &m2);
+    fill_subsets(&mut t);
+    ways(&t, &m1, &m2);
     t[8192 + 4095] = 62;
-    ways(&t, l, &m1, &m2);
+    ways(&t, &m1, &m2);
 }

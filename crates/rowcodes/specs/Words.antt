@@ -3,6 +3,7 @@
 --   iffWord, joinWord, meetWord, propositionsWord, innerWord, tableWord: the words
 --   propositions-word: propositionsWord, from the places where the code reads
 --   Rows, rows-none, rows-more, rows-all: the rows so far are as a rule says
+--   word-at: a word that `codes::encode` wrote
 --   RowWords, row-words: the words of the transitions that leave a state, and how they are got
 --   inner-more: one row more of the inner joins
 use Prim.Native.Nat.{ℕ, _+_, _*_, _≤_, _<_}

@@ -1,9 +1,10 @@
 -- `rounds::row` meets its contract: the entries below q2 are written and compared. Assumes nothing.
 use mathlib.Core.Path.{_≡_, refl}
-use Prim.Native.Nat.{_*_, _≤_, _-_}
+use Prim.Native.Nat.{_≤_, _-_}
 use native.Mathlib.Omega.{arith}
 use borrow.Author.Needs.{needs}
 use lib.ListN.{length, getD, length-set}
+use Rattle.model.specs.Places.{prod-le}
 use Rattle.rounds.specs.Table.{tableOf, rowSame, entryIn}
 use Rattle.rounds.specs.Row.{RowAt, row-at, row-entry, RowSoFar, row-none, row-more, row-all, row-written}
 use Rattle.rounds.proofs.row.Statement.{statement}
@@ -19,17 +20,13 @@ Inv-loop t l m1 m2 s out₀ q1 n2 at changed₀ q2₀ out changed q2 =
 abbrev μ-loop : tie.MeasureT-loop
 μ-loop t l m1 m2 s out₀ q1 n2 at changed₀ q2₀ out changed q2 = n2 - q2
 
--- where the row stands
-place : (c : tie.After-index Inv-loop μ-loop) → RowAt (c .before .before .before .before .before .before .args .m1 .now) (c .before .before .before .before .before .before .args .m2 .now) (c .before .before .before .before .before .before .args .q1 .0) (c .before .states .result) (c .index .result * c .before .states .result)
-place c =
-    let b = c .before .before .before .before .before .before in
-    row-at _ _ (b .args .s .now) _ _ _ (b .pre .0) (b .pre .2) (c .before .states .ensures) (c .index .ensures .0)
-
 mul-at : tie.Need-mul-at Inv-loop μ-loop
-mul-at c = omega (arith, place c, c .before .before .before .before .before .before .pre .1)
+mul-at c = omega (arith, prod-le (c .index .result) (c .before .states .result) 255 64 (omega arith) (omega arith))
 
 loop-holds : tie.Need-loop-holds Inv-loop μ-loop
-loop-holds c = (place c, omega arith, refl, row-none)
+loop-holds c =
+    let b = c .before .before .before .before .before .before in
+    (row-at _ _ (b .args .s .now) _ _ _ (b .pre .0) (b .pre .2) (c .before .states .ensures) (c .index .ensures .0), omega arith, refl, row-none)
 
 loop-again : tie.Need-loop-again Inv-loop μ-loop
 loop-again c =

@@ -1,11 +1,12 @@
 -- `rounds::row_same` meets its contract: the entries below q2 are equal. Assumes nothing.
 use mathlib.Core.Path.{sym}
-use Prim.Native.Nat.{_*_, _≤_, _-_}
+use Prim.Native.Nat.{_≤_, _-_}
 use native.Mathlib.Omega.{arith}
 use borrow.Author.Needs.{needs}
 use lib.ListN.{getD}
 use Rattle.theory.specs.Part.{modelOf}
 use Rattle.theory.specs.TestLaws.{all-fails}
+use Rattle.model.specs.Places.{prod-le}
 use Rattle.rounds.specs.Table.{tableOf, entrySame, rowSame, FIn}
 use Rattle.rounds.specs.Row.{RowAt, row-at, row-entry, same-eqb, differ-eqb}
 use Rattle.theory.specs.Loop.{Passed, passed-none, passed-more, passed-all}
@@ -21,17 +22,13 @@ Inv-loop t l m1 m2 s q1 n2 at q2₀ q2 =
 abbrev μ-loop : tie.MeasureT-loop
 μ-loop t l m1 m2 s q1 n2 at q2₀ q2 = n2 - q2
 
--- where the row stands
-place : (c : tie.After-index Inv-loop μ-loop) → RowAt (c .before .before .before .before .before .args .m1 .now) (c .before .before .before .before .before .args .m2 .now) (c .before .before .before .before .before .args .q1 .0) (c .before .states .result) (c .index .result * c .before .states .result)
-place c =
-    let b = c .before .before .before .before .before in
-    row-at _ _ (b .args .s .now) _ _ _ (b .pre .0) (b .pre .1) (c .before .states .ensures) (c .index .ensures .0)
-
 mul-at : tie.Need-mul-at Inv-loop μ-loop
-mul-at c = omega (arith, place c, c .before .before .before .before .before .pre .0 .held)
+mul-at c = omega (arith, prod-le (c .index .result) (c .before .states .result) 255 64 (omega arith) (omega arith))
 
 loop-holds : tie.Need-loop-holds Inv-loop μ-loop
-loop-holds c = (place c, omega arith, passed-none)
+loop-holds c =
+    let b = c .before .before .before .before .before in
+    (row-at _ _ (b .args .s .now) _ _ _ (b .pre .0) (b .pre .1) (c .before .states .ensures) (c .index .ensures .0), omega arith, passed-none)
 
 returns : tie.Need-returns Inv-loop μ-loop
 unfolding rowSame

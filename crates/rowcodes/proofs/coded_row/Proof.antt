@@ -1,7 +1,8 @@
 -- `rowcodes::coded_row` meets its contract: the entries below q2 are written and compared. Assumes nothing.
 use mathlib.Core.Path.{_≡_, refl}
-use Prim.Native.Nat.{_*_, _≤_, _-_}
+use Prim.Native.Nat.{_≤_, _-_}
 use lib.ListN.{length, getD, length-set}
+use Rattle.model.specs.Places.{prod-le}
 use Rattle.rowcodes.specs.Words.{RowWords, row-words}
 use Rattle.rounds.specs.Table.{tableOf, rowSame, entryIn}
 use Rattle.rounds.specs.Row.{few-entries, RowAt, row-at, row-entry, RowSoFar, row-none, row-more, row-all, row-written}
@@ -21,23 +22,18 @@ Inv-loop t l m1 m2 s codes negated joins out₀ q1 n2 at left from changed₀ q2
 abbrev μ-loop : tie.MeasureT-loop
 μ-loop t l m1 m2 s codes negated joins out₀ q1 n2 at left from changed₀ q2₀ out changed q2 = n2 - q2
 
--- where the row stands
-place : (c : tie.After-index Inv-loop μ-loop) → RowAt (c .before .before .before .before .before .before .args .m1 .now) (c .before .before .before .before .before .before .args .m2 .now) (c .before .before .before .before .before .before .args .q1 .0) (c .before .states .result) (c .index .result * c .before .states .result)
-place c =
-    let b = c .before .before .before .before .before .before in
-    row-at _ _ (b .args .s .now) _ _ _ (b .pre .0) (b .pre .3) (c .before .states .ensures) (c .index .ensures .0)
-
 mul-at : tie.Need-mul-at Inv-loop μ-loop
-mul-at c = omega (arith, place c, c .before .before .before .before .before .before .pre .2)
+mul-at c = omega (arith, prod-le (c .index .result) (c .before .states .result) 255 64 (omega arith) (omega arith))
 
 loop-holds : tie.Need-loop-holds Inv-loop μ-loop
-loop-holds c = (
-  place (c .before .before .before .before .before),
-  omega arith,
-  refl,
-  row-words (c .before .before .before .before .before .before .before .before .before .before .before .args .negated .now) (c .before .before .before .before .before .before .before .before .before .before .before .args .m1 .now) _ _ _ _ (c .before .encode .ensures) (omega arith) (c .before .before .before .before .transition-row .ensures .0) (c .before .before .before .states2 .ensures),
-  row-none,
-)
+loop-holds c =
+    let b = c .before .before .before .before .before .before .before .before .before .before .before in (
+      row-at _ _ (b .args .s .now) _ _ _ (b .pre .0) (b .pre .3) (c .before .before .before .before .before .before .states .ensures) (c .before .before .before .before .before .index .ensures .0),
+      omega arith,
+      refl,
+      row-words (b .args .negated .now) (b .args .m1 .now) _ _ _ _ (c .before .encode .ensures) (omega arith) (c .before .before .before .before .transition-row .ensures .0) (c .before .before .before .states2 .ensures),
+      row-none,
+    )
 
 coded-entry-requires : tie.Need-coded-entry-requires Inv-loop μ-loop
 coded-entry-requires c κs =

@@ -4,7 +4,7 @@ use Rattle.rowcodes.proofs.large_round.Statement.{statement}
 use Rattle.rowcodes.proofs.large_round.Tie as tie
 
 coded-round-requires : tie.Need-coded-round-requires
-coded-round-requires c κs = (c .before .before .before .before .before .before .before .before .before .before .before .before .before .before .pre .0, c .before .before .before .before .before .before .prepare .ensures (c .before .before .before .before .if1 .taken), c .before .before .before .before .before .before .before .before .before .before .before .before .before .before .pre .1)
+coded-round-requires c κs = (search needs, c .before .before .before .before .before .before .prepare .ensures (c .before .before .before .before .if1 .taken), search needs)
 
 pub large-round-spec : {M : Type 1} → statement M
 large-round-spec =

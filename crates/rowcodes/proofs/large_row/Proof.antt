@@ -4,7 +4,7 @@ use Rattle.rowcodes.proofs.large_row.Statement.{statement}
 use Rattle.rowcodes.proofs.large_row.Tie as tie
 
 coded-row-requires : tie.Need-coded-row-requires
-coded-row-requires c κs = (c .before .before .before .before .before .before .before .before .before .before .before .before .before .before .pre .0, c .before .before .before .before .before .before .prepare .ensures (c .before .before .before .before .if1 .taken), c .before .before .before .before .before .before .before .before .before .before .before .before .before .before .pre .1, c .before .before .before .before .before .before .before .before .before .before .before .before .before .before .pre .2)
+coded-row-requires c κs = (search needs, c .before .before .before .before .before .before .prepare .ensures (c .before .before .before .before .if1 .taken), search needs, search needs)
 
 pub large-row-spec : {M : Type 1} → statement M
 large-row-spec =

@@ -11,26 +11,13 @@ use native.Mathlib.Omega.{arith}
 use Rattle.rowcodes.proofs.words.only_elements.Statement.{statement}
 use Rattle.rowcodes.proofs.words.only_elements.Tie as tie
 
-returns : tie.Need-returns
-returns c = λ e. absurd (false-true refl e)
-
-returns-2 : tie.Need-returns-2
-returns-2 c = λ e. absurd (false-true refl e)
-
-returns-3 : tie.Need-returns-3
-returns-3 c = λ e. absurd (false-true refl e)
-
-returns-4 : tie.Need-returns-4
-returns-4 c = λ e. absurd (false-true refl e)
-
-returns-5 : tie.Need-returns-5
-returns-5 c = λ e. absurd (false-true refl e)
-
 mul-below : tie.Need-mul-below
 mul-below c = omega (arith, prod-le (c .before .states .result) (c .states2 .result) 64 64 (omega arith) (omega arith))
 
 below-requires-4 : tie.Need-below-requires-4
-below-requires-4 c κs = omega (arith, held-by (c .before .before .before .before .before .before .before .before .before .before .before .before .before .before .before .before .before .args .m1 .now) (c .before .before .before .before .before .before .before .before .before .before .before .before .before .before .before .before .before .args .m2 .now) (c .before .before .before .before .before .before .before .before .before .before .before .before .before .before .before .before .before .args .s .now) _ _ (c .before .before .before .before .before .before .before .before .before .before .before .before .before .before .before .before .before .pre .0) (c .before .states .ensures) (c .states2 .ensures))
+below-requires-4 c κs =
+    let a = c .before .before .before .before .before .before .before .before .before .before .before .before .before .before .before .before .before .args in
+    omega (arith, held-by (a .m1 .now) (a .m2 .now) (a .s .now) _ _ (c .before .before .before .before .before .before .before .before .before .before .before .before .before .before .before .before .before .pre .0) (c .before .states .ensures) (c .states2 .ensures))
 
 returns-6 : tie.Need-returns-6
 returns-6 c =
@@ -48,6 +35,7 @@ returns-6 c =
 
 pub only-elements-spec : {M : Type 1} → statement M
 only-elements-spec =
-    tie.close (tie.spec returns returns-2 (λ c κs. search needs) (λ c κs. search needs) returns-3 (λ c. search needs)
-    (λ c κs. search needs) returns-4 (λ c. search needs) (λ c κs. search needs) returns-5 (λ c κs. search needs)
-    (λ c κs. search needs) mul-below below-requires-4 returns-6)
+    tie.close (tie.spec (λ c e. absurd (false-true refl e)) (λ c e. absurd (false-true refl e)) (λ c κs. search needs) (λ c κs. search needs)
+    (λ c e. absurd (false-true refl e)) (λ c. search needs) (λ c κs. search needs) (λ c e. absurd (false-true refl e)) (λ c. search needs)
+    (λ c κs. search needs) (λ c e. absurd (false-true refl e)) (λ c κs. search needs) (λ c κs. search needs) mul-below
+    below-requires-4 returns-6)
