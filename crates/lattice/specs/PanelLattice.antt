@@ -69,9 +69,9 @@ record EachAtMost (a b : ℕ) : Type 0 where
   second : middle a ≤ middle b
   third : low a ≤ low b
 
-each-in : {a b : ℕ} → EachAtMost a b → panelOrder (a % 27) (b % 27) ≡ true
+each-in : (a b : ℕ) → high a ≤ high b → middle a ≤ middle b → low a ≤ low b → panelOrder (a % 27) (b % 27) ≡ true
 unfolding panelOrder
-each-in w = and-in _ _ (and-in _ _ (le-leb _ _ (w .first)) (le-leb _ _ (w .second))) (le-leb _ _ (w .third))
+each-in a b x y z = and-in _ _ (and-in _ _ (le-leb _ _ x) (le-leb _ _ y)) (le-leb _ _ z)
 
 each-out : (a b : ℕ) → panelOrder (a % 27) (b % 27) ≡ true → EachAtMost a b
 unfolding panelOrder
@@ -117,40 +117,37 @@ neg-digit x y l = omega arith
 panelLaws : Laws panelOps
 panelLaws =
     record {
-      rfl = λ a. each-in (record { first = le-refl _; second = le-refl _; third = le-refl _ });
-      trans = λ {a} {b} {c} p q. let u = each-out a b p in let v = each-out b c q in each-in (record { first = omega arith; second = omega arith; third = omega arith });
+      rfl = λ a. each-in _ _ (le-refl _) (le-refl _) (le-refl _);
+      trans = λ {a} {b} {c} p q. let u = each-out a b p in let v = each-out b c q in each-in _ _ (omega arith) (omega arith) (omega arith);
       antisym = λ {a} {b} l m p q. same-digits a b (ltb-true _ _ l) (ltb-true _ _ m) (each-out a b p) (each-out b a q);
-      meet-l = λ a b. let d = meet-digits a b in each-in (record { first = omega arith; second = omega arith; third = omega arith });
-      meet-r = λ a b. let d = meet-digits a b in each-in (record { first = omega arith; second = omega arith; third = omega arith });
+      meet-l = λ a b. let d = meet-digits a b in each-in _ _ (omega arith) (omega arith) (omega arith);
+      meet-r = λ a b. let d = meet-digits a b in each-in _ _ (omega arith) (omega arith) (omega arith);
       meet-glb = λ {a} {b} {c} p q.
           let d = meet-digits a b in
           let u = each-out c a p in
           let v = each-out c b q in
-          each-in (record { first = glb-digit (d .first) (u .first) (v .first); second = glb-digit (d .second) (u .second) (v .second); third = glb-digit (d .third) (u .third) (v .third) });
-      join-l = λ a b. let d = join-digits a b in each-in (record { first = omega arith; second = omega arith; third = omega arith });
-      join-r = λ a b. let d = join-digits a b in each-in (record { first = omega arith; second = omega arith; third = omega arith });
-      join-lub = λ {a} {b} {c} p q. let d = join-digits a b in let u = each-out a c p in let v = each-out b c q in each-in (record { first = omega arith; second = omega arith; third = omega arith });
+          each-in _ _ (glb-digit (d .first) (u .first) (v .first)) (glb-digit (d .second) (u .second) (v .second)) (glb-digit (d .third) (u .third) (v .third));
+      join-l = λ a b. let d = join-digits a b in each-in _ _ (omega arith) (omega arith) (omega arith);
+      join-r = λ a b. let d = join-digits a b in each-in _ _ (omega arith) (omega arith) (omega arith);
+      join-lub = λ {a} {b} {c} p q. let d = join-digits a b in let u = each-out a c p in let v = each-out b c q in each-in _ _ (omega arith) (omega arith) (omega arith);
       dist = λ a b c.
           let u = join-digits b c in
           let v = meet-digits a (panelOps .join b c) in
           let x = meet-digits a b in
           let y = meet-digits a c in
           let z = join-digits (panelOps .meet a b) (panelOps .meet a c) in
-          each-in
-          (record {
-            first = dist-digit (high a) (high b) (high c) (u .first) (v .first) (x .first) (y .first) (z .first);
-            second = dist-digit (middle a) (middle b) (middle c) (u .second) (v .second) (x .second) (y .second) (z .second);
-            third = dist-digit (low a) (low b) (low c) (u .third) (v .third) (x .third) (y .third) (z .third);
-          });
+          each-in _ _ (dist-digit (high a) (high b) (high c) (u .first) (v .first) (x .first) (y .first) (z .first))
+          (dist-digit (middle a) (middle b) (middle c) (u .second) (v .second) (x .second) (y .second) (z .second))
+          (dist-digit (low a) (low b) (low c) (u .third) (v .third) (x .third) (y .third) (z .third));
       neg-anti = λ {a} {b} p.
           let u = each-out a b p in
           let d = neg-digits a in
           let k = neg-digits b in
-          each-in (record { first = neg-digit (d .first) (k .first) (u .first); second = neg-digit (d .second) (k .second) (u .second); third = neg-digit (d .third) (k .third) (u .third) });
-      neg-in = λ a. let d = neg-digits a in let k = neg-digits (26 - a % 27) in each-in (record { first = omega arith; second = omega arith; third = omega arith });
-      neg-out = λ a. let d = neg-digits a in let k = neg-digits (26 - a % 27) in each-in (record { first = omega arith; second = omega arith; third = omega arith });
-      top-max = λ a. each-in {a = a} {b = 26} (record { first = omega arith; second = omega arith; third = omega arith });
-      bot-min = λ a. each-in {a = 0} {b = a} (record { first = omega arith; second = omega arith; third = omega arith });
+          each-in _ _ (neg-digit (d .first) (k .first) (u .first)) (neg-digit (d .second) (k .second) (u .second)) (neg-digit (d .third) (k .third) (u .third));
+      neg-in = λ a. let d = neg-digits a in let k = neg-digits (26 - a % 27) in each-in _ _ (omega arith) (omega arith) (omega arith);
+      neg-out = λ a. let d = neg-digits a in let k = neg-digits (26 - a % 27) in each-in _ _ (omega arith) (omega arith) (omega arith);
+      top-max = λ a. each-in a 26 (omega arith) (omega arith) (omega arith);
+      bot-min = λ a. each-in 0 a (omega arith) (omega arith) (omega arith);
       meet-element = λ a b. lt-ltb _ _ (meet-digits a b .small);
       join-element = λ a b. lt-ltb _ _ (join-digits a b .small);
       neg-element = λ a. lt-ltb _ _ (neg-digits a .small);
