@@ -12,17 +12,14 @@ use lib.Dec.{ltb, eqb}
 use lib.ListN.{length, getD, take}
 use Rattle.theory.specs.Model.{Model}
 use Rattle.theory.specs.Part.{modelOf}
-use Rattle.theory.specs.Simulation.{F, score}
 use Rattle.theory.specs.TestLaws.{and-l, and-r, and-in}
-use Rattle.operations.specs.Table.{opsIn}
 use Rattle.formula.specs.Bytes.{read, formulaReading}
 use Rattle.casefile.specs.declared.Sizes.{Sizes}
 use Rattle.casefile.specs.Directory.{partCount, partAt}
 use Rattle.casefile.specs.Conditions.{Placed}
 use Rattle.valuer.specs.Values.{ValueAt, WholeValue}
-use Rattle.rounds.specs.Table.{tableOf, Shaped, simulationTest}
+use Rattle.rounds.specs.Table.{Shaped, shareIn, scoreIn, simulationIn}
 use Rattle.rounds.specs.Share.{share-in}
-use Rattle.rounds.specs.Table.{shareIn}
 use Rattle.desk.specs.Desk.{Desk, Question, Call, Reply, wholeTable}
 use Rattle.desk.specs.Case.{N1, N2, modelIn, formulaIn}
 use Rattle.desk.specs.CaseParts.{Valuable, model-part, formula-part, parts-valuable}
@@ -40,10 +37,10 @@ pub record Readable (b table : List ℕ) : Type 0 where
 
 -- the score of a table, and whether it is a simulation, for the models of the case b, by the tables t and the numbers l of a lattice
 abbrev pub caseScore : List ℕ → Lattice → List ℕ → List ℕ → ℕ
-caseScore t l b table = score (opsIn t l) (modelOf (partAt b 1)) (modelOf (partAt b 2)) (tableOf table (getD (partAt b 2) 0 0))
+caseScore t l b table = scoreIn t l (partAt b 1) (partAt b 2) table
 
 abbrev pub caseSimulation : List ℕ → Lattice → List ℕ → List ℕ → Bool
-caseSimulation t l b table = simulationTest (modelOf (partAt b 1)) (modelOf (partAt b 2)) (F (opsIn t l) (modelOf (partAt b 1)) (modelOf (partAt b 2))) (tableOf table (getD (partAt b 2) 0 0))
+caseSimulation t l b table = simulationIn t l (partAt b 1) (partAt b 2) table
 
 abbrev pub rangeTest : ℕ → ℕ → ℕ → Bool
 rangeTest f m formulas = ltb f formulas && isModel m

@@ -17,7 +17,7 @@ use Rattle.theory.specs.Part.{LatticePart, isMeet, meetOf}
 use Rattle.operations.specs.declared.Element.{Element}
 use Rattle.bounds.specs.declared.Found.{Found}
 use Rattle.bounds.specs.declared.Found.the-variants.{At, Nothing}
-use Rattle.order.specs.Bounds.{first-only, Antisymmetric, meet-in, meet-out, meet-is, meet-same}
+use Rattle.order.specs.Bounds.{first-only, Antisymmetric, meet-in, meet-out, meet-is, meet-unique}
 use Rattle.order.specs.DeMorgan.{MeetAt}
 
 -- the order in which the bound wanted is a meet: the order itself for a meet, the same the other way round for a join (true)
@@ -108,7 +108,7 @@ module _ (P : LatticePart) (s : Antisymmetric P) (a b : ℕ) where
   -- a meet is the one that is found
   pub meet-only : (m : ℕ) → m < P .size → MeetAt P a b m → m ≡ meetOf P a b
   unfolding meetOf
-  meet-only m l v = sym (first-only (P .size) (isMeet P a b) m l (meet-in P a b m v) (λ i j t. meet-same P a b m i s l j v (meet-out P a b i t)))
+  meet-only m l v = sym (first-only (P .size) (isMeet P a b) m l (meet-in P a b m v) (λ i j t. meet-unique P a b m i s l j v (meet-out P a b i t)))
 
   -- a number at or below a and b is at or below their meet
   low-meet : (c m : ℕ) → c < P .size → lower (P .order) a b c ≡ true → MeetAt P a b m → P .order c m ≡ true

@@ -6,7 +6,7 @@
 --   part-length, parts-length, parts-four: the parts of a placed case
 --   gapless-most, written-most: the gapless form has at most 16,618 bytes
 --   gapless-reads, store-reads, written-reads: it is read as the same content, in a store too
---   same-content, same-gapless: the same parts give the same content and the same gapless form
+--   content-unique, same-gapless: the same parts give the same content and the same gapless form
 use Prim.Native.Nat.{ℕ, zero, suc, _+_, _*_, _-_, _≤_, _<_}
 use mathlib.Core.Path.{_≡_, refl, sym, ap, _∙_}
 use mathlib.Core.Bool.{Bool, true, false, cond, _&&_, _||_}
@@ -222,8 +222,8 @@ pub written-reads : (b : List ℕ) (c : Content) → caseReading b ≡ content c
 written-reads b c e r = rw (accepted-case b c e .parts) (store-reads b c e r)
 
 -- cases with the same parts have the same content, and the same gapless form
-pub same-content : (b d : List ℕ) (c f : Content) → caseReading b ≡ content c → caseReading d ≡ content f → contentParts c ≡ contentParts f → c ≡ f
-same-content b d c f p q e = go (accepted-case b c p) (accepted-case d f q)
+pub content-unique : (b d : List ℕ) (c f : Content) → caseReading b ≡ content c → caseReading d ≡ content f → contentParts c ≡ contentParts f → c ≡ f
+content-unique b d c f p q e = go (accepted-case b c p) (accepted-case d f q)
   where
     go : Accepted b c → Accepted d f → c ≡ f
     go a h = cc (e, a .again, h .again)

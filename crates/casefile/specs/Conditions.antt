@@ -31,7 +31,7 @@ pub record HasDirectory (b : List ℕ) : Type 0 where
   pub size-most : length b ≤ 32768
   pub count-least : 3 ≤ partCount b
   pub count-most : partCount b ≤ 11
-  pub directory-in : directoryEnd b ≤ length b
+  pub directory-within : directoryEnd b ≤ length b
 
 -- and all parts stand where they may
 pub record Placed (b : List ℕ) : Type 0 where

@@ -130,7 +130,7 @@ gapless-placed ps r some least most fits =
         size-most = fits;
         count-least = omega arith;
         count-most = omega arith;
-        directory-in = omega (arith, length-append (gapless ps) r, gapless-length ps);
+        directory-within = omega (arith, length-append (gapless ps) r, gapless-length ps);
       };
       each = λ j q. laid-placed (gapless ps ++ r) ps 0 (1 + 4 * length ps) (gapless-laid ps r) some (omega arith) (omega arith) j (omega arith) (omega arith);
     }

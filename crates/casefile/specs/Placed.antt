@@ -1,7 +1,7 @@
 -- What holds of a case whose size, directory and places are right. Rests on Directory and Reading.
 --   placed-reading, accepted-placed: a placed case is read part by part, and an accepted case is placed
 --   parts-apart, parts-sorted: a part ends before every later one starts
---   part-placed, placed-part, has-directory, none-misplaced, all-placed, misplaced-none: the tests as statements
+--   part-placed, placed-part, has-directory, none-misplaced, all-placed, misplaced-is: the tests as statements
 --   part-of: part i of the list of parts
 use Prim.Native.Nat.{ℕ, zero, suc, _+_, _-_, _≤_, _<_}
 use mathlib.Core.Path.{_≡_, refl, sym, ap, _∙_}
@@ -42,7 +42,7 @@ has-directory b s d =
       size-most = leb-true _ _ (and-r (ltb 0 (length b)) (leb (length b) 32768) s);
       count-least = leb-true _ _ (and-l (leb 3 (partCount b)) (leb (partCount b) 11) c);
       count-most = leb-true _ _ (and-r (leb 3 (partCount b)) (leb (partCount b) 11) c);
-      directory-in = leb-true _ _ (and-r (leb 3 (partCount b) && leb (partCount b) 11) (leb (directoryEnd b) (length b)) d);
+      directory-within = leb-true _ _ (and-r (leb 3 (partCount b) && leb (partCount b) 11) (leb (directoryEnd b) (length b)) d);
     }
 
 -- no part is misplaced exactly where all are placed
@@ -55,9 +55,9 @@ none-misplaced b m i l =
 pub all-placed : (b : List ℕ) (i : ℕ) → HasDirectory b → i ≡ misplaced b → partCount b ≤ i → Placed b
 all-placed b i d e l = record { directory = d; each = none-misplaced b (le-ltb (misplaced b) (partCount b) (omega arith)) }
 
-pub misplaced-none : (b : List ℕ) → ((i : ℕ) → i < partCount b → PartPlaced b i) → misplaced b ≡ partCount b
+pub misplaced-is : (b : List ℕ) → ((i : ℕ) → i < partCount b → PartPlaced b i) → misplaced b ≡ partCount b
 unfolding misplaced
-misplaced-none b h =
+misplaced-is b h =
     sym
     (first-unique (partCount b) (λ j. not (placed b j)) (partCount b)
     (record { most = le-refl _; passes = λ l. absurd (omega arith); earlier = λ i l. rw (placed-part b i (h i l)) }))
@@ -67,8 +67,8 @@ pub placed-reading : (b : List ℕ) → Placed b → caseReading b ≡ partsRead
 unfolding caseReading
 placed-reading b p =
     let s : sizeTest b ≡ true = simp (lt-ltb 0 (length b) (omega arith), le-leb _ _ (p .directory .size-most)) in
-    let d : directoryTest b ≡ true = simp (le-leb _ _ (p .directory .count-least), le-leb _ _ (p .directory .count-most), le-leb _ _ (p .directory .directory-in)) in
-    let m : ltb (misplaced b) (partCount b) ≡ false = le-ltb (misplaced b) (partCount b) (omega (arith, misplaced-none b (p .each))) in
+    let d : directoryTest b ≡ true = simp (le-leb _ _ (p .directory .count-least), le-leb _ _ (p .directory .count-most), le-leb _ _ (p .directory .directory-within)) in
+    let m : ltb (misplaced b) (partCount b) ≡ false = le-ltb (misplaced b) (partCount b) (omega (arith, misplaced-is b (p .each))) in
     simp (s, d, m)
 
 -- an accepted case is placed

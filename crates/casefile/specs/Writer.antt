@@ -111,7 +111,7 @@ gapless-fits b p =
       arith,
       gapless-length (partsOf b),
       parts-length b 0 (partCount b),
-      joined-fits b p (partCount b) 0 (1 + 4 * partCount b) (omega arith) (d .directory-in) (λ (z : 0 < partCount b). p .each 0 (omega (arith, d .count-least)) .after-directory),
+      joined-fits b p (partCount b) 0 (1 + 4 * partCount b) (omega arith) (d .directory-within) (λ (z : 0 < partCount b). p .each 0 (omega (arith, d .count-least)) .after-directory),
     )
 
 -- the gapless form of the parts of a case
@@ -148,8 +148,8 @@ PartsWritten b d out i at = Writing (λ n. joined) (directoryEnd b) b d out i at
 
 -- what a turn asks for: the directory and part i are within the buffer, and the part's end is of 16 bits
 pub record Room (b d : List ℕ) (i at : ℕ) : Type 0 where
-  pub directory-in : directoryEnd b ≤ length d
-  pub part-in : at + length (partAt b i) ≤ length d
+  pub directory-within : directoryEnd b ≤ length d
+  pub part-within : at + length (partAt b i) ≤ length d
   pub end-small : at + length (partAt b i) < 65536
   pub sized : length (partAt b i) ≡ partSize b i
 
@@ -175,8 +175,8 @@ module _ {f : ℕ → List (List ℕ) → List ℕ} {from : ℕ} {b d out : List
   pub writing-room : i < partCount b → Room b d i at
   writing-room l =
       record {
-        directory-in = directory-fits b d (w .fits);
-        part-in = omega (arith, offset-next l, w .fits);
+        directory-within = directory-fits b d (w .fits);
+        part-within = omega (arith, offset-next l, w .fits);
         end-small = omega (arith, offset-next l, gapless-fits b (w .placed), w .placed .directory .size-most);
         sized = part-length b (w .placed) i l;
       }
@@ -202,13 +202,13 @@ module _ {b d out : List ℕ} {i at : ℕ} where
       let m : length (partAt b i) ≡ size = r .sized ∙ sym e in
       let k : 1 + 4 * i + 2 ≡ 3 + 4 * i = omega arith in
       let z : 3 + 4 * i + 2 ≡ 1 + 4 * (i + 1) = omega arith in
-      let v = rw k at (appended-word at (rw (parts-next b i l, m) at (w .appended)) (omega (arith, r .directory-in))) in
+      let v = rw k at (appended-word at (rw (parts-next b i l, m) at (w .appended)) (omega (arith, r .directory-within))) in
       rw g
       (record {
         placed = w .placed;
         fits = w .fits;
         front = w .front;
-        appended = rw z at (appended-word size v (omega (arith, r .directory-in)));
+        appended = rw z at (appended-word size v (omega (arith, r .directory-within)));
         offset = rw m at (offset-next w l);
       })
 

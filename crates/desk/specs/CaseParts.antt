@@ -24,7 +24,7 @@ use Rattle.desk.specs.Refused.{isModel}
 -- what valuing formula f on model m asks of the case b: the parts stand in it, and read as a model and a formula
 pub record Valuable (b : List ℕ) (f m : ℕ) : Type 0 where
   pub placed : Placed b
-  pub model-in : m < partCount b
+  pub model-below : m < partCount b
   pub formula-in : 3 + f < partCount b
   pub few : partCount b ≤ 11
   pub shape : ModelShape (partAt b m)
@@ -57,7 +57,7 @@ module _ {b : List ℕ} {z : Sizes} {t : List ℕ} (a : AcceptedCase b z t) wher
         let w = model-part m model in
         record {
           placed = a .placed;
-          model-in = omega (arith, w .low, a .parts .least);
+          model-below = omega (arith, w .low, a .parts .least);
           formula-in = omega (arith, formula-below, a .parts .count);
           few = a .placed .directory .count-most;
           shape = w .shape;

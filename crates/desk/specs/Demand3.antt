@@ -31,7 +31,7 @@ use Rattle.desk.specs.Run.{run, openings, LastOpening, answersSince, rou
 use Rattle.desk.specs.RefusedLaws.{perform-accepted, OpenAccepted, open-long, open-accepted}
 use Rattle.desk.specs.RulesLaws.{spoiled-exactly}
 use Rattle.desk.specs.Stands.{known-sound, Stands, opening-starts}
-use Rattle.desk.specs.Next.{at, stands-unspoiled, never-11-or-12, ranges-are, next-answer, shows, below-shown, shown-below, show-is, score-is, share-is, judge-yes-is, judge-no-is}
+use Rattle.desk.specs.Next.{at, stands-unspoiled, never-11-or-12, ranges-are, next-answer, shows, below-shown, shown-below, show-is, score-is, share-is, judge-yes-exactly, judge-no-exactly}
 use Rattle.desk.specs.Listed.{run-append, last-opening, opening-T, Since, since}
 
 -- c is what the case holds, `answers` are those of the accepted steps since it was opened, d is the desk after the list
@@ -60,7 +60,7 @@ module _ (c : Content) (T : ℕ) (answers : List Reply) (d : Desk) where
     pub round-is : d .standing .round ≡ r
     pub row-below-T : r < T → d .standing .row ≡ s % N1 c
     pub row-at-T : r ≡ T → d .standing .row ≡ 0
-    pub settled-is : (d .standing .settled ≡ true) ↔ (r ≡ T)
+    pub settled-exactly : (d .standing .settled ≡ true) ↔ (r ≡ T)
     -- 'The lattice, models and formulas are those in the case of the last accepted opening': so the store is read
     pub store-holds : storeReading (d .store) ≡ content c
     -- 'The table shown is that of round r'
@@ -122,7 +122,7 @@ module _ {c : Content} {T : ℕ} where
         round-is = p .round-is;
         row-below-T = p .row-below-T;
         row-at-T = p .row-at-T;
-        settled-is = p .settled-is;
+        settled-exactly = p .settled-exactly;
         store-holds = stands-unspoiled w .rules .reads;
         shown-is = shows w;
         above = λ G g. below-shown w G (below-rounds L (model1 c) (model2 c) G (fixed-below L (model1 c) (model2 c) (operator c) (λ S U. F-mono L (model1 c) (model2 c)) G (g .isFixed)) (roundAfter c T (length answers)));
@@ -144,8 +144,8 @@ module _ {c : Content} {T : ℕ} where
         whole-next = λ f m a. next-answer w (Call.Ask (Question.Whole f m)) refl a;
         score-next = score-is w;
         share-next = share-is w;
-        judge-yes = judge-yes-is w;
-        judge-no = judge-no-is w;
+        judge-yes = judge-yes-exactly w;
+        judge-no = judge-no-exactly w;
       }
 
 -- for every list of calls, every desk, whatever last accepted opening there is, and whatever is T

@@ -3,7 +3,7 @@
 --   Position, at: round, next row and settled after s accepted steps
 --   stands-unspoiled, never-11-or-12: neither 11 nor 12 applies to the next call
 --   ranges-are, next-answer, next-desk: it is accepted where it is in range, and works on c
---   shows, show-is, score-is, share-is, judge-yes-is, judge-no-is: what it answers
+--   shows, show-is, score-is, share-is, judge-yes-exactly, judge-no-exactly: what it answers
 use Prim.Native.Nat.{ℕ, _+_, _*_, _/_, _%_, _≤_, _<_, min}
 use mathlib.Core.Path.{_≡_, refl, sym, ap, _∙_, subst}
 use mathlib.Core.Bool.{Bool, true, false, cond}
@@ -50,7 +50,7 @@ pub record Position (c : Content) (T s round row : ℕ) (settled : Bool) : Type 
   pub round-is : round ≡ roundAfter c T s
   pub row-below-T : roundAfter c T s < T → row ≡ s % N1 c
   pub row-at-T : roundAfter c T s ≡ T → row ≡ 0
-  pub settled-is : (settled ≡ true) ↔ (roundAfter c T s ≡ T)
+  pub settled-exactly : (settled ≡ true) ↔ (roundAfter c T s ≡ T)
   pub answer-is : cond settled (Reply.Settled round) (cond (eqb row 0) (Reply.Round round) Reply.Row) ≡ answerAfter c T s
 
 module _ {c : Content} {T s round row : ℕ} {changed settled : Bool} where
@@ -65,7 +65,7 @@ module _ {c : Content} {T s round row : ℕ} {changed settled : Bool} where
         round-is = sym p;
         row-below-T = λ l. sym m;
         row-at-T = λ z. absurd (n z);
-        settled-is = (λ z. absurd (false-true (g .unsettled) z), λ z. absurd (n z));
+        settled-exactly = (λ z. absurd (false-true (g .unsettled) z), λ z. absurd (n z));
         answer-is = rw (g .unsettled, ne-eqb _ _ n, p, m);
       }
 
@@ -76,7 +76,7 @@ module _ {c : Content} {T s round row : ℕ} {changed settled : Bool} where
         round-is = x .at-T ∙ sym p;
         row-below-T = λ l. absurd (omega (arith, p, l));
         row-at-T = λ z. x .row-0;
-        settled-is = (λ z. p, λ z. x .isSettled);
+        settled-exactly = (λ z. p, λ z. x .isSettled);
         answer-is = rw (x .isSettled, eq-eqb _ _ p, x .at-T);
       }
 
@@ -232,8 +232,8 @@ module _ {c : Content} {T s : ℕ} {d : Desk} (w : Stands c T s d) where
     says : (x y : Bool) → Reply.Says x ≡ Reply.Says y → x ≡ y
     says x y q = cc
 
-    pub judge-yes-is : (asked (Question.Judge t) d ≡ Reply.Says true) ↔ Simulation (ops c) (model1 c) (model2 c) (tableOf t (N2 c))
-    judge-yes-is = (λ q. judge-test .0 (says test true (sym judged ∙ q)), λ h. judged ∙ ap Reply.Says (judge-test .1 h))
+    pub judge-yes-exactly : (asked (Question.Judge t) d ≡ Reply.Says true) ↔ Simulation (ops c) (model1 c) (model2 c) (tableOf t (N2 c))
+    judge-yes-exactly = (λ q. judge-test .0 (says test true (sym judged ∙ q)), λ h. judged ∙ ap Reply.Says (judge-test .1 h))
 
-    pub judge-no-is : (asked (Question.Judge t) d ≡ Reply.Says false) ↔ ¬ (Simulation (ops c) (model1 c) (model2 c) (tableOf t (N2 c)))
-    judge-no-is = (λ q h. false-true (says test false (sym judged ∙ q)) (judge-test .1 h), λ n. judged ∙ ap Reply.Says (not-passed test (λ p. n (judge-test .0 p))))
+    pub judge-no-exactly : (asked (Question.Judge t) d ≡ Reply.Says false) ↔ ¬ (Simulation (ops c) (model1 c) (model2 c) (tableOf t (N2 c)))
+    judge-no-exactly = (λ q h. false-true (says test false (sym judged ∙ q)) (judge-test .1 h), λ n. judged ∙ ap Reply.Says (not-passed test (λ p. n (judge-test .0 p))))

@@ -16,7 +16,7 @@ use lib.Seq.{drop-cons}
 use borrow.Author.Tests.{le-leb, lt-leb}
 use Rattle.theory.specs.Formula.{Formula, prop, negated, var, or, and, AX, EX, mu, nu, nestedBinders}
 use Rattle.formula.specs.Bytes.{bytesOf, Parsed, parsed, unparsed, numbered, unary, binary, byCode, parse, allowed, whole, formulaReading}
-use Rattle.formula.specs.RoundTrip.{parse-code, parse-nil, code-refused, bytes-parse, bytes-length}
+use Rattle.formula.specs.RoundTrip.{parse-code, parse-nil, code-refused, bytes-parse, bytes-least}
 use Rattle.formula.specs.Check.{allowedUnder, endOf, NodeIs, numberBelow}
 use Rattle.formula.specs.Answer.{checked}
 use Rattle.formula.specs.declared.FormulaCheck.the-variants.{Accepted, Refused}
@@ -47,7 +47,7 @@ forward {b} {at} {k} {d} i e = go (parse (length b) (drop at b)) refl (e .is (le
     go (parsed a t) q h =
         let s = cond-at (allowedUnder k d a) i (length b - length t) h in
         let u = ap length (bytes-parse (length b) (drop at b) a t q) in
-        omega (arith, u, length-drop at b, length-append (bytesOf a) t, bytes-length a)
+        omega (arith, u, length-drop at b, length-append (bytesOf a) t, bytes-least a)
 
 module _ {b : List ℕ} {at k d : ℕ} where
   -- past the end there is no formula

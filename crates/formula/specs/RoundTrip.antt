@@ -2,7 +2,7 @@
 -- of φ, at most 255 of them, and φ is allowed. Rests on Bytes.
 --   reading-exact: a part is read as φ exactly when it is the bytes of φ, at most 255, and φ is allowed
 --   parse-bytes, bytes-parse, bytes-injective: parse and bytes are inverse to one another
---   code-refused: a code from 11 on; parse-code, parse-nil: the parse by the first byte; bytes-length: a formula has a byte
+--   code-refused: a code from 11 on; parse-code, parse-nil: the parse by the first byte; bytes-least: a formula has a byte
 --   FormulaPart, formula-part: what is known of a part that is read
 use Prim.Native.Nat.{ℕ, zero, suc, _+_, _-_, _≤_, _<_}
 use mathlib.Core.Path.{_≡_, refl, sym, ap, _∙_}
@@ -138,9 +138,9 @@ bytes-injective φ ψ e =
     cc
 
 -- a formula has at least its code, since at no depth there is none
-pub bytes-length : (φ : Formula) → 1 ≤ length (bytesOf φ)
+pub bytes-least : (φ : Formula) → 1 ≤ length (bytesOf φ)
 unfolding parse
-bytes-length φ = let some : ¬ (length (bytesOf φ) ≤ 0) = λ l. never-parsed (parse-bytes φ 0 [] l) in omega arith
+bytes-least φ = let some : ¬ (length (bytesOf φ) ≤ 0) = λ l. never-parsed (parse-bytes φ 0 [] l) in omega arith
 
 -- ---- a formula part that is accepted
 
@@ -188,7 +188,7 @@ formula-part k b φ e =
     let both = and-l (closed φ && overProps k φ) (leb (nestedBinders φ) 3) (h .2) in
     record {
       bytes = h .0;
-      least = omega (arith, bytes-length φ, ap length (h .0));
+      least = omega (arith, bytes-least φ, ap length (h .0));
       most = h .1;
       bound = and-l (closed φ) (overProps k φ) both;
       props = and-r (closed φ) (overProps k φ) both;

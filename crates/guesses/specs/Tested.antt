@@ -10,7 +10,7 @@ use native.Mathlib.Omega.{arith}
 use lib.ListN.{getD}
 use Rattle.theory.specs.Part.{element}
 use Rattle.codes.specs.Coded.{Coded}
-use Rattle.order.specs.Bounds.{element-id, element-same}
+use Rattle.order.specs.Bounds.{element-id, element-cong}
 use Rattle.rules.specs.declared.Rule.the-variants.{Met}
 use Rattle.rules.specs.Pairs.{sized, tableOps, allPairs}
 
@@ -24,7 +24,7 @@ pub record Repeats (n : ℕ) (t : List ℕ) : Type 0 where
 -- in a row of an element, the columns of elements are those places themselves
 pub repeats-inside : (n row b : ℕ) (t : List ℕ) → n ≤ 64 → row % 64 < n → b < n → getD t (row * 64 + b) 0 ≡ getD t ((row / 64 * 64 + element n row) * 64 + element n b) 0
 repeats-inside n row b t s l m =
-    let r : element n row ≡ row % 64 = element-same n row (row % 64) (omega arith) ∙ element-id n (row % 64) s l in
+    let r : element n row ≡ row % 64 = element-cong n row (row % 64) (omega arith) ∙ element-id n (row % 64) s l in
     let e : row * 64 + b ≡ (row / 64 * 64 + row % 64) * 64 + b = omega arith in
     ap (λ (i : ℕ). getD t i 0) e ∙ sym (rw (r, element-id n b s m))
 

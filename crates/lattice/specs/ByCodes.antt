@@ -16,9 +16,9 @@ use Rattle.theory.specs.Lists.{Filled}
 use Rattle.theory.specs.Part.{LatticePart, meetOf, joinOf, element, opsOf}
 use Rattle.operations.specs.Table.{cell, meetIn, joinIn}
 use Rattle.codes.specs.Coded.{Coded, OrderKept}
-use Rattle.codes.specs.Laws.{and-or, Within, within-refl, within-trans, within-antisym, and-left, and-right, and-greatest, or-left, or-right, or-least}
+use Rattle.codes.specs.Laws.{and-or, Within, within-refl, within-trans, within-antisym, and-left, and-right, and-glb, or-left, or-right, or-lub}
 use Rattle.lattice.specs.Reading.{distributive}
-use Rattle.order.specs.Bounds.{element-lt, element-id, element-same, all3-in, join-reversed}
+use Rattle.order.specs.Bounds.{element-lt, element-id, element-cong, all3-in, join-reversed}
 use Rattle.order.specs.DeMorgan.{reversed, MeetAt}
 use Rattle.order.specs.Ordered.{Formed, Ordered, Bounded}
 use Rattle.bounds.specs.Scan.{meet-only}
@@ -81,7 +81,7 @@ module _ (P : LatticePart) {t : List ℕ} (w : Formed P) (f : FilledTo P 4096 t)
           record {
             left = in-order i l (rw (c .meet a b l m) (and-left (d a) (d b)));
             right = in-order i m (rw (c .meet a b l m) (and-right (d a) (d b)));
-            greatest = λ e k h j. in-order k i (rw (c .meet a b l m) (and-greatest (within k l h) (within k m j)));
+            greatest = λ e k h j. in-order k i (rw (c .meet a b l m) (and-glb (within k l h) (within k m j)));
           }
 
   joins : (a b : ℕ) → a < P .size → b < P .size → joinIn t a b ≡ joinOf P a b
@@ -95,7 +95,7 @@ module _ (P : LatticePart) {t : List ℕ} (w : Formed P) (f : FilledTo P 4096 t)
           record {
             left = in-order l i (rw (c .join a b l m) (or-left (d a) (d b)));
             right = in-order m i (rw (c .join a b l m) (or-right (d a) (d b)));
-            greatest = λ e k h j. in-order i k (rw (c .join a b l m) (or-least (within l k h) (within m k j)));
+            greatest = λ e k h j. in-order i k (rw (c .join a b l m) (or-lub (within l k h) (within m k j)));
           }
 
   bounds : Bounded P
@@ -130,7 +130,7 @@ module _ (P : LatticePart) {t : List ℕ} (w : Formed P) (f : FilledTo P 4096 t)
       ap (λ (i : ℕ). getD t i 0) e ∙ p .repeats .at (k / 64) (omega arith) (omega arith) .at (k % 64) (omega arith)
 
   column : (k : ℕ) → element (P .size) (k % 64) ≡ element (P .size) k
-  column k = element-same (P .size) (k % 64) k (omega arith)
+  column k = element-cong (P .size) (k % 64) k (omega arith)
 
   meet-place : (k : ℕ) → 4096 ≤ k → k < 8192 → getD t k 0 ≡ tableEntry (opsOf P) k
   meet-place k l m =

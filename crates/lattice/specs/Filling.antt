@@ -18,7 +18,7 @@ use Rattle.operations.specs.Table.{atMostIn}
 use Rattle.operations.specs.declared.Element.{Element}
 use Rattle.order.specs.Tests.{bounded}
 use Rattle.order.specs.DeMorgan.{reversed}
-use Rattle.order.specs.Bounds.{element-lt, element-id, element-same, join-reversed, Antisymmetric}
+use Rattle.order.specs.Bounds.{element-lt, element-id, element-cong, join-reversed, Antisymmetric}
 use Rattle.order.specs.Agree.{SameOrder, meet-same-order, join-same-order, meet-comm, join-comm, by-number}
 use Rattle.order.specs.Ordered.{Formed, Ordered, Bounded, bounded-out, bounded-in}
 use Rattle.bounds.specs.declared.Found.{Found}
@@ -78,10 +78,10 @@ module _ (P : LatticePart) (w : Formed P) (o : Ordered P) where
       z = w .most
 
       row : element (P .size) (placeOf (P .size) k / 64) ≡ min (element (P .size) (k / 64)) (element (P .size) k)
-      row = element-same (P .size) _ (min (element (P .size) (k / 64)) (element (P .size) k)) (row-of (k / 4096) _ _ (omega (arith, x, y, z)) (omega (arith, x, y, z))) ∙ id _ (omega (arith, x, y))
+      row = element-cong (P .size) _ (min (element (P .size) (k / 64)) (element (P .size) k)) (row-of (k / 4096) _ _ (omega (arith, x, y, z)) (omega (arith, x, y, z))) ∙ id _ (omega (arith, x, y))
 
       column : element (P .size) (placeOf (P .size) k) ≡ max (element (P .size) (k / 64)) (element (P .size) k)
-      column = element-same (P .size) _ (max (element (P .size) (k / 64)) (element (P .size) k)) (column-of (k / 4096) _ _ (omega (arith, x, y, z)) (omega (arith, x, y, z))) ∙ id _ (omega (arith, x, y))
+      column = element-cong (P .size) _ (max (element (P .size) (k / 64)) (element (P .size) k)) (column-of (k / 4096) _ _ (omega (arith, x, y, z)) (omega (arith, x, y, z))) ∙ id _ (omega (arith, x, y))
 
       go : (t : Bool) → ltb k 8192 ≡ t → tableEntry (opsOf P) (placeOf (P .size) k) ≡ tableEntry (opsOf P) k
       go true e =
@@ -155,14 +155,14 @@ bounds-done P w t k l u =
     sym (bounded-in P (record {
       meet-lt = λ a b x y.
           let z = w .most in
-          let e : element (P .size) ((4096 + (a * 64 + b)) / 64) ≡ a = element-same (P .size) _ a (omega arith) ∙ element-id (P .size) a z x in
-          let d : element (P .size) (4096 + (a * 64 + b)) ≡ b = element-same (P .size) _ b (omega arith) ∙ element-id (P .size) b z y in
+          let e : element (P .size) ((4096 + (a * 64 + b)) / 64) ≡ a = element-cong (P .size) _ a (omega arith) ∙ element-id (P .size) a z x in
+          let d : element (P .size) (4096 + (a * 64 + b)) ≡ b = element-cong (P .size) _ b (omega arith) ∙ element-id (P .size) b z y in
           let q : tableEntry (opsOf P) (4096 + (a * 64 + b)) ≡ meetOf P a b = at-meet _ _ (omega arith) (omega arith) ∙ ap₂ (meetOf P) e d in
           rw q at (u .inside (4096 + (a * 64 + b)) (omega arith) (omega arith));
       join-lt = λ a b x y.
           let z = w .most in
-          let e : element (P .size) ((8192 + (a * 64 + b)) / 64) ≡ a = element-same (P .size) _ a (omega arith) ∙ element-id (P .size) a z x in
-          let d : element (P .size) (8192 + (a * 64 + b)) ≡ b = element-same (P .size) _ b (omega arith) ∙ element-id (P .size) b z y in
+          let e : element (P .size) ((8192 + (a * 64 + b)) / 64) ≡ a = element-cong (P .size) _ a (omega arith) ∙ element-id (P .size) a z x in
+          let d : element (P .size) (8192 + (a * 64 + b)) ≡ b = element-cong (P .size) _ b (omega arith) ∙ element-id (P .size) b z y in
           let q : tableEntry (opsOf P) (8192 + (a * 64 + b)) ≡ joinOf P a b = at-join _ _ (omega arith) (omega arith) ∙ ap₂ (joinOf P) e d in
           rw q at (u .inside (8192 + (a * 64 + b)) (omega arith) (omega arith));
     }))

@@ -1,6 +1,6 @@
 -- What a part of the right form lets the code read: sizes, places and bytes. Rests on theory's Part, Panel, Reading, Accepted.
 --   part-panel, part-explicit: which part the bytes give
---   form-explicit, form-out, form-panel, form-length: what the form says of the bytes
+--   form-explicit, form-out, form-panel, form-least: what the form says of the bytes
 --   form-complements, form-last: the tests of an explicit part, one after the other; square-le: n · n is at most 4,096
 --   OrderEntry, order-at: where an order entry stands, and what it is; explicit-complement: the same of a complement
 --   panelEntry, PanelOrder, panel-at, panel-complement: the panel's
@@ -46,8 +46,8 @@ module _ (b : List ℕ) where
   unfolding latticeForm
   form-panel p = rw p
 
-  pub form-length : latticeForm b ≡ true → 0 < length b
-  form-length f = go (isPanel b) refl
+  pub form-least : latticeForm b ≡ true → 0 < length b
+  form-least f = go (isPanel b) refl
     where
       go : (t : Bool) → isPanel b ≡ t → 0 < length b
       go true p = omega (arith, panel-length b p)

@@ -23,7 +23,7 @@ use Rattle.theory.specs.Height.{distinct-le}
 use Rattle.lattice.specs.Accepted.{lattice-is-accepted}
 use Rattle.order.specs.Exactly.{ops-lattice}
 use Rattle.lattice.specs.Form.{part-explicit, form-last}
-use Rattle.order.specs.Agree.{ops-same}
+use Rattle.order.specs.Agree.{ops-cong}
 
 -- ---- the operations, digit by digit. Any number is read by its remainder by 27
 
@@ -217,7 +217,7 @@ module _ (b : List ℕ) (w : PanelBytes b) where
   pub panel-bytes-same : opsOf (latticeOf b) ≡ opsOf panelPart
   panel-bytes-same =
       ap opsOf explicit
-      ∙ ops-same (explicitPart b) panelPart (rw (w .size) (omega arith))
+      ∙ ops-cong (explicitPart b) panelPart (rw (w .size) (omega arith))
       (record { sizes = w .size; orders = λ i j l m. same-orders i j (rw (w .size) at l) (rw (w .size) at m) })
       (λ a l. w .complements a (rw (w .size) at l))
 

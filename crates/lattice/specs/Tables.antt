@@ -17,7 +17,7 @@ use Rattle.theory.specs.Lists.{Filled}
 use Rattle.theory.specs.Part.{LatticePart, meetOf, joinOf, topOf, botOf, element, opsOf}
 use Rattle.operations.specs.Table.{cell, atMostIn, meetIn, joinIn, complementIn, opsIn}
 use Rattle.operations.specs.declared.Lattice.{Lattice}
-use Rattle.order.specs.Bounds.{one-test, element-same}
+use Rattle.order.specs.Bounds.{one-test, element-cong}
 
 -- What belongs at place k of the tables of a lattice: the order, the meets and the joins, each 64 rows of 64, then the complements.
 -- The operations read any number as an element, so that k / 64 and k stand for the row and the column.
@@ -59,28 +59,28 @@ module _ (P : LatticePart) (t : List ℕ) (q : ℕ) (f : FilledTo P q t) where
       let h : (a b : ℕ) → atMostIn t a b ≡ opsOf P .atMost a b = λ a b.
       ap (λ x. eqb x 1) (f .at (cell a b) (omega arith) ∙ at-order (opsOf P) (cell a b) (omega arith))
       ∙ one-test _
-      ∙ ap₂ (P .order) (element-same (P .size) _ a (omega arith)) (element-same (P .size) _ b (omega arith)) in
+      ∙ ap₂ (P .order) (element-cong (P .size) _ a (omega arith)) (element-cong (P .size) _ b (omega arith)) in
       λ i a b. h a b i
 
   pub filled-meet : 8192 ≤ q → meetIn t ≡ opsOf P .meet
   filled-meet l =
       let h : (a b : ℕ) → meetIn t a b ≡ opsOf P .meet a b = λ a b.
       f .at (4096 + cell a b) (omega arith) ∙ at-meet (opsOf P) (4096 + cell a b) (omega arith) (omega arith)
-      ∙ ap₂ (meetOf P) (element-same (P .size) _ a (omega arith)) (element-same (P .size) _ b (omega arith)) in
+      ∙ ap₂ (meetOf P) (element-cong (P .size) _ a (omega arith)) (element-cong (P .size) _ b (omega arith)) in
       λ i a b. h a b i
 
   pub filled-join : 12288 ≤ q → joinIn t ≡ opsOf P .join
   filled-join l =
       let h : (a b : ℕ) → joinIn t a b ≡ opsOf P .join a b = λ a b.
       f .at (8192 + cell a b) (omega arith) ∙ at-join (opsOf P) (8192 + cell a b) (omega arith) (omega arith)
-      ∙ ap₂ (joinOf P) (element-same (P .size) _ a (omega arith)) (element-same (P .size) _ b (omega arith)) in
+      ∙ ap₂ (joinOf P) (element-cong (P .size) _ a (omega arith)) (element-cong (P .size) _ b (omega arith)) in
       λ i a b. h a b i
 
   pub filled-neg : 12352 ≤ q → complementIn t ≡ opsOf P .neg
   filled-neg l =
       let h : (a : ℕ) → complementIn t a ≡ opsOf P .neg a = λ a.
       f .at (12288 + a % 64) (omega arith) ∙ at-neg (opsOf P) (12288 + a % 64) (omega arith)
-      ∙ ap (P .complement) (element-same (P .size) _ a (omega arith)) in
+      ∙ ap (P .complement) (element-cong (P .size) _ a (omega arith)) in
       λ i a. h a i
 
   -- with the right bounds, the tables' operations are the part's

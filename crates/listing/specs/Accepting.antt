@@ -3,7 +3,7 @@
 --   FormulaFits, FormulasFit: there is room for the line of a formula, and for all; formulas-fit, formulas-are, formulas-room: where it comes from
 --   Settleable, settleable: the models of the case can be settled, with room for the text; settled-part: what is then written
 --   all-written, lists, lists-refused: what is written is the text of the case
---   same-content: a case has one content
+--   content-unique: a case has one content
 use Prim.Native.Nat.{ℕ, _+_, _≤_, _<_}
 use mathlib.Core.Path.{_≡_, sym, ap, _∙_}
 use mathlib.Core.Bool.{true}
@@ -34,8 +34,8 @@ use Rattle.listing.specs.Most.{table-most, text-most}
 use Rattle.listing.specs.Settled.{settled-isT, listing-is}
 
 -- a case is read as one content
-pub same-content : (b : List ℕ) (c d : Content) → caseReading b ≡ content c → caseReading b ≡ content d → c ≡ d
-same-content b c d p q = cc
+pub content-unique : (b : List ℕ) (c d : Content) → caseReading b ≡ content c → caseReading b ≡ content d → c ≡ d
+content-unique b c d p q = cc
 
 -- ---- a formula's value on model 1 or 2
 
@@ -53,7 +53,7 @@ module _ {b : List ℕ} {z : Sizes} {t : List ℕ} {f m : ℕ} (h : InCase b z t
   valuable = parts-valuable (h .case) f m (h .formula) (h .model)
 
   pub whole-is : (x : ℕ) → WholeValue t (z .lattice) (partAt b m) (partAt b (3 + f)) x → (c : Content) → caseReading b ≡ content c → x ≡ wholeValue (ops c) (modelIn c m) (formulaIn c f)
-  whole-is x v c e = rw (← same-content b held c (h .case .reads) e) (rw (model-part (h .case) m (h .model) .is, h .case .tables) at (v .is (formulaIn held f) (formula-part (h .case) f m (h .formula) (h .model))))
+  whole-is x v c e = rw (← content-unique b held c (h .case .reads) e) (rw (model-part (h .case) m (h .model) .is, h .case .tables) at (v .is (formulaIn held f) (formula-part (h .case) f m (h .formula) (h .model))))
 
 -- ---- the formulas' lines
 
@@ -70,10 +70,10 @@ pub record FormulasFit (b : List ℕ) (z : Sizes) (t text : List ℕ) (at : ℕ)
 module _ {b : List ℕ} {z : Sizes} {t : List ℕ} (a : AcceptedCase b z t) (c : Content) (e : caseReading b ≡ content c) where
   pub formulas-are : each (z .formulas) (formulaLine c) ≡ formulasText c
   unfolding formulasText
-  formulas-are = let q : a .holds ≡ c = same-content b (a .holds) c (a .reads) e in ap (λ (n : ℕ). each n (formulaLine c)) (ap (λ (x : Sizes). x .formulas) (a .sizes) ∙ ap (λ (x : Content). length (x .formulas)) q)
+  formulas-are = let q : a .holds ≡ c = content-unique b (a .holds) c (a .reads) e in ap (λ (n : ℕ). each n (formulaLine c)) (ap (λ (x : Sizes). x .formulas) (a .sizes) ∙ ap (λ (x : Content). length (x .formulas)) q)
 
 pub formulas-room : {b : List ℕ} {z : Sizes} {t text : List ℕ} {at : ℕ} → FormulasFit b z t text at → (c : Content) → caseReading b ≡ content c → at + length (each (z .formulas) (formulaLine c)) ≤ length text
-formulas-room {b} h c e = rw (formulas-are (h .case) c e, ← same-content b (h .case .holds) c (h .case .reads) e) (h .room)
+formulas-room {b} h c e = rw (formulas-are (h .case) c e, ← content-unique b (h .case .holds) c (h .case .reads) e) (h .room)
 
 -- ---- the settled table
 

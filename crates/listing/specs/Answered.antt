@@ -25,7 +25,7 @@ use Rattle.desk.specs.Listed.{opening-T}
 use Rattle.desk.specs.Demand3.{Claim, listed}
 use Rattle.listing.specs.Text.{roundsWord, scoreWord, lastItem, each, rowsText, tableText, formulaText, formulaLine, formulasText, acceptedText, listingText}
 use Rattle.listing.specs.Writing.{each-cong}
-use Rattle.listing.specs.Entries.{rows-same}
+use Rattle.listing.specs.Entries.{rows-cong}
 use Rattle.listing.specs.Settled.{listing-is}
 
 -- the answers of a desk that is settled: its round, the table that it shows, its score, and the formulas' values on models 1 and 2
@@ -57,7 +57,7 @@ same-shown x a b p q = cc
 
 module _ (c : Content) (T : ℕ) (answers : List Reply) (d : Desk) (w : Claim c T answers d) (settled : d .standing .settled ≡ true) where
   at-T : roundAfter c T (length answers) ≡ T
-  at-T = w .settled-is .0 settled
+  at-T = w .settled-exactly .0 settled
 
   round-T : d .standing .round ≡ T
   round-T = w .round-is ∙ at-T
@@ -85,7 +85,7 @@ module _ (c : Content) (T : ℕ) (answers : List Reply) (d : Desk) (w : Claim c 
       let pt : tableBytes c S ≡ table = same-shown _ _ _ show-T (a .show) in
       let pe : score (ops c) (model1 c) (model2 c) S ≡ e = same-element _ _ _ score-T (a .score) in
       ap₂ _++_
-      (ap₂ (λ (x : List ℕ) (y : List ℕ). x ++ y) (ap₂ (λ (x : ℕ) (y : List ℕ). lastItem roundsWord x ++ y) pr (rows-same (ops c) (model1 c) (model2 c) S (tableOf table (N2 c)) (λ q₁ l q₂ m. sym (bytes-table c S q₁ l q₂ m) ∙ ap (λ (x : List ℕ). tableOf x (N2 c) q₁ q₂) pt))) (ap (lastItem scoreWord) pe))
+      (ap₂ (λ (x : List ℕ) (y : List ℕ). x ++ y) (ap₂ (λ (x : ℕ) (y : List ℕ). lastItem roundsWord x ++ y) pr (rows-cong (ops c) (model1 c) (model2 c) S (tableOf table (N2 c)) (λ q₁ l q₂ m. sym (bytes-table c S q₁ l q₂ m) ∙ ap (λ (x : List ℕ). tableOf x (N2 c) q₁ q₂) pt))) (ap (lastItem scoreWord) pe))
       (each-cong (length (c .formulas)) _ _ (λ f l. ap₂ (formulaText f) (same-element _ _ _ (whole-1 f l) (a .whole1 f l)) (same-element _ _ _ (whole-2 f l) (a .whole2 f l))))
 
 -- for every list of calls from any desk with an accepted opening in it, after which the desk is settled: it has such answers, with T the first

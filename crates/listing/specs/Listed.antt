@@ -18,7 +18,7 @@ use Rattle.desk.specs.Case.{ops, model1, model2, modelIn, formulaIn, roundIn, I
 use Rattle.desk.specs.Demand2.{value-of}
 use Rattle.listing.specs.Text.{each, tableText, formulaText, formulaLine, formulasText, acceptedText, listingText}
 use Rattle.listing.specs.Writing.{each-cong}
-use Rattle.listing.specs.Entries.{table-same}
+use Rattle.listing.specs.Entries.{table-cong}
 use Rattle.listing.specs.Settled.{listing-is}
 
 -- 'A formula's value on a whole model is the meet over q of Q0(q) → value at q', u giving the values at the states
@@ -58,5 +58,5 @@ module _ (b : List ℕ) (c : Content) (e : caseReading b ≡ content c) (T : ℕ
   listed G g u₁ u₂ a₁ a₂ =
       listing-is b c e T t
       ∙ ap₂ _++_
-      (table-same (ops c) (model1 c) (model2 c) (roundIn c T) G (same-greatest G g) T)
+      (table-cong (ops c) (model1 c) (model2 c) (roundIn c T) G (same-greatest G g) T)
       (each-cong (length (c .formulas)) _ _ (λ f l. ap₂ (formulaText f) (whole-by 1 f l u₁ a₁) (whole-by 2 f l u₂ a₂)))

@@ -3,7 +3,7 @@
 --   Startable, SettledAt, textOfTable, WroteSettled: the terms of the code's contracts
 --   AtRound, at-start, next-round: a table that holds round r, every round up to r having changed something; rounds-few: r is bounded
 --   top-start, tops-start: tables that are all top hold round 0
---   settled-out, settled-read: what it holds when a round changed nothing; settled-text: its text
+--   settled-done, settled-read: what it holds when a round changed nothing; settled-text: its text
 use Prim.Native.Nat.{ℕ, suc, _+_, _*_, _-_, _≤_, _<_}
 use mathlib.Core.Path.{_≡_, sym, subst, _∙_}
 use mathlib.Core.Bool.{Bool, true, false}
@@ -27,7 +27,7 @@ use Rattle.model.specs.Places.{prod-le}
 use Rattle.rounds.specs.Table.{tableOf, Shaped}
 use Rattle.rounds.specs.Round.{F-reads, top-round, RoundSoFar, RoundDone, round-done}
 use Rattle.listing.specs.Text.{tableText}
-use Rattle.listing.specs.Entries.{table-same}
+use Rattle.listing.specs.Entries.{table-cong}
 use Rattle.listing.specs.Writing.{Wrote}
 
 -- two model parts with a lattice, a table s for their states that holds round 0, and room in another
@@ -95,8 +95,8 @@ module _ {O : Ops ℕ} {M₁ M₂ : Model ℕ} {s : List ℕ} {r : ℕ} where
           least = λ t p l. h .changing t p (omega arith);
         }
 
-    pub settled-out : changed ≡ false → SettledAt O M₁ M₂ out (r + 1)
-    settled-out e = rw add-one (record { isT = first-unchanged e; holds = done .holds })
+    pub settled-done : changed ≡ false → SettledAt O M₁ M₂ out (r + 1)
+    settled-done e = rw add-one (record { isT = first-unchanged e; holds = done .holds })
 
     pub settled-read : changed ≡ false → SettledAt O M₁ M₂ s (r + 1)
     settled-read e = rw add-one (record { isT = first-unchanged e; holds = λ q₁ l q₂ m. h .holds q₁ l q₂ m ∙ sym (done .unchanged .0 e q₁ l q₂ m) })
@@ -117,7 +117,7 @@ tops-start t l m₁ m₂ a b k L =
 pub settled-text : {O : Ops ℕ} {M₁ M₂ : Model ℕ} {s : List ℕ} {r : ℕ} → SettledAt O M₁ M₂ s r → (T : ℕ) → FirstUnchanged O M₁ M₂ T → tableText O M₁ M₂ r (tableOf s (M₂ .states)) ≡ tableText O M₁ M₂ T (round O M₁ M₂ T)
 settled-text {O} {M₁} {M₂} {s} {r} h T f =
     let e : T ≡ r = T-unique O M₁ M₂ (F O M₁ M₂) T r f (h .isT) in
-    rw e (table-same O M₁ M₂ (tableOf s (M₂ .states)) (round O M₁ M₂ r) (h .holds) r)
+    rw e (table-cong O M₁ M₂ (tableOf s (M₂ .states)) (round O M₁ M₂ r) (h .holds) r)
 
 -- ---- for contracts
 

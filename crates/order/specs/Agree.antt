@@ -1,6 +1,6 @@
 -- Parts that agree on their elements have the same meets, joins, bounds and operations. Rests on theory's Part and Test, Bounds, DeMorgan.
 --   SameOrder: the same elements in the same order; same-reversed
---   meet-same-order, join-same-order, top-same-order, bot-same-order: the same meets, joins, top and bottom; ops-same: the same operations
+--   meet-same-order, join-same-order, top-same-order, bot-same-order: the same meets, joins, top and bottom; ops-cong: the same operations
 --   meet-comm, join-comm: the order of the two elements does not matter; by-number: the lesser number may be taken first
 --   first-cong: tests that agree have the same first number
 use Prim.Native.Nat.{ℕ, zero, suc, min, max, _<_}
@@ -84,8 +84,8 @@ by-number f h a b = go (leb a b) refl
 -- ---- the operations
 
 -- Parts of the same size, order and complement have the same operations.
-pub ops-same : (P Q : LatticePart) → 0 < P .size → SameOrder P Q → ((a : ℕ) → a < P .size → P .complement a ≡ Q .complement a) → opsOf P ≡ opsOf Q
-ops-same P Q s w h =
+pub ops-cong : (P Q : LatticePart) → 0 < P .size → SameOrder P Q → ((a : ℕ) → a < P .size → P .complement a ≡ Q .complement a) → opsOf P ≡ opsOf Q
+ops-cong P Q s w h =
     let lt : (a : ℕ) → element (P .size) a < P .size = λ a. element-lt (P .size) a s in
     let e : (a : ℕ) → element (P .size) a ≡ element (Q .size) a = λ a. ap (λ n. element n a) (w .sizes) in
     let le : (a b : ℕ) → P .order (element (P .size) a) (element (P .size) b) ≡ Q .order (element (Q .size) a) (element (Q .size) b) =

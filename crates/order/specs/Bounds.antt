@@ -1,10 +1,10 @@
 -- Meets, joins, top and bottom found from an order: what they are, and that there is only one of each. Rests on theory's Part, Test and Loop,
 -- Tests, DeMorgan.
---   element-lt, element-id, element-same: any number read as an element; one-test: a test as a byte
+--   element-lt, element-id, element-cong: any number read as an element; one-test: a test as a byte
 --   all2-at, all2-in, all3-at, all3-in: tests of every two and every three, as facts
 --   first-only, first-some: the only number that passes is the first
 --   join-reversed, meet-reversed, bot-reversed: one order and the other way round
---   meet-out, meet-in: the test of a meet, as a fact; meet-is: where there is a meet, it is found; meet-some, meet-same: it exists, and is one
+--   meet-out, meet-in: the test of a meet, as a fact; meet-is: where there is a meet, it is found; meet-some, meet-unique: it exists, and is one
 --   Antisymmetric: two elements at or below one another are the same
 --   TopAt, top-only: a top, and that it is one; boundUpTo: one bound of the first numbers
 use Prim.Native.Nat.{ℕ, _%_, _≤_, _<_}
@@ -41,9 +41,9 @@ pub element-id : (n a : ℕ) → n ≤ 64 → a < n → element n a ≡ a
 unfolding element
 element-id n a m l = let e : a % 64 ≡ a = omega arith in rw (e, lt-ltb a n l)
 
-pub element-same : (n a b : ℕ) → a % 64 ≡ b % 64 → element n a ≡ element n b
+pub element-cong : (n a b : ℕ) → a % 64 ≡ b % 64 → element n a ≡ element n b
 unfolding element
-element-same n a b e = rw e
+element-cong n a b e = rw e
 
 -- ---- tests over pairs and triples
 
@@ -117,8 +117,8 @@ pub meet-some : (P : LatticePart) (a b m : ℕ) → m < P .size → MeetAt P a b
 unfolding meetOf
 meet-some P a b m l w = first-some (P .size) (isMeet P a b) m l (meet-in P a b m w)
 
-pub meet-same : (P : LatticePart) (a b m k : ℕ) → Antisymmetric P → m < P .size → k < P .size → MeetAt P a b m → MeetAt P a b k → k ≡ m
-meet-same P a b m k s l j w v = s .same k m j l (w .greatest k j (v .left) (v .right)) (v .greatest m l (w .left) (w .right))
+pub meet-unique : (P : LatticePart) (a b m k : ℕ) → Antisymmetric P → m < P .size → k < P .size → MeetAt P a b m → MeetAt P a b k → k ≡ m
+meet-unique P a b m k s l j w v = s .same k m j l (w .greatest k j (v .left) (v .right)) (v .greatest m l (w .left) (w .right))
 
 -- ---- the top
 

@@ -12,7 +12,7 @@ use Rattle.theory.specs.TestLaws.{and-in, ⇒-in, all-in}
 use Rattle.theory.specs.Lattice.{Ops, Laws}
 use Rattle.theory.specs.Part.{LatticePart, meetOf, joinOf}
 use Rattle.order.specs.Tests.{distributive, complementRules}
-use Rattle.order.specs.Bounds.{all2-in, all3-in, join-reversed, meet-some, meet-same}
+use Rattle.order.specs.Bounds.{all2-in, all3-in, join-reversed, meet-some, meet-unique}
 use Rattle.order.specs.DeMorgan.{reversed, MeetAt, DeMorganLattice}
 use Rattle.order.specs.Ordered.{Ordered, Bounded, ordered-reversed, meet-at, join-at}
 use Rattle.order.specs.Sound.{LatticeSound, id, dist-same, neg-same, neg-order}
@@ -32,11 +32,11 @@ module _ (P : LatticePart) (D : DeMorganLattice P) where
 
   same-meet : (a b : ℕ) → a < P .size → b < P .size → meetOf P a b ≡ D .meet a b
   same-meet a b l m =
-      meet-same P a b _ _ (lattice-ordered .anti) (D .meet-lt a b l m) (lattice-bounded .meet-lt a b l m) (D .meet-is a b l m) (meet-at P lattice-bounded a b l m)
+      meet-unique P a b _ _ (lattice-ordered .anti) (D .meet-lt a b l m) (lattice-bounded .meet-lt a b l m) (D .meet-is a b l m) (meet-at P lattice-bounded a b l m)
 
   same-join : (a b : ℕ) → a < P .size → b < P .size → joinOf P a b ≡ D .join a b
   same-join a b l m =
-      meet-same (reversed P) a b _ _ (ordered-reversed P lattice-ordered .anti) (D .join-lt a b l m) (lattice-bounded .join-lt a b l m) (D .join-is a b l m)
+      meet-unique (reversed P) a b _ _ (ordered-reversed P lattice-ordered .anti) (D .join-lt a b l m) (lattice-bounded .join-lt a b l m) (D .join-is a b l m)
       (join-at P lattice-bounded a b l m)
 
   pub lattice-distributive : distributive (P .size) (meetOf P) (joinOf P) ≡ true

@@ -1,19 +1,18 @@
 -- What is tested before anything is worked by codes: that the bounds, the complements, the values of both models and a table's entries are
 -- elements. Rests on rounds' Table and Row, theory's Part and Test, and model's Places.
 --   Elements: the bytes are elements
---   below-at, below-entries: bytes that passed `operations::below`
+--   below-entries: a table's bytes that passed `operations::below`
 --   old-element, label-element, transition-element: an entry of a row, a label and a transition are among these bytes
 use Prim.Native.Nat.{ℕ, _+_, _*_, _-_, _≤_, _<_}
 use mathlib.Core.Path.{_≡_}
 use mathlib.Core.Bool.{true}
 use mathlib.Core.List.{List}
 use native.Mathlib.Omega.{arith}
-use borrow.Author.Tests.{ltb-true}
 use lib.Dec.{ltb}
 use lib.ListN.{length, getD}
 use Rattle.theory.specs.Part.{modelOf, ModelShape}
 use Rattle.theory.specs.Test.{allBelow}
-use Rattle.theory.specs.TestLaws.{all-at}
+use Rattle.theory.specs.TestLaws.{below-at}
 use Rattle.operations.specs.declared.Lattice.{Lattice}
 use Rattle.model.specs.Places.{row-le}
 use Rattle.rounds.specs.Row.{RowAt}
@@ -27,11 +26,6 @@ pub record Elements (t : List ℕ) (l : Lattice) (m₁ m₂ s : List ℕ) : Type
   pub entries : (i : ℕ) → i < getD m₁ 0 0 * getD m₂ 0 0 → getD s i 0 < l .size
 
 -- bytes that passed the test
-pub below-at : (s : List ℕ) (from count n : ℕ) → allBelow count (λ i. ltb (getD s (from + i) 0) n) ≡ true → (i : ℕ) → from ≤ i → i < from + count → getD s i 0 < n
-below-at s from count n e i l m =
-    let z : from + (i - from) ≡ i = omega arith in
-    rw z at (ltb-true (getD s (from + (i - from)) 0) n (all-at count (λ j. ltb (getD s (from + j) 0) n) e (i - from) (omega arith)))
-
 pub below-entries : (s m₁ m₂ : List ℕ) (n₁ n₂ n : ℕ) → allBelow (n₁ * n₂) (λ i. ltb (getD s (0 + i) 0) n) ≡ true → n₁ ≡ getD m₁ 0 0 → n₂ ≡ getD m₂ 0 0 → (i : ℕ) → i < getD m₁ 0 0 * getD m₂ 0 0 → getD s i 0 < n
 below-entries s m₁ m₂ n₁ n₂ n e f g i l =
     let z : i < n₁ * n₂ = rw (f, g) l in

@@ -12,7 +12,7 @@ use Rattle.theory.specs.Part.{LatticePart, meetOf, joinOf}
 use Rattle.theory.specs.Test.{allBelow}
 use Rattle.theory.specs.TestLaws.{bool-same, all-at, all-in}
 use Rattle.order.specs.Tests.{all2, distributive}
-use Rattle.order.specs.Bounds.{all2-at, all2-in, all3-at, all3-in, meet-same}
+use Rattle.order.specs.Bounds.{all2-at, all2-in, all3-at, all3-in, meet-unique}
 use Rattle.order.specs.DeMorgan.{reversed}
 use Rattle.order.specs.Ordered.{Ordered, Bounded, meet-at, join-at}
 use Rattle.order.specs.Agree.{join-comm}
@@ -34,7 +34,7 @@ module _ (P : LatticePart) (o : Ordered P) (w : Bounded P) where
 
   join-above : (b c : ℕ) → b < P .size → c < P .size → P .order b c ≡ true → joinOf P b c ≡ c
   join-above b c l m p =
-      meet-same (reversed P) b c c _ (record { same = λ x y i j u v. o .anti .same x y i j v u }) m (w .join-lt b c l m)
+      meet-unique (reversed P) b c c _ (record { same = λ x y i j u v. o .anti .same x y i j v u }) m (w .join-lt b c l m)
       (record { left = p; right = o .rfl c m; greatest = λ x i u v. v }) (join-at P w b c l m)
 
   -- of two elements in order

@@ -2,7 +2,7 @@
 -- The general part of theorem 4. Rests on Lattice, Simulation (count), Test, Finite.
 --   steps: from one element of a chain of h to the next there are h - 1 steps
 --   Preorder: a decided preorder; downwards, upwards: those of a lattice
---   Apart: in order, and not both ways; apart-length, apart-length-up: no list of values apart is longer than a chain
+--   Apart: in order, and not both ways; apart-most, apart-most-up: no list of values apart is longer than a chain
 --   lowered, lowerings: in how many steps an entry, and all entries together, were lowered
 --   Unlowered: a step that lowers no entry
 --   lowerings-le: a descending sequence of m by n tables lowers at most m * n * (h - 1) entries
@@ -18,7 +18,7 @@ use lib.ListN.{length, length-map}
 use Rattle.theory.specs.Lattice.{Ops, Laws, AtMost, Chain, All, Pairwise}
 use Rattle.theory.specs.Simulation.{one, count}
 use Rattle.theory.specs.TestLaws.{decide, false-true}
-use Rattle.theory.specs.Finite.{sum, sum-le, sum-mono, sum-strict, scan, First, first-within, pairwise-map, all-image, pairwise-under}
+use Rattle.theory.specs.Finite.{sum, sum-le, sum-mono, sum-strict, scan, First, first-exists, pairwise-map, all-image, pairwise-under}
 pub use Rattle.theory.specs.Finite.{all-map}
 
 -- ---- a chain of h elements has h − 1 steps from one of them to the next
@@ -142,7 +142,7 @@ module _ {A : Type 0} (W : Preorder A) where
 
     -- so there is a first step that lowers nothing, and its number is at most m * n * (h - 1)
     pub first-unlowered : (t : ℕ) × (t ≤ m * n * steps h) × First (Unlowered test m n s) t
-    first-unlowered = first-within (Unlowered test m n s) _ (λ t. ⊎-map (λ a. a) (λ w. w .0) (unlowered? t)) (λ t w. le-trans (grows t w) (lowerings-le t))
+    first-unlowered = first-exists (Unlowered test m n s) _ (λ t. ⊎-map (λ a. a) (λ w. w .0) (unlowered? t)) (λ t w. le-trans (grows t w) (lowerings-le t))
 
 -- ---- in a lattice, downwards and upwards
 
@@ -155,8 +155,8 @@ module _ {A : Type 0} {O : Ops A} (L : Laws O) where
 
   -- a list of values apart is as long as a chain of elements: a met with itself is the element that a stands for
   module _ (h : ℕ) (height : (l : List A) → Chain O l → length l ≤ h) where
-    pub apart-length : (l : List A) → Pairwise (Apart (O .atMost)) l → length l ≤ h
-    apart-length l c =
+    pub apart-most : (l : List A) → Pairwise (Apart (O .atMost)) l → length l ≤ h
+    apart-most l c =
         rw length-map at
         (height (map it l)
         (record {
@@ -174,5 +174,5 @@ module _ {A : Type 0} {O : Ops A} (L : Laws O) where
         lift : {a b : A} → AtMost O a b → AtMost O (it a) (it b)
         lift p = L .meet-glb (L .trans (L .meet-l _ _) p) (L .trans (L .meet-l _ _) p)
 
-    pub apart-length-up : (l : List A) → Pairwise (Apart (λ a b. O .atMost b a)) l → length l ≤ h
-    apart-length-up l c = apart-length l (pairwise-map _ _ (λ a b w. (⊎-swap (w .0), λ v. w .1 (v .1, v .0))) l c)
+    pub apart-most-up : (l : List A) → Pairwise (Apart (λ a b. O .atMost b a)) l → length l ≤ h
+    apart-most-up l c = apart-most l (pairwise-map _ _ (λ a b w. (⊎-swap (w .0), λ v. w .1 (v .1, v .0))) l c)

@@ -1,7 +1,7 @@
 -- Sums, searches and lists of finitely many things. Rests on Lattice and TestLaws.
 --   sum: f 0 + .. + f (n - 1); its bounds: sum-le, sum-mono, sum-strict
 --   scan: all numbers below n have P, or here is one that has Q
---   First: t is the least number with P; first-within: there is one, at most B
+--   First: t is the least number with P; first-exists: there is one, at most B
 --   all-map, pairwise-map: what holds of all, or of every two, entries of a list, weakened
 --   all-under, all-image, pairwise-under: the same, of the list with a function applied to each entry
 use Prim.Native.Nat.{ℕ, zero, suc, _+_, _*_, _≤_, _<_, zero-le}
@@ -55,8 +55,8 @@ pub record First (P : ℕ → Type 0) (t : ℕ) : Type 0 where
   pub earlier : (j : ℕ) → j < t → ¬ P j
 
 -- there is a least number with P, where P cannot fail at all numbers up to B
-pub first-within : (P : ℕ → Type 0) (B : ℕ) → ((t : ℕ) → P t ⊎ (¬ P t)) → ((t : ℕ) → ((j : ℕ) → j < t → ¬ P j) → t ≤ B) → (t : ℕ) × (t ≤ B) × First P t
-first-within P B dec bound = go (find (suc B))
+pub first-exists : (P : ℕ → Type 0) (B : ℕ) → ((t : ℕ) → P t ⊎ (¬ P t)) → ((t : ℕ) → ((j : ℕ) → j < t → ¬ P j) → t ≤ B) → (t : ℕ) × (t ≤ B) × First P t
+first-exists P B dec bound = go (find (suc B))
   where
     Found : ℕ → Type 0
     Found d = ((j : ℕ) → j < d → ¬ P j) ⊎ ((t : ℕ) × (t < d) × First P t)

@@ -1,7 +1,7 @@
 -- Theorem 2: a fixpoint's value is the least (greatest) map that its body sends to itself; the number of applications of a body does not
 -- matter from states * (n - 1) on; so values are those of the latticed mu-calculus. Rests on Value, Calculus, Monotone, Iterates, Descent.
---   mu-falls, mu-rises, mu-least: the body sends a least fixpoint's value to itself, and what it does not raise lies above
---   nu-rises, nu-falls, nu-greatest: the same of a greatest fixpoint, the other way round
+--   mu-falls, mu-rises, mu-le: the body sends a least fixpoint's value to itself, and what it does not raise lies above
+--   nu-rises, nu-falls, nu-ge: the same of a greatest fixpoint, the other way round
 --   applications-le, applications-same: any two counts of applications that are enough give the same values
 --   eval-element, value-element: values are elements
 --   least-fixpoint, greatest-fixpoint: the values of fixpoints, as Value defines them
@@ -19,7 +19,7 @@ use Rattle.theory.specs.Value.{iterate, bind, allNext, someNext, eval, e
 use Rattle.theory.specs.Calculus.{Present, Calculus}
 use Rattle.theory.specs.Folds.{meet-mono, join-mono, bigMeet-element, bigJoin-element}
 use Rattle.theory.specs.TestLaws.{and-l, and-r}
-use Rattle.theory.specs.Descent.{first-unlowered, downwards, upwards, apart-length, apart-length-up}
+use Rattle.theory.specs.Descent.{first-unlowered, downwards, upwards, apart-most, apart-most-up}
 use Rattle.theory.specs.Monotone.{AtMostEnv, bind-mono, body-mono, allNext-mono, someNext-mono}
 use Rattle.theory.specs.Iterates.{iterate-greatest, iterate-falls, iterate-fixed, steps-down}
 pub use Rattle.theory.specs.Monotone.{allNext-cong, someNext-cong, body-cong, iterate-stays, chain-size}
@@ -35,16 +35,16 @@ module _ {A : Type 0} {O : Ops A} (L : Laws O) (M : Model A) where
   unfolding eval
   mu-falls K w f e =
       iterate-fixed (upwards L) (M .states) (O .bot) (L .bot-min) (body K f e) (λ x y. body-mono L M K f e y x) (O .size)
-      (first-unlowered (upwards L) (O .size) (apart-length-up L (O .size) (chain-size L)) (M .states) 1 _ (steps-down (upwards L) (M .states) (O .bot) (L .bot-min) (body K f e) (λ x y. body-mono L M K f e y x)))
+      (first-unlowered (upwards L) (O .size) (apart-most-up L (O .size) (chain-size L)) (M .states) 1 _ (steps-down (upwards L) (M .states) (O .bot) (L .bot-min) (body K f e) (λ x y. body-mono L M K f e y x)))
       K w
 
   pub mu-rises : (K : ℕ) (f : Formula) (e : ℕ → ℕ → A) → AtMostMap O M (eval O M K (mu f) e) (body K f e (eval O M K (mu f) e))
   unfolding eval
   mu-rises K f e = iterate-falls (upwards L) (M .states) (O .bot) (L .bot-min) (body K f e) (λ x y. body-mono L M K f e y x) K
 
-  pub mu-least : (K : ℕ) (f : Formula) (e : ℕ → ℕ → A) (y : ℕ → A) → AtMostMap O M (body K f e y) y → AtMostMap O M (eval O M K (mu f) e) y
+  pub mu-le : (K : ℕ) (f : Formula) (e : ℕ → ℕ → A) (y : ℕ → A) → AtMostMap O M (body K f e y) y → AtMostMap O M (eval O M K (mu f) e) y
   unfolding eval
-  mu-least K f e y w = iterate-greatest (upwards L) (M .states) (O .bot) (L .bot-min) (body K f e) (λ x y. body-mono L M K f e y x) y w K
+  mu-le K f e y w = iterate-greatest (upwards L) (M .states) (O .bot) (L .bot-min) (body K f e) (λ x y. body-mono L M K f e y x) y w K
 
   -- ---- the value of a greatest fixpoint: likewise
 
@@ -52,16 +52,16 @@ module _ {A : Type 0} {O : Ops A} (L : Laws O) (M : Model A) where
   unfolding eval
   nu-rises K w f e =
       iterate-fixed (downwards L) (M .states) (O .top) (L .top-max) (body K f e) (body-mono L M K f e) (O .size)
-      (first-unlowered (downwards L) (O .size) (apart-length L (O .size) (chain-size L)) (M .states) 1 _ (steps-down (downwards L) (M .states) (O .top) (L .top-max) (body K f e) (body-mono L M K f e)))
+      (first-unlowered (downwards L) (O .size) (apart-most L (O .size) (chain-size L)) (M .states) 1 _ (steps-down (downwards L) (M .states) (O .top) (L .top-max) (body K f e) (body-mono L M K f e)))
       K w
 
   pub nu-falls : (K : ℕ) (f : Formula) (e : ℕ → ℕ → A) → AtMostMap O M (body K f e (eval O M K (nu f) e)) (eval O M K (nu f) e)
   unfolding eval
   nu-falls K f e = iterate-falls (downwards L) (M .states) (O .top) (L .top-max) (body K f e) (body-mono L M K f e) K
 
-  pub nu-greatest : (K : ℕ) (f : Formula) (e : ℕ → ℕ → A) (y : ℕ → A) → AtMostMap O M y (body K f e y) → AtMostMap O M y (eval O M K (nu f) e)
+  pub nu-ge : (K : ℕ) (f : Formula) (e : ℕ → ℕ → A) (y : ℕ → A) → AtMostMap O M y (body K f e y) → AtMostMap O M y (eval O M K (nu f) e)
   unfolding eval
-  nu-greatest K f e y w = iterate-greatest (downwards L) (M .states) (O .top) (L .top-max) (body K f e) (body-mono L M K f e) y w K
+  nu-ge K f e y w = iterate-greatest (downwards L) (M .states) (O .top) (L .top-max) (body K f e) (body-mono L M K f e) y w K
 
   -- ---- the count of applications does not matter, where it is enough; J and K may come from models of different sizes
 
@@ -76,8 +76,8 @@ module _ {A : Type 0} {O : Ops A} (L : Laws O) (M : Model A) where
   applications-le K J u w (and f g) e d b q l = meet-mono L (applications-le K J u w f e d b q l) (applications-le K J u w g e d b q l)
   applications-le K J u w (AX f) e d b q l = allNext-mono L M (applications-le K J u w f e d b) q
   applications-le K J u w (EX f) e d b q l = someNext-mono L M (applications-le K J u w f e d b) q
-  applications-le K J u w (mu f) e d b q l = mu-least K f e _ (λ r m. L .trans (applications-le K J u w f _ _ (bind-mono L M e d _ _ (λ x y. L .rfl _) b) r m) (mu-falls J w f d r m)) q l
-  applications-le K J u w (nu f) e d b q l = nu-greatest J f d _ (λ r m. L .trans (nu-rises K u f e r m) (applications-le K J u w f _ _ (bind-mono L M e d _ _ (λ x y. L .rfl _) b) r m)) q l
+  applications-le K J u w (mu f) e d b q l = mu-le K f e _ (λ r m. L .trans (applications-le K J u w f _ _ (bind-mono L M e d _ _ (λ x y. L .rfl _) b) r m) (mu-falls J w f d r m)) q l
+  applications-le K J u w (nu f) e d b q l = nu-ge J f d _ (λ r m. L .trans (nu-rises K u f e r m) (applications-le K J u w f _ _ (bind-mono L M e d _ _ (λ x y. L .rfl _) b) r m)) q l
 
   -- ---- values are elements, so that all of this is equality
 
@@ -113,24 +113,24 @@ module _ {A : Type 0} {O : Ops A} (L : Laws O) (M : Model A) where
       inside : (x : ℕ → A) → ToElements O M x → ToElements O M (body K f e x)
       inside x v = eval-element K (suc d) f b o _ (bind-element d e x v h)
 
-      -- the value of a least fixpoint; that it lies at or below every prefixed map, too, is mu-least
+      -- the value of a least fixpoint; that it lies at or below every prefixed map, too, is mu-le
       pub least-fixpoint : LeastFixpoint O M (body K f e) (eval O M K (mu f) e)
       unfolding boundBy overProps
       least-fixpoint =
           record {
             elements = values (mu f) b o;
             fixed = λ q l. L .antisym (inside _ (values (mu f) b o) q l) (values (mu f) b o q l) (mu-falls K w f e q l) (mu-rises K f e q l);
-            least = λ y i s. mu-least K f e y (λ q l. rw (s q l) (L .rfl _));
+            least = λ y i s. mu-le K f e y (λ q l. rw (s q l) (L .rfl _));
           }
 
-      -- and of a greatest; for postfixed maps: nu-greatest
+      -- and of a greatest; for postfixed maps: nu-ge
       pub greatest-fixpoint : GreatestFixpoint O M (body K f e) (eval O M K (nu f) e)
       unfolding boundBy overProps
       greatest-fixpoint =
           record {
             elements = values (nu f) b o;
             fixed = λ q l. L .antisym (inside _ (values (nu f) b o) q l) (values (nu f) b o q l) (nu-falls K f e q l) (nu-rises K w f e q l);
-            greatest = λ y i s. nu-greatest K f e y (λ q l. rw (s q l) (L .rfl _));
+            greatest = λ y i s. nu-ge K f e y (λ q l. rw (s q l) (L .rfl _));
           }
 
     -- values by enough applications are those of the calculus

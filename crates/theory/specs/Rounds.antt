@@ -20,7 +20,7 @@ use Rattle.theory.specs.Value.{someNext}
 use Rattle.theory.specs.Simulation.{successorPart, F, round, roundOf, SameTable, AtMostTable, FixedBy, FirstUnchangedOf, FirstUnchanged, GreatestSimulation, score}
 use Rattle.theory.specs.Folds.{meet-mono, bigMeet-cong, bigJoin-cong}
 use Rattle.theory.specs.Finite.{First}
-use Rattle.theory.specs.Descent.{Unlowered, lowerings, first-unlowered, lowerings-le, downwards, apart-length}
+use Rattle.theory.specs.Descent.{Unlowered, lowerings, first-unlowered, lowerings-le, downwards, apart-most}
 use Rattle.theory.specs.Monotone.{allNext-cong, someNext-cong, allNext-mono, someNext-mono, chain-size}
 
 -- ---- F and score read a table only at the pairs of states
@@ -93,7 +93,7 @@ module _ {A : Type 0} {O : Ops A} (L : Laws O) (M₁ M₂ : Model A) where
 
     -- all rounds together lower at most N1·N2·(h − 1) entries
     pub rounds-lower : (h : ℕ) → LongestChain O h → (t : ℕ) → lowerings (O .atMost) (M₁ .states) (M₂ .states) (roundOf O M₁ M₂ G) t ≤ M₁ .states * M₂ .states * (h - 1)
-    rounds-lower h c = lowerings-le (downwards L) h (apart-length L h (c .longest)) (M₁ .states) (M₂ .states) (roundOf O M₁ M₂ G) (λ t q₁ l q₂ m. descend t q₁ q₂)
+    rounds-lower h c = lowerings-le (downwards L) h (apart-most L h (c .longest)) (M₁ .states) (M₂ .states) (roundOf O M₁ M₂ G) (λ t q₁ l q₂ m. descend t q₁ q₂)
 
     module _ (element : (S : ℕ → ℕ → A) (q₁ q₂ : ℕ) → Element O (G S q₁ q₂)) where
       pub rounds-element : (r q₁ q₂ : ℕ) → Element O (roundOf O M₁ M₂ G r q₁ q₂)
@@ -103,7 +103,7 @@ module _ {A : Type 0} {O : Ops A} (L : Laws O) (M₁ M₂ : Model A) where
 
       -- T exists within the bound that the chains give
       pub exists-T : (h : ℕ) → ((l : List A) → Chain O l → length l ≤ h) → (T : ℕ) × (T ≤ M₁ .states * M₂ .states * (h - 1) + 1) × FirstUnchangedOf O M₁ M₂ G T
-      exists-T h longest = go (first-unlowered (downwards L) h (apart-length L h longest) (M₁ .states) (M₂ .states) (roundOf O M₁ M₂ G) (λ t q₁ l q₂ m. descend t q₁ q₂))
+      exists-T h longest = go (first-unlowered (downwards L) h (apart-most L h longest) (M₁ .states) (M₂ .states) (roundOf O M₁ M₂ G) (λ t q₁ l q₂ m. descend t q₁ q₂))
         where
           go : (t : ℕ) × (t ≤ M₁ .states * M₂ .states * (h - 1)) × First (Unlowered (O .atMost) (M₁ .states) (M₂ .states) (roundOf O M₁ M₂ G)) t → (T : ℕ) × (T ≤ M₁ .states * M₂ .states * (h - 1) + 1) × FirstUnchangedOf O M₁ M₂ G T
           go w = (

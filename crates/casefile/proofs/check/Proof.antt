@@ -41,7 +41,7 @@ first-misplaced-requires : tie.Need-first-misplaced-requires
 first-misplaced-requires c κs = directed c
 
 shared-slice-read-if3 : tie.Need-shared-slice-read-if3
-shared-slice-read-if3 c = omega (arith, directed (c .before .before) .directory-in)
+shared-slice-read-if3 c = omega (arith, directed (c .before .before) .directory-within)
 
 returns-3 : tie.Need-returns-3
 returns-3 c = place-answered _ _ _ (sized (c .before .before .before .before .before)) (with-directory (c .before .before .before)) (c .before .before .first-misplaced .ensures) (lt-ltb _ _ (c .if3 .taken))

@@ -8,7 +8,7 @@ use borrow.Author.Needs.{needs}
 use Rattle.theory.specs.TestLaws.{not-passed}
 use Rattle.lattice.specs.Reading.{isPanel, latticeForm}
 use Rattle.lattice.specs.Accepted.{ExplicitForm}
-use Rattle.lattice.specs.Form.{square-le, form-panel, form-length, form-out, form-complements, form-last}
+use Rattle.lattice.specs.Form.{square-le, form-panel, form-least, form-out, form-complements, form-last}
 use Rattle.lattice.proofs.has_form.Statement.{statement}
 use Rattle.lattice.proofs.has_form.Tie as tie
 
@@ -24,7 +24,7 @@ square : (c : tie.Else4) → c .before .before .index .result * c .before .befor
 square c = square-le _ (c .if4 .left)
 
 returns : tie.Need-returns
-returns c = sym (not-passed _ (λ f. omega (arith, form-length _ f)))
+returns c = sym (not-passed _ (λ f. omega (arith, form-least _ f)))
 
 returns-2 : tie.Need-returns-2
 returns-2 c = sym (form-panel _ (sym (c .before .is-panel .ensures) ∙ c .if2 .taken))

@@ -5,7 +5,7 @@ use Rattle.listing.proofs.whole_of.Statement.{statement}
 use Rattle.listing.proofs.whole_of.Tie as tie
 
 part-requires : tie.Need-part-requires
-part-requires c κs = let v = valuable (c .before .before .pre) in (v .placed, v .model-in)
+part-requires c κs = let v = valuable (c .before .before .pre) in (v .placed, v .model-below)
 
 add-part : tie.Need-add-part
 add-part c = let v = valuable (c .before .before .before .pre) in omega (arith, v .formula-in, v .few)

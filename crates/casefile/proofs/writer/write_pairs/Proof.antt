@@ -30,7 +30,7 @@ put-pair-requires : tie.Need-put-pair-requires Inv-loop μ-loop
 put-pair-requires c κs =
     let r = room (c .before .before) in
     let l = c .before .before .before .loop .inv in
-    (omega (arith, r .directory-in, pairs-kept (l .1) (l .0)), omega (arith, r .end-small), c .before .part-size .ensures .1)
+    (omega (arith, r .directory-within, pairs-kept (l .1) (l .0)), omega (arith, r .end-small), c .before .part-size .ensures .1)
 
 add-at-2 : tie.Need-add-at-2 Inv-loop μ-loop
 add-at-2 c =

@@ -29,7 +29,7 @@ room : (c : tie.In-loop Inv-loop μ-loop) → Room (c .before .before .before .b
 room c = writing-room (c .before .loop .inv .1) (c .loop-test .taken)
 
 copy-requires : tie.Need-copy-requires Inv-loop μ-loop
-copy-requires c κs = rw (c .before .part .ensures) (omega (arith, room (c .before .before) .part-in, parts-kept (c .before .before .before .loop .inv .1)))
+copy-requires c κs = rw (c .before .part .ensures) (omega (arith, room (c .before .before) .part-within, parts-kept (c .before .before .before .loop .inv .1)))
 
 add-at-2 : tie.Need-add-at-2 Inv-loop μ-loop
 add-at-2 c = omega (arith, room (c .before .before .before .before .before) .end-small, ap length (c .before .before .before .before .part .ensures))

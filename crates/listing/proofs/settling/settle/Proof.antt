@@ -8,7 +8,7 @@ use native.Mathlib.Omega.{arith}
 use lib.ListN.{length}
 use Rattle.theory.specs.Part.{modelOf}
 use Rattle.operations.specs.Table.{opsIn}
-use Rattle.listing.specs.Settling.{AtRound, at-start, rounds-few, next-round, settled-out, settled-read}
+use Rattle.listing.specs.Settling.{AtRound, at-start, rounds-few, next-round, settled-done, settled-read}
 use Rattle.listing.proofs.settling.settle.Statement.{statement}
 use Rattle.listing.proofs.settling.settle.Tie as tie
 
@@ -71,7 +71,7 @@ returns-2 : tie.Need-returns-2 Inv-loop μ-loop
 returns-2 c =
     let r = c .before .before .before .before .before .before .before .before .before .before .before .before .loop .r in
     let e : r + 1 + 1 ≡ r + 2 = omega arith in
-    rw e at (settled-out (next-held (c .before .before .before .before .before .before)) (c .before .before .before .round2 .ensures) (not-true _ (c .if2 .taken)))
+    rw e at (settled-done (next-held (c .before .before .before .before .before .before)) (c .before .before .before .round2 .ensures) (not-true _ (c .if2 .taken)))
 
 add-r : tie.Need-add-r Inv-loop μ-loop
 add-r c = omega (arith, few (c .before .before .before .before .before .before .before .before .before .before .before .before))

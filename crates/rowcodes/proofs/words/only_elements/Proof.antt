@@ -4,7 +4,8 @@ use Prim.Native.Nat.{_+_}
 use borrow.Author.Tests.{not-false}
 use Rattle.theory.specs.TestLaws.{false-true}
 use Rattle.model.specs.Places.{prod-le}
-use Rattle.rowcodes.specs.Elements.{below-at, below-entries}
+use Rattle.theory.specs.TestLaws.{below-at}
+use Rattle.rowcodes.specs.Elements.{below-entries}
 use Rattle.rounds.specs.Entry.{held-by}
 use borrow.Author.Needs.{needs}
 use native.Mathlib.Omega.{arith}
