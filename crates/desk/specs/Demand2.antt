@@ -64,8 +64,8 @@ same-greatest {O} M₁ M₂ S U h g =
       greatest = λ W w q₁ l q₂ m. rw (h q₁ l q₂ m) (g .greatest W w q₁ l q₂ m);
     }
 
-settled-exactly : (ks : List Call) (d : Desk) (l : LastOpening ks d) → run ks d .standing .settled ≡ true → GreatestSimulation (ops (l .holds)) (model1 (l .holds)) (model2 (l .holds)) (shownTable (l .holds) (run ks d))
-settled-exactly ks d l e =
+settled-shown : (ks : List Call) (d : Desk) (l : LastOpening ks d) → run ks d .standing .settled ≡ true → GreatestSimulation (ops (l .holds)) (model1 (l .holds)) (model2 (l .holds)) (shownTable (l .holds) (run ks d))
+settled-shown ks d l e =
     let t = opening-T l in
     let w = listed ks d l (t .0) (t .1) in
     let r : roundAfter (l .holds) (t .0) (length (answersSince l)) ≡ t .0 = w .settled-exactly .0 e in
@@ -123,7 +123,7 @@ demand2 ks d l =
     let t = opening-T l in
     let store = listed ks d l (t .0) (t .1) .store-holds in
     record {
-      settled-table = settled-exactly ks d l;
+      settled-table = settled-shown ks d l;
       calculus-is = is-calculus c (content-sound (take 24576 (run ks d .store)) c store);
       values-are = value-of c (content-sound (take 24576 (run ks d .store)) c store);
       values = λ f m q a u h. value-asked f m q (run ks d) c (asked-of (Call.Ask (Question.Value f m q)) (run ks d) c refl store a) u h;
