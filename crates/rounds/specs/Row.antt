@@ -54,11 +54,11 @@ differ-eqb p q z = ne-eqb _ _ (λ w. z (p ∙ w ∙ sym q))
 
 -- ---- a loop over the entries of a row: f is written from `at` on and compared with g
 
-pub record RowSoFar (at : ℕ) (f g : ℕ → ℕ) (before : List ℕ) (q : ℕ) (out : List ℕ) (changed : Bool) : Type 0 where
+pub record RowSoFar (changed : Bool) (at : ℕ) (f g : ℕ → ℕ) (before : List ℕ) (q : ℕ) (out : List ℕ) : Type 0 where
   pub out-is : out ≡ written at (tab f q 0) before
   pub changed-is : changed ≡ not (allBelow q (λ i. eqb (g i) (f i)))
 
-pub row-none : {at : ℕ} {f g : ℕ → ℕ} {before : List ℕ} → RowSoFar at f g before 0 before false
+pub row-none : {at : ℕ} {f g : ℕ → ℕ} {before : List ℕ} → RowSoFar false at f g before 0 before
 unfolding tab allBelow
 row-none {at} {f} {g} {before} = record { out-is = sym (written-none at before); changed-is = refl }
 
@@ -67,7 +67,7 @@ not-and true b = refl
 not-and false b = refl
 
 -- one entry more: e is written where d stood in the table that is read
-pub row-more : {at : ℕ} {f g : ℕ → ℕ} {before : List ℕ} {q : ℕ} {out : List ℕ} {changed : Bool} {d e : ℕ} → RowSoFar at f g before q out changed → at + q < length before → d ≡ g q → e ≡ f q → RowSoFar at f g before (q + 1) (set out (at + q) e) (changed || not (eqb d e))
+pub row-more : {at : ℕ} {f g : ℕ → ℕ} {before : List ℕ} {q : ℕ} {out : List ℕ} {changed : Bool} {d e : ℕ} → RowSoFar changed at f g before q out → at + q < length before → d ≡ g q → e ≡ f q → RowSoFar (changed || not (eqb d e)) at f g before (q + 1) (set out (at + q) e)
 unfolding allBelow
 row-more {at} {f} {g} {before} {q} u l p r =
     record {
@@ -76,8 +76,8 @@ row-more {at} {f} {g} {before} {q} u l p r =
     }
 
 -- at the loop's end the counter has reached the row's end
-pub row-all : {at : ℕ} {f g : ℕ → ℕ} {before : List ℕ} {q n : ℕ} {out : List ℕ} {changed : Bool} → RowSoFar at f g before q out changed → q ≤ n → n ≤ q → RowSoFar at f g before n out changed
+pub row-all : {at : ℕ} {f g : ℕ → ℕ} {before : List ℕ} {q n : ℕ} {out : List ℕ} {changed : Bool} → RowSoFar changed at f g before q out → q ≤ n → n ≤ q → RowSoFar changed at f g before n out
 row-all {q = q} {n = n} u a b = let e : q ≡ n = omega arith in rw e at u
 
-pub row-written : {m₁ m₂ : List ℕ} {q₁ n₂ at : ℕ} {f g : ℕ → ℕ} {before out : List ℕ} {changed : Bool} → RowAt m₁ m₂ q₁ n₂ at → n₂ ≡ getD m₂ 0 0 → RowSoFar at f g before n₂ out changed → (out ≡ written (q₁ * getD m₂ 0 0) (tab f (getD m₂ 0 0) 0) before) × (changed ≡ not (allBelow (getD m₂ 0 0) (λ i. eqb (g i) (f i))))
+pub row-written : {m₁ m₂ : List ℕ} {q₁ n₂ at : ℕ} {f g : ℕ → ℕ} {before out : List ℕ} {changed : Bool} → RowAt m₁ m₂ q₁ n₂ at → n₂ ≡ getD m₂ 0 0 → RowSoFar changed at f g before n₂ out → (out ≡ written (q₁ * getD m₂ 0 0) (tab f (getD m₂ 0 0) 0) before) × (changed ≡ not (allBelow (getD m₂ 0 0) (λ i. eqb (g i) (f i))))
 row-written h e u = (rw (← h .here, ← e) (u .out-is), rw (← e) (u .changed-is))

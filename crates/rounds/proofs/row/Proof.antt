@@ -15,7 +15,7 @@ Inv-loop t l m1 m2 s out₀ q1 n2 at changed₀ q2₀ out changed q2 =
     RowAt m1 m2 (q1 .0) n2 at
     × (q2 ≤ n2)
     × (length out ≡ length out₀)
-    × RowSoFar at (entryIn t l m1 m2 s (q1 .0)) (tableOf s (getD m2 0 0) (q1 .0)) out₀ q2 out changed
+    × RowSoFar changed at (entryIn t l m1 m2 s (q1 .0)) (tableOf s (getD m2 0 0) (q1 .0)) out₀ q2 out
 
 abbrev μ-loop : tie.MeasureT-loop
 μ-loop t l m1 m2 s out₀ q1 n2 at changed₀ q2₀ out changed q2 = n2 - q2

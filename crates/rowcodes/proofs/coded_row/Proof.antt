@@ -17,7 +17,7 @@ Inv-loop t l m1 m2 s codes negated joins out₀ q1 n2 at left from changed₀ q2
     × (q2 ≤ n2)
     × (length out ≡ length out₀)
     × RowWords negated m1 (q1 .0) left
-    × RowSoFar at (entryIn t l m1 m2 s (q1 .0)) (tableOf s (getD m2 0 0) (q1 .0)) out₀ q2 out changed
+    × RowSoFar changed at (entryIn t l m1 m2 s (q1 .0)) (tableOf s (getD m2 0 0) (q1 .0)) out₀ q2 out
 
 abbrev μ-loop : tie.MeasureT-loop
 μ-loop t l m1 m2 s codes negated joins out₀ q1 n2 at left from changed₀ q2₀ out changed q2 = n2 - q2
