@@ -1,5 +1,6 @@
--- What the questions are answered, from what the code found. Rests on Held, rounds' Table and Share, valuer's Values.
+-- What the questions are answered, from what the code found. Rests on examination's Held, rounds' Table and Share, valuer's Values.
 --   Readable, caseScore, caseSimulation, rangeTest: the terms of the code's contracts
+--   readable, valuable, whole-fits, some-entries: a held desk meets what these terms and the functions ask
 --   held-show, held-score, held-share, held-judge, held-whole, held-value: each question answered
 --   share-outside, judge-long, judge-high, whole-outside, value-outside, value-state: each refused with 13
 use Prim.Native.Nat.{ℕ, _+_, _*_, _≤_, _<_}

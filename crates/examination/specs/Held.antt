@@ -2,6 +2,7 @@
 -- Rests on Answer, casefile's Caller, and desk's RefusedLaws.
 --   HeldDesk, when-held: what is known of a desk that is held
 --   held-question, held-outside, refused-call: what a call does that is answered, out of range, or refused by the examination
+--   case-few, few: N1·N2 is at most 4,096; table-kept: the test of a table's bytes, from that of the code
 --   short-examined, unread-examined, spoiled-examined, held-examined: the four answers of the examination
 use Prim.Native.Nat.{ℕ, _+_, _*_, _≤_}
 use mathlib.Core.Path.{_≡_, refl, sym, ap, _∙_}

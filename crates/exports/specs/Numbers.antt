@@ -1,7 +1,7 @@
--- The numbers that the exports answer, for each of the desk's replies. Rests on desk's Desk, Case, Refused and Perform, and calls' Read.
+-- The numbers that the exports answer, for each of the desk's replies. Rests on desk's Desk, Case, Refused and Perform, and examination's Read.
 --   numbers: the numbers of a reply
 --   Tells, TellsAsked: what an export of a call says, and one of a call that only reads
---   named, Names: what show's export says
+--   named, namedBytes, Names: what show's export says
 use Prim.Native.Nat.{ℕ}
 use mathlib.Core.Path.{_≡_}
 use mathlib.Core.Bool.{Bool, cond}

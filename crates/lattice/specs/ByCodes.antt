@@ -1,5 +1,5 @@
 -- Guessed meets and joins that pass the tests by codes are those of a distributive lattice, and the tables hold them. Rests on codes' Coded
--- and Laws, order's Tests, Bounds and Ordered, bounds' Scan, rules' Pairs, guesses' Tested, Tables.
+-- and Laws, order's Bounds and Ordered, bounds' Scan, rules' Pairs, guesses' Tested, Reading, Tables.
 --   DistributiveIn: a distributive lattice whose meets and joins are in the tables
 --   tested: it is one where the tests pass; kept-filled: a guess keeps the order
 use Prim.Native.Nat.{ℕ, _+_, _*_, _/_, _%_, _≤_, _<_}

@@ -1,5 +1,5 @@
 -- The lattices of the worked examples are accepted: the bytes that stand in theory's Examples are lattice parts, by computation.
--- Rests on theory's Examples and Reading.
+-- Rests on theory's Examples, and on Reading.
 use mathlib.Core.Path.{_≡_, refl}
 use Rattle.theory.specs.Part.{isMeet, isJoin, meetOf, joinOf, explicitPart}
 use Rattle.theory.specs.Test.{allBelow, firstBelow}

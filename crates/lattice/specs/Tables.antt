@@ -1,4 +1,4 @@
--- The tables of a lattice by their places: what belongs at each, and what a filled table says. Rests on theory's Part and Loop, operations' Table,
+-- The tables of a lattice by their places: what belongs at each, and what a filled table says. Rests on theory's Part and Lists, operations' Table,
 -- order's Bounds.
 --   FilledTo: the tables hold the part's operations up to a place
 --   tableEntry: what belongs at a place; by its region at-order, at-meet, at-join, at-neg

@@ -174,7 +174,7 @@ fn check_complements(part: &[u8], t: &mut [u8; 12352]) -> LatticeCheck
 }
 
 // The refusal that the part gets, or n, top and bottom: each test in turn, with meets and joins found by search and distributivity tested for
-// every three elements.
+// each two elements that are not in order, with every third.
 pub fn check_by_search(part: &[u8], t: &mut [u8; 12352]) -> LatticeCheck
     ensures { λ r. ⌜ Answered (latticeReading (now (part .entry))) r (now (t .exit)) ⌝ }
 {

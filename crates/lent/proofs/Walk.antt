@@ -2,7 +2,7 @@
 --   St, sv, standing-tells, standing-typed, standing-makes: the standing as a type, as values, and their laws
 --   Slice, slice, at, slice-typed, slice-twice: a slice of bytes that is lent, that it is held, its value, and its laws
 --   ref, seen, borrowed: the standing's reference as a value, what the borrow was last seen to hold, and the borrow
---   Bytes, Rec: the standing and a slice as parameters of a contract
+--   Rec, Bytes: the standing and a slice as parameters of a contract
 pub use mathlib.Core.Path.{refl, _≡_, ap}
 pub use mathlib.Core.List.{[], _∷_, List}
 pub use Prim.Native.Nat.{ℕ, _<_, _^_}

@@ -1,5 +1,6 @@
 -- The sum that a loop over states makes, by the tables, and what it is: AX, EX, or the value on the whole model. Rests on Code, theory's
 -- Loop, model's Places.
+--   sumOf: the sum; sum-gather: it is the meet or join over all; gather-next, sum-next: over the transitions from a state it is AX or EX
 use Prim.Native.Nat.{ℕ, _+_}
 use mathlib.Core.Path.{_≡_, refl, ap, _∙_}
 use mathlib.Core.Bool.{Bool, true, false, not}

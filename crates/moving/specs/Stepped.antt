@@ -1,5 +1,6 @@
--- What step does, from the row that it worked. Rests on Held, desk's Moved and rounds' Table.
+-- What step does, from the row that it worked. Rests on examination's Held, desk's Moved and rounds' Table.
 --   caseRow, caseRowDiffers, Workable, movedBy: the terms of the code's contracts
+--   rowOut, rowDiffers: the same from two model parts; workable, round-fits, row-in: a held desk meets what these ask
 --   settled-step: a step of a settled desk
 --   into-first, into-second: a step that works a row into the first table, or into the second
 use Prim.Native.Nat.{ℕ, _*_, _-_, _≤_, _<_}

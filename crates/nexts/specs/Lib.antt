@@ -1,2 +1,2 @@
--- Definitions of `nexts`.
+-- Definitions of `nexts`, and the theorems on them.
 pub mod Words

@@ -1,4 +1,5 @@
 -- Share by the tables of a lattice. Rests on Table, theory's Simulation and Loop, and operations' Table.
+--   share-in: it is theory's share; share-counted: from a count of entries; percent-fits: it fits a byte
 use Prim.Native.Nat.{ℕ, _*_, _/_, _<_}
 use mathlib.Core.Path.{_≡_, refl, ap}
 use mathlib.Core.List.{List}

@@ -1,5 +1,5 @@
 -- What is tested before anything is worked by codes: that the bounds, the complements, the values of both models and a table's entries are
--- elements. Rests on rounds' Table and Row, theory's Part and Test, and model's Places.
+-- elements. Rests on rounds' Row, theory's Part, Test and TestLaws, and model's Places.
 --   Elements: the bytes are elements
 --   below-entries: a table's bytes that passed `operations::below`
 --   old-element, label-element, transition-element: an entry of a row, a label and a transition are among these bytes
