@@ -20,7 +20,7 @@ use Rattle.casefile.specs.Directory.{partCount, partAt}
 use Rattle.casefile.specs.Conditions.{Placed}
 use Rattle.valuer.specs.Values.{ValueAt, WholeValue}
 use Rattle.rounds.specs.Table.{Shaped, shareIn, scoreIn, simulationIn}
-use Rattle.rounds.specs.Share.{share-in}
+use Rattle.rounds.specs.Share.{shareIn-is}
 use Rattle.desk.specs.Desk.{Desk, Question, Call, Reply, wholeTable}
 use Rattle.desk.specs.Case.{N1, N2, modelIn, formulaIn}
 use Rattle.desk.specs.CaseParts.{Valuable, model-part, formula-part, parts-valuable}
@@ -83,7 +83,7 @@ module _ {d : Desk} {z : Sizes} {t : List ℕ} (h : HeldDesk d z t) where
   some-entries = rw (h .case .sizes) (h .case .sound .entries-some)
 
   pub held-share : (n e : ℕ) (w : List ℕ) (x : ℕ) → n ≡ z .states1 * z .states2 → ltb e (z .lattice .size) ≡ true → w ≡ wholeTable d → x ≡ shareIn t e w n → Does (Call.Ask (Question.Share e)) d (Reply.PerCent x) d
-  held-share n e w x m r p f = rw (rw (m, h .case .tables, p, h .case .sizes) at (f ∙ share-in t (z .lattice) e w n)) (held-question h (Question.Share e) (rw (h .case .sizes) at r))
+  held-share n e w x m r p f = rw (rw (m, h .case .tables, p, h .case .sizes) at (f ∙ shareIn-is t (z .lattice) e w n)) (held-question h (Question.Share e) (rw (h .case .sizes) at r))
 
   pub share-outside : (e : ℕ) → ltb e (z .lattice .size) ≡ false → Does (Call.Ask (Question.Share e)) d (numberReply OutOfRange) d
   share-outside e r = held-outside h (Question.Share e) (rw (h .case .sizes) at r)

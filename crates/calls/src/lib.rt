@@ -1,4 +1,5 @@
-// The eight calls, with the standing by value: `open` and `step` of crate `moving`, which give the standing after them, and the six of crate `asking`, which only read.
+// The eight calls, with the standing by value: `open` and `step` of crate `moving`, which give the standing after them, and the six of crate
+// `asking`, which only read.
 pub use asking::ElementAnswer;
 pub use asking::JudgeAnswer;
 pub use asking::ShareAnswer;

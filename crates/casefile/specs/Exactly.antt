@@ -11,7 +11,7 @@ use Rattle.lattice.specs.Reading.{LatticeReading, latticeReading, latticeOf, la
 use Rattle.lattice.specs.Accepted.{accepted-sound, lattice-exactly}
 use Rattle.lattice.specs.DeMorgan.{DeMorganLattice}
 use Rattle.model.specs.Accepted.{model-exactly}
-use Rattle.formula.specs.RoundTrip.{reading-exact}
+use Rattle.formula.specs.RoundTrip.{reading-exactly}
 use Rattle.casefile.specs.Directory.{partsOf}
 use Rattle.casefile.specs.Reading.{Content, contentParts, caseReading, content}
 use Rattle.casefile.specs.Conditions.{Placed}
@@ -55,14 +55,14 @@ content-exactly b c = (λ e. let w = case-exactly b c .0 e in there (w .0) (w .1
           valued2 = m2 .1;
           same-propositions = r .same-propositions;
           as-many = fs .as-many;
-          formula-bytes = λ f h. reading-exact k _ _ .0 (fs .each f h) .0;
-          formula-most = λ f h. reading-exact k _ _ .0 (fs .each f h) .1;
-          formula-allowed = λ f h. reading-exact k _ _ .0 (fs .each f h) .2;
+          formula-bytes = λ f h. reading-exactly k _ _ .0 (fs .each f h) .0;
+          formula-most = λ f h. reading-exactly k _ _ .0 (fs .each f h) .1;
+          formula-allowed = λ f h. reading-exactly k _ _ .0 (fs .each f h) .2;
         }
 
     back : CaseOf b c → caseReading b ≡ content c
     back h =
-        let each : FormulasRead k (c .formulaBytes) (c .formulas) = record { as-many = h .as-many; each = λ f l. reading-exact k _ _ .1 (h .formula-bytes f l, h .formula-most f l, h .formula-allowed f l) } in
+        let each : FormulasRead k (c .formulaBytes) (c .formulas) = record { as-many = h .as-many; each = λ f l. reading-exactly k _ _ .1 (h .formula-bytes f l, h .formula-most f l, h .formula-allowed f l) } in
         case-exactly b c .1 (
           h .placed,
           h .parts,

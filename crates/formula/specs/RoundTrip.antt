@@ -1,6 +1,6 @@
 -- The parse and the bytes of a formula are inverse to one another, so that a formula part is read as φ exactly when it is the bytes
 -- of φ, at most 255 of them, and φ is allowed. Rests on Bytes.
---   reading-exact: a part is read as φ exactly when it is the bytes of φ, at most 255, and φ is allowed
+--   reading-exactly: a part is read as φ exactly when it is the bytes of φ, at most 255, and φ is allowed
 --   parse-bytes, bytes-parse, bytes-injective: parse and bytes are inverse to one another
 --   code-refused: a code from 11 on; parse-code, parse-nil: the parse by the first byte; bytes-least: a formula has a byte
 --   FormulaPart, formula-part: what is known of a part that is read
@@ -158,9 +158,9 @@ whole-read k (parsed f (c ∷ b)) φ e = absurd (never-read e)
 
 -- 'A formula part has 1 to 255 bytes in prefix form and is used up exactly': a part is read as φ exactly when it is the bytes of φ, they
 -- are at most 255, and φ is allowed
-pub reading-exact : (k : ℕ) (b : List ℕ) (φ : Formula) → (formulaReading k b ≡ read φ) ↔ ((b ≡ bytesOf φ) × (length b ≤ 255) × (allowed k φ ≡ true))
+pub reading-exactly : (k : ℕ) (b : List ℕ) (φ : Formula) → (formulaReading k b ≡ read φ) ↔ ((b ≡ bytesOf φ) × (length b ≤ 255) × (allowed k φ ≡ true))
 unfolding formulaReading
-reading-exact k b φ = (there, back)
+reading-exactly k b φ = (there, back)
   where
     there : formulaReading k b ≡ read φ → (b ≡ bytesOf φ) × (length b ≤ 255) × (allowed k φ ≡ true)
     there e =
@@ -184,7 +184,7 @@ pub record FormulaPart (k : ℕ) (b : List ℕ) (φ : Formula) : Type 0 where
 
 pub formula-part : (k : ℕ) (b : List ℕ) (φ : Formula) → formulaReading k b ≡ read φ → FormulaPart k b φ
 formula-part k b φ e =
-    let h = reading-exact k b φ .0 e in
+    let h = reading-exactly k b φ .0 e in
     let both = and-l (closed φ && overProps k φ) (leb (nestedBinders φ) 3) (h .2) in
     record {
       bytes = h .0;

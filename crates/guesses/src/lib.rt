@@ -1,4 +1,4 @@
-// Meets and joins by codes: guessed, and taken only where they pass tests of every two elements.
+// Meets and joins guessed from the order (codes), and taken only where they pass tests of every two elements, by codes among others.
 use operations::Element;
 use operations::Lattice;
 use rules::Rule;

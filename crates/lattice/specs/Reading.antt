@@ -1,5 +1,8 @@
 -- The reading of a lattice part: refused by the first of the refusals 4 to 8 that applies, or accepted. Rests on theory's Part, order's Tests,
 -- Panel.
+--   isPanel, latticeOf: what the bytes say; explicitForm, latticeForm: refusal 4
+--   LatticeReading, require, partReading, latticeReading: the refusal, or the part accepted
+--   reflexive, antisymmetric, transitive, partialOrder, bounded, distributive, complementRules: order's tests, passed on
 use Prim.Native.Nat.{ℕ, _+_, _*_}
 use mathlib.Core.Bool.{Bool, true, false, cond, _&&_, _||_}
 use mathlib.Core.List.{List}

@@ -1,6 +1,6 @@
 -- What step does, from the row that it worked. Rests on examination's Held, desk's Moved and rounds' Table.
 --   caseRow, caseRowDiffers, Workable, movedBy: the terms of the code's contracts
---   rowOut, rowDiffers: the same from two model parts; workable, round-fits, row-in: a held desk meets what these ask
+--   rowOut, rowDiffers: the same from two model parts; workable, round-fits, row-within: a held desk meets what these ask
 --   settled-step: a step of a settled desk
 --   into-first, into-second: a step that works a row into the first table, or into the second
 use Prim.Native.Nat.{ℕ, _*_, _-_, _≤_, _<_}
@@ -84,8 +84,8 @@ module _ {d : Desk} {z : Sizes} {t : List ℕ} (h : HeldDesk d z t) where
             (omega (arith, h .case .sound .elements-most)),
       )
 
-  pub row-in : d .standing .row < d .standing .states1
-  row-in = rw (h .kept .rules .size1) (h .kept .rules .row-below)
+  pub row-within : d .standing .row < d .standing .states1
+  row-within = rw (h .kept .rules .size1) (h .kept .rules .row-below)
 
   abbrev afterStep : Desk → After
   afterStep e = record { reply = stepAnswer (e .standing); desk = e }

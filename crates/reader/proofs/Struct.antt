@@ -1,5 +1,7 @@
 -- The struct `FormulaReader` in the walks of `peek` and `advance`: its type, its laws and what it owns, taken apart for a callee that takes the
 -- slice and the number. The struct is Copy: what it owns is had twice, and one copy is kept whole for the exit. Assumes nothing.
+--   B, D, L: the struct's type, its declaration and laws; mach, v, vd: the machine values of it and of bytes, its fields' values; Own: what it owns
+--   apart: what it owns gives what a callee asks, and is kept
 use mathlib.Core.Path.{_≡_, refl}
 use Prim.Native.Nat.{_<_, _^_}
 use mathlib.Core.List.{[], _∷_}

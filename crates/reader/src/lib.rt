@@ -1,6 +1,6 @@
 // Going through a formula part token by token: the code at a place with its number, and where the next one begins.
 // The work is in functions over a slice and a place. `FormulaReader` holds both, and the functions over it are short, since each is
-// proved by hand. What a part says as a whole, as its nested AX or whether a fixpoint or EX occurs, would be counted over these tokens.
+// proved by hand.
 ghost use mathlib.Core.Path.{_≡_};
 ghost use Prim.Native.Nat.{_+_};
 ghost use Rattle.reader.specs.Tokens.{tokenAt, tokenEnd, tokenSize, placeFrom};

@@ -1,5 +1,5 @@
 -- Share by the tables of a lattice. Rests on Table, theory's Simulation and Loop, and operations' Table.
---   share-in: it is theory's share; share-counted: from a count of entries; percent-fits: it fits a byte
+--   shareIn-is: it is theory's share; share-counted: from a count of entries; percent-fits: it fits a byte
 use Prim.Native.Nat.{ℕ, _*_, _/_, _<_}
 use mathlib.Core.Path.{_≡_, refl, ap}
 use mathlib.Core.List.{List}
@@ -13,9 +13,9 @@ use Rattle.operations.specs.Table.{atMostIn, opsIn}
 use Rattle.rounds.specs.Table.{shareIn}
 
 -- it is theory's share, whatever the lattice's size and bounds
-pub share-in : (t : List ℕ) (l : Lattice) (e : ℕ) (s : List ℕ) (n : ℕ) → shareIn t e s n ≡ share (opsIn t l) n (λ i. getD s i 0) e
+pub shareIn-is : (t : List ℕ) (l : Lattice) (e : ℕ) (s : List ℕ) (n : ℕ) → shareIn t e s n ≡ share (opsIn t l) n (λ i. getD s i 0) e
 unfolding shareIn share
-share-in t l e s n = refl
+shareIn-is t l e s n = refl
 
 -- c entries are counted: the per cent of c
 pub share-counted : (t : List ℕ) (e : ℕ) (s : List ℕ) (n c : ℕ) → Counted (λ i. atMostIn t e (getD s i 0)) n c → perCent c n ≡ shareIn t e s n

@@ -1,4 +1,4 @@
-// The two ways of working a row, held against each other: every entry of F by `rounds::entry`, which goes by the tables; the same by rows, and by a
+// The two ways of working a row, compared: every entry of F by `rounds::entry`, which goes by the tables; the same by rows, and by a
 // whole round, of `rowcodes`. First over the subsets of six things, whose elements have codes; then over the same tables with one join
 // changed, which no codes fit, so that rows and rounds go by the tables too. Models of 24 states and two propositions.
 use libc::STDOUT_FILENO;

@@ -1,5 +1,5 @@
-// Rows, rounds and the test for a simulation, by codes of the elements where these pass their test and pay, and else by the tables (crate
-// `rounds`). A code is a word on which meet is & and join is |.
+// Rows, rounds and the test for a simulation, by codes of the elements where these pass their test and are faster, and else by the tables
+// (crate `rounds`). A code is a word on which meet is & and join is |.
 //   words: what is worked once for all rows of a round
 mod words;
 
@@ -178,7 +178,7 @@ fn large_round(t: &[u8; 12352], l: Lattice, m1: &[u8], m2: &[u8], s: &[u8], out:
     rounds::round(t, l, m1, m2, s, out)
 }
 
-// ---- by codes where they pay
+// ---- by codes where they are faster
 
 // Whether so many rows take longer by the tables than to find codes, in n·n steps, and to clear and fill their tables.
 fn worth(l: Lattice, m1: &[u8], m2: &[u8], rows: usize) -> bool

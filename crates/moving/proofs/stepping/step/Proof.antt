@@ -4,7 +4,7 @@ use lib.Seq.{length-take-le}
 use Rattle.desk.specs.Desk.{Desk, Call}
 use Rattle.examination.specs.Read.{deskOf}
 use Rattle.examination.specs.Held.{HeldDesk, when-held, refused-call}
-use Rattle.moving.specs.Stepped.{workable, round-fits, row-in, settled-step, into-first, into-second}
+use Rattle.moving.specs.Stepped.{workable, round-fits, row-within, settled-step, into-first, into-second}
 use borrow.Author.Needs.{needs}
 use Rattle.moving.proofs.stepping.step.Statement.{statement}
 use Rattle.moving.proofs.stepping.step.Tie as tie
@@ -35,7 +35,7 @@ answered-requires : tie.Need-answered-requires
 answered-requires c κs =
     let b = c .before .before .before .before .before .before .before in
     let z = b .before .before .before .before in
-    (row-in (held z), round-fits (held z) (b .before .before .if1 .left))
+    (row-within (held z), round-fits (held z) (b .before .before .if1 .left))
 
 returns-2 : tie.Need-returns-2
 returns-2 c =
@@ -54,7 +54,7 @@ answered-requires-2 : tie.Need-answered-requires-2
 answered-requires-2 c κs =
     let b = c .before .before .before .before .before .before .before in
     let z = b .before .before .before .before in
-    (row-in (held z), round-fits (held z) (b .before .before .if1 .left))
+    (row-within (held z), round-fits (held z) (b .before .before .if1 .left))
 
 returns-3 : tie.Need-returns-3
 returns-3 c = refused-call Call.Step (desk (c .before .before .before)) _ _ _ refl (c .before .before .before .examine .ensures) (c .before .f .given .1)
