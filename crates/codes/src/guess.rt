@@ -145,8 +145,8 @@ fn irreducibles(down: &[u64; 64], n: usize) -> u64
     x
 }
 
-// An element's code has the bits of those at or below it that are no joins of others.
-pub fn guess_codes(t: &[u8; 12352], n: usize, codes: &mut [u64; 64])
+// An element's code has the bits of those at or below it that are no joins of others. Nothing is claimed of it: `find` tests it.
+pub(crate) fn guess_codes(t: &[u8; 12352], n: usize, codes: &mut [u64; 64])
     requires { ⌜ n ≤ 64 ⌝ }
 {
     let mut place = [0u8; 64];

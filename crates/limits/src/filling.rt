@@ -75,7 +75,8 @@ fn byte(what: Filling, i: usize, n: usize) -> u8
     }
 }
 
-pub fn fill(out: &mut [u8], what: Filling, n: usize)
+// Every byte of an array. Any bytes do, so that nothing is claimed of them.
+pub(crate) fn fill(out: &mut [u8], what: Filling, n: usize)
     requires { ⌜ (length (now out) ≤ 5186) × (9 ≤ n) × (n ≤ 64) ⌝ }
 {
     for i in 0..out.len() {

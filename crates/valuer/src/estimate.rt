@@ -27,8 +27,8 @@ fn count(f: &[u8], a: u8, b: u8) -> usize
 }
 
 // Whether AX and EX take longer by the tables than to find codes, in n·n steps, to fill the words, in N·N, and to clear them first. A
-// fixpoint is taken for two rounds more of all that the formula has.
-pub fn worth(l: Lattice, m: &[u8], f: &[u8]) -> bool
+// fixpoint is taken for two rounds more of all that the formula has. Either answer gives the same values, so that nothing is claimed of it.
+pub(crate) fn worth(l: Lattice, m: &[u8], f: &[u8]) -> bool
     requires { ⌜ ModelShape (now m) × Reads (now m) (now f) ⌝ }
 {
     let states = model::states(m);
