@@ -1,6 +1,6 @@
 -- What the calls that only read answer, in the desk's terms: for each of an enum's cases the number and values that document 01 gives. Rests on
 -- examination's Read and Answer, and desk's Refused.
---   Asks: what a call that only reads does
+--   Reads, Asks: what a call that only reads does, and a question
 --   elementReply, shareReply, judgeReply: each answer as the desk's reply
 use Prim.Native.Nat.{ℕ}
 use mathlib.Core.List.{List}
@@ -16,9 +16,12 @@ use Rattle.asking.specs.declared.ShareAnswer.the-variants as share
 use Rattle.asking.specs.declared.JudgeAnswer.{JudgeAnswer}
 use Rattle.asking.specs.declared.JudgeAnswer.the-variants as judge
 
--- the question q on the desk of these four answers x and leaves that desk
+-- the call k on the desk of these four answers x and leaves that desk; so the question q
+abbrev pub Reads : Call → Standing → List ℕ → List ℕ → List ℕ → Reply → Type 0
+Reads k s store first second x = Does k (deskOf s store first second) x (deskOf s store first second)
+
 abbrev pub Asks : Question → Standing → List ℕ → List ℕ → List ℕ → Reply → Type 0
-Asks q s store first second x = Does (Call.Ask q) (deskOf s store first second) x (deskOf s store first second)
+Asks q = Reads (Call.Ask q)
 
 abbrev pub elementReply : ElementAnswer → Reply
 elementReply (element.Refused r) = numberReply r

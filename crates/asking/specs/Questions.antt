@@ -13,7 +13,8 @@ use lib.Dec.{ltb, eqb}
 use lib.ListN.{length, getD, take}
 use Rattle.theory.specs.Model.{Model}
 use Rattle.theory.specs.Part.{modelOf}
-use Rattle.theory.specs.TestLaws.{and-l, and-r, and-in}
+use Rattle.theory.specs.Simulation.{share}
+use Rattle.theory.specs.TestLaws.{and-l, and-r, and-in, cond-true, cond-false}
 use Rattle.formula.specs.Bytes.{read, formulaReading}
 use Rattle.casefile.specs.declared.Sizes.{Sizes}
 use Rattle.casefile.specs.Directory.{partCount, partAt}
@@ -21,14 +22,16 @@ use Rattle.casefile.specs.Conditions.{Placed}
 use Rattle.valuer.specs.Values.{ValueAt, WholeValue}
 use Rattle.rounds.specs.Table.{Shaped, shareIn, scoreIn, simulationIn}
 use Rattle.rounds.specs.Share.{shareIn-is}
+use Rattle.rounds.specs.Round.{byte-at, share-cong}
 use Rattle.desk.specs.Desk.{Desk, Question, Call, Reply, wholeTable}
-use Rattle.desk.specs.Case.{N1, N2, modelIn, formulaIn}
+use Rattle.desk.specs.Case.{ops, latticeSize, model1, model2, N1, N2, tableSize, modelIn, formulaIn, operator, entryAt}
+use Rattle.desk.specs.View.{shownTable}
 use Rattle.desk.specs.CaseParts.{Valuable, model-part, formula-part, parts-valuable}
 use Rattle.operations.specs.declared.Lattice.{Lattice}
 use Rattle.desk.specs.Refused.{tableKept, isModel, numberReply}
 use Rattle.refusal.specs.declared.Refusal.the-variants.{OutOfRange}
 use Rattle.examination.specs.Answer.{Does}
-use Rattle.examination.specs.Held.{HeldDesk, few, held-question, held-outside}
+use Rattle.examination.specs.Held.{HeldDesk, few, held-shown, held-question, held-outside}
 
 -- what score and judge ask of the case b and of a table
 pub record Readable (b table : List ℕ) : Type 0 where
@@ -61,10 +64,10 @@ module _ {d : Desk} {z : Sizes} {t : List ℕ} (h : HeldDesk d z t) where
             (record { first = h .case .sound .shape1; second = h .case .sound .shape2; same-propositions = h .case .sound .same-propositions; held = q });
       }
 
-  pub held-show : (n : ℕ) (w : List ℕ) → n ≡ z .states1 * z .states2 → w ≡ wholeTable d → Does (Call.Ask Question.Show) d (Reply.Shown (take n w)) d
+  pub held-show : (n : ℕ) (w : List ℕ) → n ≡ z .states1 * z .states2 → w ≡ wholeTable d → Does Call.Show d (Reply.Shown (take n w)) d
   held-show n w e p =
       let m : n ≡ N1 (h .case .holds) * N2 (h .case .holds) = rw (h .case .sizes) at e in
-      rw (m, p) (held-question h Question.Show refl)
+      rw (m, p) (held-shown h)
 
   -- the whole table is long enough
   pub whole-fits : (w : List ℕ) → w ≡ wholeTable d → z .states1 * z .states2 ≤ length w
@@ -83,10 +86,17 @@ module _ {d : Desk} {z : Sizes} {t : List ℕ} (h : HeldDesk d z t) where
   some-entries = rw (h .case .sizes) (h .case .sound .entries-some)
 
   pub held-share : (n e : ℕ) (w : List ℕ) (x : ℕ) → n ≡ z .states1 * z .states2 → ltb e (z .lattice .size) ≡ true → w ≡ wholeTable d → x ≡ shareIn t e w n → Does (Call.Ask (Question.Share e)) d (Reply.PerCent x) d
-  held-share n e w x m r p f = rw (rw (m, h .case .tables, p, h .case .sizes) at (f ∙ shareIn-is t (z .lattice) e w n)) (held-question h (Question.Share e) (rw (h .case .sizes) at r))
+  held-share n e w x m r p f =
+      let c = h .case .holds in
+      let bytes-are = byte-at (ops c) (model1 c) (model2 c) (operator c) (wholeTable d) (shownTable c d) (λ q₁ l q₂ k. refl) (h .case .sound .shape2 .some) in
+      let by-bytes : x ≡ share (ops c) (tableSize c) (λ i. getD (wholeTable d) i 0) e = rw (m, h .case .tables, p, h .case .sizes) at (f ∙ shareIn-is t (z .lattice) e w n) in
+      let r' : ltb e (latticeSize c) ≡ true = rw (h .case .sizes) at r in
+      rw (by-bytes ∙ share-cong (ops c) (tableSize c) _ (entryAt c (shownTable c d)) e bytes-are) (held-question h (Question.Share e) (cond-true _ _ _ r'))
 
   pub share-outside : (e : ℕ) → ltb e (z .lattice .size) ≡ false → Does (Call.Ask (Question.Share e)) d (numberReply OutOfRange) d
-  share-outside e r = held-outside h (Question.Share e) (rw (h .case .sizes) at r)
+  share-outside e r =
+      let r' : ltb e (latticeSize (h .case .holds)) ≡ false = rw (h .case .sizes) at r in
+      held-outside h (Question.Share e) OutOfRange (cond-false _ _ _ r')
 
   -- ---- judge
 
@@ -99,13 +109,13 @@ module _ {d : Desk} {z : Sizes} {t : List ℕ} (h : HeldDesk d z t) where
   pub judge-long : (n : ℕ) (b : List ℕ) → n ≡ z .states1 * z .states2 → eqb (length b) n ≡ false → Does (Call.Ask (Question.Judge b)) d (numberReply OutOfRange) d
   judge-long n b m l =
       let l' : eqb (length b) (N1 (h .case .holds) * N2 (h .case .holds)) ≡ false = rw (m, h .case .sizes) at l in
-      held-outside h (Question.Judge b) (rw l')
+      held-outside h (Question.Judge b) OutOfRange (rw l')
 
   pub judge-high : (n : ℕ) (b : List ℕ) → n ≡ z .states1 * z .states2 → eqb (length b) n ≡ true → tableKept n (z .lattice .size) b ≡ false → Does (Call.Ask (Question.Judge b)) d (numberReply OutOfRange) d
   judge-high n b m l r =
       let l' : eqb (length b) (N1 (h .case .holds) * N2 (h .case .holds)) ≡ true = rw (m, h .case .sizes) at l in
       let r' = rw (m, h .case .sizes) at r in
-      held-outside h (Question.Judge b) (rw (l', r'))
+      held-outside h (Question.Judge b) OutOfRange (rw (l', r'))
 
   -- ---- value and whole
 
@@ -126,10 +136,13 @@ module _ {d : Desk} {z : Sizes} {t : List ℕ} (h : HeldDesk d z t) where
 
   pub held-whole : (f m x : ℕ) → rangeTest f m (z .formulas) ≡ true → WholeValue t (z .lattice) (partAt bytes m) (partAt bytes (3 + f)) x → Does (Call.Ask (Question.Whole f m)) d (Reply.Element x) d
   held-whole f m x r v =
-      rw (rw (model-is f m r, h .case .tables) at (v .is (formulaIn (h .case .holds) f) (formula-is f m r))) (held-question h (Question.Whole f m) (rw (h .case .sizes) at r))
+      let r' : rangeTest f m (length (h .case .holds .formulas)) ≡ true = rw (h .case .sizes) at r in
+      rw (rw (model-is f m r, h .case .tables) at (v .is (formulaIn (h .case .holds) f) (formula-is f m r))) (held-question h (Question.Whole f m) (cond-true _ _ _ r'))
 
   pub whole-outside : (f m : ℕ) → rangeTest f m (z .formulas) ≡ false → Does (Call.Ask (Question.Whole f m)) d (numberReply OutOfRange) d
-  whole-outside f m r = held-outside h (Question.Whole f m) (rw (h .case .sizes) at r)
+  whole-outside f m r =
+      let r' : rangeTest f m (length (h .case .holds .formulas)) ≡ false = rw (h .case .sizes) at r in
+      held-outside h (Question.Whole f m) OutOfRange (cond-false _ _ _ r')
 
   states-are : (f m : ℕ) → rangeTest f m (z .formulas) ≡ true → getD (partAt bytes m) 0 0 ≡ modelIn (h .case .holds) m .states
   states-are f m r = ap (λ (M : Model ℕ). M .states) (model-is f m r)
@@ -139,15 +152,15 @@ module _ {d : Desk} {z : Sizes} {t : List ℕ} (h : HeldDesk d z t) where
       let r' : rangeTest f m (length (h .case .holds .formulas)) ≡ true = rw (h .case .sizes) at r in
       let s' : ltb q (modelIn (h .case .holds) m .states) ≡ true = rw (states-are f m r) at s in
       rw (rw (model-is f m r, h .case .tables) at (v .is (formulaIn (h .case .holds) f) (formula-is f m r)))
-      (held-question h (Question.Value f m q) (and-in (rangeTest f m (length (h .case .holds .formulas))) (ltb q (modelIn (h .case .holds) m .states)) r' s'))
+      (held-question h (Question.Value f m q) (cond-true _ _ _ (and-in (rangeTest f m (length (h .case .holds .formulas))) (ltb q (modelIn (h .case .holds) m .states)) r' s')))
 
   pub value-outside : (f m q : ℕ) → rangeTest f m (z .formulas) ≡ false → Does (Call.Ask (Question.Value f m q)) d (numberReply OutOfRange) d
   value-outside f m q r =
       let r' : rangeTest f m (length (h .case .holds .formulas)) ≡ false = rw (h .case .sizes) at r in
-      held-outside h (Question.Value f m q) (ap (λ (b : Bool). b && ltb q (modelIn (h .case .holds) m .states)) r')
+      held-outside h (Question.Value f m q) OutOfRange (cond-false _ _ _ (ap (λ (b : Bool). b && ltb q (modelIn (h .case .holds) m .states)) r'))
 
   pub value-state : (f m q : ℕ) → rangeTest f m (z .formulas) ≡ true → ltb q (getD (partAt bytes m) 0 0) ≡ false → Does (Call.Ask (Question.Value f m q)) d (numberReply OutOfRange) d
   value-state f m q r s =
       let r' : rangeTest f m (length (h .case .holds .formulas)) ≡ true = rw (h .case .sizes) at r in
       let s' : ltb q (modelIn (h .case .holds) m .states) ≡ false = rw (states-are f m r) at s in
-      held-outside h (Question.Value f m q) (ap₂ _&&_ r' s')
+      held-outside h (Question.Value f m q) OutOfRange (cond-false _ _ _ (ap₂ _&&_ r' s'))

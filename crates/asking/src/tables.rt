@@ -11,8 +11,8 @@ use operations::Lattice;
 use refusal::Refusal;
 ghost use mathlib.Core.Path.{_≡_};
 ghost use mathlib.Core.Bool.{cond};
-ghost use Rattle.desk.specs.Desk.{Question, Reply};
-ghost use Rattle.asking.specs.Answer.{Asks, elementReply, shareReply, judgeReply};
+ghost use Rattle.desk.specs.Desk.{Call, Question, Reply};
+ghost use Rattle.asking.specs.Answer.{Reads, Asks, elementReply, shareReply, judgeReply};
 ghost use Rattle.asking.specs.Questions.{Readable, caseScore, caseSimulation};
 
 // ---- show
@@ -29,7 +29,7 @@ fn whole_table<'a>(second_whole: bool, first: &'a [u8], second: &'a [u8]) -> &'a
 
 // The first N1·N2 bytes of the whole table; an empty part where the desk is refused.
 pub fn show<'a>(s: Standing, store: &[u8], first: &'a [u8], second: &'a [u8]) -> &'a [u8]
-    ensures { λ r. ⌜ Asks Question.Show s (now (store .entry)) (now (first .entry)) (now (second .entry)) (Reply.Shown (now r)) ⌝ }
+    ensures { λ r. ⌜ Reads Call.Show s (now (store .entry)) (now (first .entry)) (now (second .entry)) (Reply.Shown (now r)) ⌝ }
 {
     let whole = whole_table(s.second_whole, first, second);
     let mut t = [0u8; 12352];

@@ -4,12 +4,11 @@
 --     calls answer (values, wholes), that there is this calculus (calculus-is), and every closed formula's values (values-are)
 --   demand2: the demand holds after every such list
 --   is-calculus, value-of: the last two, of any content that is sound; value-asked, whole-asked: the answers, of any desk where they are accepted
-use Prim.Native.Nat.{ℕ}
+use Prim.Native.Nat.{ℕ, _<_}
 use mathlib.Core.Path.{_≡_, refl, sym, ap, _∙_}
-use mathlib.Core.Bool.{Bool, true, false, cond, _&&_}
+use mathlib.Core.Bool.{Bool, true, false, cond}
 use mathlib.Core.List.{List}
 use native.Mathlib.Nat.{le-refl}
-use borrow.Author.Tests.{ltb-true}
 use lib.Dec.{eqb}
 use lib.ListN.{length, take}
 use Rattle.theory.specs.Lattice.{Ops, imp, bigMeet}
@@ -21,17 +20,17 @@ use Rattle.theory.specs.Simulation.{SameTable, GreatestSimulation}
 use Rattle.theory.specs.Folds.{bigMeet-cong}
 use Rattle.theory.specs.Fixpoint.{calculus, value-is}
 use Rattle.theory.specs.Rounds.{F-cong}
-use Rattle.theory.specs.TestLaws.{and-l, and-r}
 use Rattle.formula.specs.RoundTrip.{formula-part}
 use Rattle.casefile.specs.Reading.{Content, content, storeReading}
 use Rattle.casefile.specs.Content.{ContentSound, content-sound}
 use Rattle.desk.specs.Desk.{Desk, Question, Call, Reply, isOpen}
 use Rattle.desk.specs.Case.{ops, model1, model2, modelIn, formulaIn, roundIn}
-use Rattle.desk.specs.Refused.{hasFormula, isModel, hasState, examined, accepted}
-use Rattle.desk.specs.Moved.{shownTable}
+use Rattle.desk.specs.Refused.{examined, accepted}
+use Rattle.desk.specs.View.{shownTable, viewOf}
 use Rattle.desk.specs.Perform.{asked, answer}
 use Rattle.desk.specs.Run.{run, LastOpening, answersSince, roundAfter}
 use Rattle.desk.specs.RefusedLaws.{perform-accepted, accepted-content, other-accepted}
+use Rattle.desk.specs.RulesLaws.{range-exactly}
 use Rattle.desk.specs.Listed.{opening-T}
 use Rattle.desk.specs.Demand3.{listed}
 
@@ -86,27 +85,26 @@ module _ (c : Content) (h : ContentSound c) where
       → Calculus (ops c) (modelIn c m) u → SameMap (ops c) (modelIn c m) (valueAt (ops c) (modelIn c m) φ) (u φ (λ v i. ops c .bot))
   value-of m φ b o u a = let w = in-model (eqb m 1) in value-is (h .laws) (modelIn c m) (w .0) φ b (rw (w .1) o) u a
 
-  value-by : (f m : ℕ) → hasFormula c f ≡ true → (u : Formula → (ℕ → ℕ → ℕ) → ℕ → ℕ) → Calculus (ops c) (modelIn c m) u → SameMap (ops c) (modelIn c m) (valueAt (ops c) (modelIn c m) (formulaIn c f)) (u (formulaIn c f) (λ v i. ops c .bot))
+  value-by : (f m : ℕ) → f < length (c .formulas) → (u : Formula → (ℕ → ℕ → ℕ) → ℕ → ℕ) → Calculus (ops c) (modelIn c m) u → SameMap (ops c) (modelIn c m) (valueAt (ops c) (modelIn c m) (formulaIn c f)) (u (formulaIn c f) (λ v i. ops c .bot))
   value-by f m k u a =
-      let p = formula-part (model1 c .propositions) _ (formulaIn c f) (h .formulas .each f (ltb-true _ _ k)) in
+      let p = formula-part (model1 c .propositions) _ (formulaIn c f) (h .formulas .each f k) in
       value-of m (formulaIn c f) (p .bound) (p .props) u a
 
 pub value-asked : (f m q : ℕ) (d : Desk) (c : Content) → examined (Call.Ask (Question.Value f m q)) d ≡ content c → (u : Formula → (ℕ → ℕ → ℕ) → ℕ → ℕ) → Calculus (ops c) (modelIn c m) u → asked (Question.Value f m q) d ≡ Reply.Element (u (formulaIn c f) (λ v i. ops c .bot) q)
 unfolding answer
 value-asked f m q d c e u a =
     let k = other-accepted (Call.Ask (Question.Value f m q)) d c refl e in
-    let formula = and-l (hasFormula c f) (isModel m) (and-l (hasFormula c f && isModel m) (hasState c m q) (k .range)) in
-    let state = and-r (hasFormula c f && isModel m) (hasState c m q) (k .range) in
-    ap (λ x. x .reply) (perform-accepted (Call.Ask (Question.Value f m q)) d c e) ∙ ap Reply.Element (value-by c (content-sound (take 24576 (d .store)) c (k .held .rules .reads)) f m formula u a q (ltb-true _ _ state))
+    let i = range-exactly (Question.Value f m q) (viewOf c d) .0 (k .range) in
+    ap (λ x. x .reply) (perform-accepted (Call.Ask (Question.Value f m q)) d c e) ∙ ap Reply.Element (value-by c (content-sound (take 24576 (d .store)) c (k .held .rules .reads)) f m (i .0) u a q (i .2))
 
 -- 'A formula's value on a whole model is the meet over q of Q0(q) → value at q'
 pub whole-asked : (f m : ℕ) (d : Desk) (c : Content) → examined (Call.Ask (Question.Whole f m)) d ≡ content c → (u : Formula → (ℕ → ℕ → ℕ) → ℕ → ℕ) → Calculus (ops c) (modelIn c m) u → asked (Question.Whole f m) d ≡ Reply.Element (bigMeet (ops c) (modelIn c m .states) (λ q. imp (ops c) (modelIn c m .initial q) (u (formulaIn c f) (λ v i. ops c .bot) q)))
 unfolding answer wholeValue
 whole-asked f m d c e u a =
     let k = other-accepted (Call.Ask (Question.Whole f m)) d c refl e in
-    let formula = and-l (hasFormula c f) (isModel m) (k .range) in
+    let i = range-exactly (Question.Whole f m) (viewOf c d) .0 (k .range) in
     ap (λ x. x .reply) (perform-accepted (Call.Ask (Question.Whole f m)) d c e)
-    ∙ ap Reply.Element (bigMeet-cong (ops c) (modelIn c m .states) _ _ (λ q l. ap (imp (ops c) (modelIn c m .initial q)) (value-by c (content-sound (take 24576 (d .store)) c (k .held .rules .reads)) f m formula u a q l)))
+    ∙ ap Reply.Element (bigMeet-cong (ops c) (modelIn c m .states) _ _ (λ q l. ap (imp (ops c) (modelIn c m .initial q)) (value-by c (content-sound (take 24576 (d .store)) c (k .held .rules .reads)) f m (i .0) u a q l)))
 
 -- ---- the two together
 

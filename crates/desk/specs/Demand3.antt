@@ -3,9 +3,10 @@
 --   Claim: the claim, a field for each part of it; Demand3: there are a last accepted opening and a T of which it holds
 --   demand3: every such list has the demand; listed: the claim holds for whatever last accepted opening and whatever T
 --   claimed: the claim from the invariant; T-most-sharp: another bound of T
+--   ranges, asked-next; value-next, whole-next, score-next, share-next, judge-yes, judge-no: what it says of the questions one by one
 use Prim.Native.Nat.{ℕ, suc, _+_, _*_, _-_, _%_, _≤_, _<_}
 use mathlib.Core.Path.{_≡_, refl, sym, ap, _∙_, subst}
-use mathlib.Core.Bool.{true, false}
+use mathlib.Core.Bool.{Bool, true, false}
 use mathlib.Core.Logic.{_↔_}
 use mathlib.Core.List.{List, _∷_}
 use native.Mathlib.Omega.{arith}
@@ -18,20 +19,23 @@ use Rattle.theory.specs.Height.{longest-chain}
 use Rattle.theory.specs.Rounds.{T-at-most, settled-greatest, below-rounds, fixed-below, F-mono}
 use Rattle.theory.specs.Preservation.{bounded-by-round, bounded-at-T}
 use Rattle.theory.specs.Sharp.{T-sharp}
+use Rattle.theory.specs.TestLaws.{false-true, not-passed}
 use Rattle.refusal.specs.declared.Refusal.the-variants.{ShortDesk, SpoiledDesk}
 use Rattle.casefile.specs.Reading.{Content, refused, content, caseReading, storeReading}
 use Rattle.casefile.specs.Content.{content-sound}
-use Rattle.rounds.specs.Table.{tableOf}
+use Rattle.rounds.specs.Table.{tableOf, simulationTest}
+use Rattle.rounds.specs.Round.{simulation-test}
 use Rattle.desk.specs.Desk.{Desk, Question, Call, Reply}
 use Rattle.desk.specs.Case.{ops, model1, model2, N1, N2, tableSize, modelIn, formulaIn, operator, roundIn, IsT, entryAt, tableBytes}
-use Rattle.desk.specs.Refused.{short, spoiled, inRange, examined, accepted}
-use Rattle.desk.specs.Moved.{opened, shownTable}
-use Rattle.desk.specs.Perform.{perform, asked, answer, moved}
-use Rattle.desk.specs.Run.{run, openings, LastOpening, answersSince, roundAfter, answerAfter}
+use Rattle.desk.specs.Refused.{short, spoiled, tests, Verdict, passed, fails, verdict, isPassed, allPassed, examined, accepted}
+use Rattle.desk.specs.Moved.{opened}
+use Rattle.desk.specs.View.{View, shownTable}
+use Rattle.desk.specs.Perform.{perform, asked, shownTo, answerTo, moved}
+use Rattle.desk.specs.Run.{run, openings, LastOpening, answersSince, roundAfter, answerAfter, viewAfter, AsksAs}
 use Rattle.desk.specs.RefusedLaws.{perform-accepted, OpenAccepted, open-long, open-accepted}
 use Rattle.desk.specs.RulesLaws.{spoiled-exactly}
 use Rattle.desk.specs.Stands.{known-sound, Stands, opening-starts}
-use Rattle.desk.specs.Next.{at, stands-unspoiled, never-11-or-12, ranges-are, next-answer, shows, below-shown, shown-below, show-is, score-is, share-is, judge-yes-exactly, judge-no-exactly}
+use Rattle.desk.specs.Next.{at, stands-unspoiled, never-11-or-12, ranges-are, shows, below-shown, shown-below, show-is, asks-as}
 use Rattle.desk.specs.Listed.{run-append, last-opening, opening-T, Since, since}
 
 -- c is what the case holds, `answers` are those of the accepted steps since it was opened, d is the desk after the list
@@ -82,24 +86,13 @@ module _ (c : Content) (T : ℕ) (answers : List Reply) (d : Desk) where
     pub not-spoiled : spoiled d ≡ false
     pub not-11 : (k : Call) → examined k d ≡ refused ShortDesk → ⊥
     pub not-12 : (k : Call) → examined k d ≡ refused SpoiledDesk → ⊥
-    -- open is then accepted exactly when its case is, step always, and a question exactly when its arguments are in the range of that case
+    -- open is then accepted exactly when its case is, and step always
     pub open-next : (b : List ℕ) → examined (Call.Open b) d ≡ caseReading b
     pub step-next : accepted Call.Step d ≡ true
-    pub ranges : (q : Question) → accepted (Call.Ask q) d ≡ inRange q c
     -- 'show then answers the table of round r, and value, whole, score, share and judge, when accepted, what their definitions give for
-    -- that case with round r shown.'
-    pub show-next : asked Question.Show d ≡ Reply.Shown (tableBytes c (roundIn c r))
-    pub value-next : (f m q : ℕ) → accepted (Call.Ask (Question.Value f m q)) d ≡ true
-        → asked (Question.Value f m q) d ≡ Reply.Element (valueAt (ops c) (modelIn c m) (formulaIn c f) q)
-    pub whole-next : (f m : ℕ) → accepted (Call.Ask (Question.Whole f m)) d ≡ true
-        → asked (Question.Whole f m) d ≡ Reply.Element (wholeValue (ops c) (modelIn c m) (formulaIn c f))
-    pub score-next : asked Question.Score d ≡ Reply.Element (score (ops c) (model1 c) (model2 c) (roundIn c r))
-    pub share-next : (e : ℕ) → accepted (Call.Ask (Question.Share e)) d ≡ true
-        → asked (Question.Share e) d ≡ Reply.PerCent (share (ops c) (tableSize c) (entryAt c (roundIn c r)) e)
-    pub judge-yes : (t : List ℕ) → accepted (Call.Ask (Question.Judge t)) d ≡ true
-        → (asked (Question.Judge t) d ≡ Reply.Says true) ↔ Simulation (ops c) (model1 c) (model2 c) (tableOf t (N2 c))
-    pub judge-no : (t : List ℕ) → accepted (Call.Ask (Question.Judge t)) d ≡ true
-        → (asked (Question.Judge t) d ≡ Reply.Says false) ↔ ¬ (Simulation (ops c) (model1 c) (model2 c) (tableOf t (N2 c)))
+    -- that case with round r shown.' A question is accepted exactly when its tests are passed there.
+    pub show-next : shownTo d ≡ Reply.Shown (tableBytes c (roundIn c r))
+    pub asks : (q : Question) → AsksAs q d (viewAfter c T s)
 
 -- Demand 3 of a list of calls from a desk: there is a last accepted opening and a T, and after the list the claim holds
 pub record Demand3 (ks : List Call) (d : Desk) : Type 0 where
@@ -113,7 +106,6 @@ pub record Demand3 (ks : List Call) (d : Desk) : Type 0 where
 
 module _ {c : Content} {T : ℕ} where
   pub claimed : (answers : List Reply) (d : Desk) → Stands c T (length answers) d → ((i : ℕ) → i < length answers → getD answers i Reply.Row ≡ answerAfter c T (suc i)) → Claim c T answers d
-  unfolding answer
   claimed answers d w each =
       let L = known-sound (w .known) .laws in
       let h = longest-chain (ops c) (λ a. refl) in
@@ -138,15 +130,59 @@ module _ {c : Content} {T : ℕ} where
         not-12 = λ k q. never-11-or-12 w k SpoiledDesk q (omega arith) (omega arith);
         open-next = λ x. open-long x d (stands-unspoiled w .long);
         step-next = ranges-are w Call.Step refl;
-        ranges = λ q. ranges-are w (Call.Ask q) refl;
         show-next = show-is w;
-        value-next = λ f m q a. next-answer w (Call.Ask (Question.Value f m q)) refl a;
-        whole-next = λ f m a. next-answer w (Call.Ask (Question.Whole f m)) refl a;
-        score-next = score-is w;
-        share-next = share-is w;
-        judge-yes = judge-yes-exactly w;
-        judge-no = judge-no-exactly w;
+        asks = asks-as w;
       }
+
+-- ---- the questions one by one
+
+all-passed : (x : Verdict) → isPassed x ≡ true → x ≡ passed
+all-passed passed e = refl
+all-passed (fails r) e = absurd (false-true refl e)
+
+module _ {c : Content} {T : ℕ} {answers : List Reply} {d : Desk} (w : Claim c T answers d) where
+  abbrev view : View
+  view = viewAfter c T (length answers)
+
+  pub ranges : (q : Question) → accepted (Call.Ask q) d ≡ allPassed q view
+  ranges q = w .asks q .accepts
+
+  pub asked-next : (q : Question) → accepted (Call.Ask q) d ≡ true → asked q d ≡ answerTo q view
+  asked-next q a = ap (λ x. x .reply) (w .asks q .answers (all-passed (verdict (tests q view)) (sym (ranges q) ∙ a)))
+
+  pub value-next : (f m q : ℕ) → accepted (Call.Ask (Question.Value f m q)) d ≡ true
+      → asked (Question.Value f m q) d ≡ Reply.Element (valueAt (ops c) (modelIn c m) (formulaIn c f) q)
+  value-next f m q a = asked-next (Question.Value f m q) a
+
+  pub whole-next : (f m : ℕ) → accepted (Call.Ask (Question.Whole f m)) d ≡ true
+      → asked (Question.Whole f m) d ≡ Reply.Element (wholeValue (ops c) (modelIn c m) (formulaIn c f))
+  whole-next f m a = asked-next (Question.Whole f m) a
+
+  pub score-next : asked Question.Score d ≡ Reply.Element (score (ops c) (model1 c) (model2 c) (roundIn c (roundAfter c T (length answers))))
+  score-next = asked-next Question.Score (ranges Question.Score)
+
+  pub share-next : (e : ℕ) → accepted (Call.Ask (Question.Share e)) d ≡ true
+      → asked (Question.Share e) d ≡ Reply.PerCent (share (ops c) (tableSize c) (entryAt c (roundIn c (roundAfter c T (length answers)))) e)
+  share-next e a = asked-next (Question.Share e) a
+
+  module _ (t : List ℕ) (a : accepted (Call.Ask (Question.Judge t)) d ≡ true) where
+    abbrev test : Bool
+    test = simulationTest (model1 c) (model2 c) (operator c) (tableOf t (N2 c))
+
+    judged : asked (Question.Judge t) d ≡ Reply.Says test
+    judged = asked-next (Question.Judge t) a
+
+    judge-test : (test ≡ true) ↔ Simulation (ops c) (model1 c) (model2 c) (tableOf t (N2 c))
+    judge-test = simulation-test (ops c) (model1 c) (model2 c) (operator c) (tableOf t (N2 c))
+
+    says : (x y : Bool) → Reply.Says x ≡ Reply.Says y → x ≡ y
+    says x y q = cc
+
+    pub judge-yes : (asked (Question.Judge t) d ≡ Reply.Says true) ↔ Simulation (ops c) (model1 c) (model2 c) (tableOf t (N2 c))
+    judge-yes = (λ q. judge-test .0 (says test true (sym judged ∙ q)), λ h. judged ∙ ap Reply.Says (judge-test .1 h))
+
+    pub judge-no : (asked (Question.Judge t) d ≡ Reply.Says false) ↔ ¬ (Simulation (ops c) (model1 c) (model2 c) (tableOf t (N2 c)))
+    judge-no = (λ q h. false-true (says test false (sym judged ∙ q)) (judge-test .1 h), λ n. judged ∙ ap Reply.Says (not-passed test (λ p. n (judge-test .0 p))))
 
 -- for every list of calls, every desk, whatever last accepted opening there is, and whatever is T
 pub listed : (ks : List Call) (d : Desk) (l : LastOpening ks d) (T : ℕ) → IsT (l .holds) T → Claim (l .holds) T (answersSince l) (run ks d)

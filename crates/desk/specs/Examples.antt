@@ -26,11 +26,11 @@ use Rattle.rounds.specs.Table.{rowSame, changedBelow, simulationTest}
 use Rattle.desk.specs.Desk.{Desk, Question, Call, Reply}
 use Rattle.desk.specs.Refused.{short, rulesKept, spoiled, examined, accepted, refusedReply}
 use Rattle.desk.specs.Moved.{opened, worked, stepped}
-use Rattle.desk.specs.Perform.{answer, moved, perform}
+use Rattle.desk.specs.Perform.{answer, moved, lentLeft, perform}
 use Rattle.desk.specs.Run.{replies}
 
 -- 'A refused show returns an empty part and no refusal number', whatever the refusal
-pub refused-show : (r : Refusal) → refusedReply (Call.Ask Question.Show) r ≡ Reply.Shown []
+pub refused-show : (r : Refusal) → refusedReply Call.Show r ≡ Reply.Shown []
 refused-show r = refl
 
 -- 'A desk of zeros'
@@ -49,7 +49,7 @@ calls1 =
     (Call.Open reportCase, Reply.Opened)
     ∷ (Call.Step, Reply.Round 1)
     ∷ (Call.Step, Reply.Settled 2)
-    ∷ (Call.Ask Question.Show, Reply.Shown (1 ∷ []))
+    ∷ (Call.Show, Reply.Shown (1 ∷ []))
     ∷ (Call.Ask Question.Score, Reply.Element 1)
     ∷ (Call.Ask (Question.Whole 0 1), Reply.Element 1)
     ∷ (Call.Ask (Question.Whole 0 2), Reply.Element 1)
@@ -71,15 +71,15 @@ example4 =
 -- the refused calls among them
 abbrev pub calls4 : List (Call × Reply)
 calls4 =
-    (Call.Ask Question.Show, Reply.Shown [])
+    (Call.Show, Reply.Shown [])
     ∷ (Call.Step, Reply.Refused 12 255)
     ∷ (Call.Open [], Reply.Refused 1 255)
     ∷ (Call.Open example4, Reply.Opened)
     ∷ (Call.Step, Reply.Row)
-    ∷ (Call.Ask Question.Show, Reply.Shown (1 ∷ 1 ∷ 1 ∷ 1 ∷ []))
+    ∷ (Call.Show, Reply.Shown (1 ∷ 1 ∷ 1 ∷ 1 ∷ []))
     ∷ (Call.Open (3 ∷ []), Reply.Refused 2 255)
     ∷ (Call.Step, Reply.Round 1)
-    ∷ (Call.Ask Question.Show, Reply.Shown (1 ∷ 0 ∷ 0 ∷ 0 ∷ []))
+    ∷ (Call.Show, Reply.Shown (1 ∷ 0 ∷ 0 ∷ 0 ∷ []))
     ∷ (Call.Ask (Question.Share 1), Reply.PerCent 25)
     ∷ (Call.Ask (Question.Value 0 2 0), Reply.Element 1)
     ∷ (Call.Ask (Question.Value 0 1 0), Reply.Element 0)
@@ -88,7 +88,7 @@ calls4 =
     ∷ (Call.Ask (Question.Value 0 1 2), Reply.Refused 13 255)
     ∷ (Call.Step, Reply.Row)
     ∷ (Call.Step, Reply.Round 2)
-    ∷ (Call.Ask Question.Show, Reply.Shown (0 ∷ 0 ∷ 0 ∷ 0 ∷ []))
+    ∷ (Call.Show, Reply.Shown (0 ∷ 0 ∷ 0 ∷ 0 ∷ []))
     ∷ (Call.Step, Reply.Row)
     ∷ (Call.Step, Reply.Settled 3)
     ∷ (Call.Step, Reply.Settled 3)
@@ -105,5 +105,5 @@ abbrev pub AnswersAs : List (Call × Reply) → Type 0
 AnswersAs l = replies (map (λ x. x .0) l) zeros ≡ map (λ x. x .1) l
 
 pub examples-answer : AnswersAs calls1 × AnswersAs calls4
-unfolding imp iff bigMeet bigJoin iterate bind allNext someNext eval valueAt wholeValue propositionPart successorPart F roundOf score count share isMeet isJoin meetOf joinOf topOf botOf element boundBy overProps nestedBinders allBelow firstBelow isPanel latticeOf explicitForm latticeForm reflexive antisymmetric transitive partialOrder bounded distributive complementRules require partReading latticeReading elementsOnly modelTest byCode parse formulaReading partStart partSize placed misplaced partsFrom formulasReading modelsReading caseReading pairs joined gapless tab rowSame changedBelow simulationTest short rulesKept spoiled examined accepted opened worked stepped answer moved perform replies
+unfolding imp iff bigMeet bigJoin iterate bind allNext someNext eval valueAt wholeValue propositionPart successorPart F roundOf score count share isMeet isJoin meetOf joinOf topOf botOf element boundBy overProps nestedBinders allBelow firstBelow isPanel latticeOf explicitForm latticeForm reflexive antisymmetric transitive partialOrder bounded distributive complementRules require partReading latticeReading elementsOnly modelTest byCode parse formulaReading partStart partSize placed misplaced partsFrom formulasReading modelsReading caseReading pairs joined gapless tab rowSame changedBelow simulationTest short rulesKept spoiled examined accepted opened worked stepped answer moved lentLeft perform replies
 examples-answer = (refl, refl)

@@ -1,7 +1,8 @@
 -- Lists of calls, and the invariant of demand 3 after them. Rests on Run, RefusedLaws, Stands, Stepping, Next.
 --   last-opening, opening-T: a list with an accepted opening in it has a last one, whose case has a T
 --   Since, since: after a list with no accepted opening the invariant holds, and each accepted step answered what it says
---   run-append: one list after another; call-keeps: a refused call, and one that neither opens nor steps, leaves the desk as it was
+--   run-append: one list after another; call-keeps, reading-keeps: a refused call, and one that neither opens nor steps, leaves the desk as it was
+--   step-stands: an accepted step moves the invariant on, and answers what it says
 use Prim.Native.Nat.{ℕ, zero, suc, _+_, _<_}
 use mathlib.Core.Path.{_≡_, refl, sym, ap, _∙_, subst}
 use mathlib.Core.Bool.{Bool, true, false, cond, _&&_}
@@ -37,12 +38,14 @@ run-append (k ∷ xs) ys d = run-append xs ys (perform k d .desk)
 opening-of : (k : Call) (d : Desk) → (isOpen k && accepted k d) ≡ true → (b : List ℕ) × (c : Content) × (k ≡ Call.Open b) × (examined (Call.Open b) d ≡ content c)
 opening-of (Call.Open b) d e = let w = accepted-content (Call.Open b) d e in (b, w .0, refl, w .1)
 opening-of Call.Step d e = absurd (false-true refl e)
+opening-of Call.Show d e = absurd (false-true refl e)
 opening-of (Call.Ask q) d e = absurd (false-true refl e)
 
 -- an accepted step
 step-of : (k : Call) (d : Desk) → (isStep k && accepted k d) ≡ true → k ≡ Call.Step
 step-of Call.Step d e = refl
 step-of (Call.Open b) d e = absurd (false-true refl e)
+step-of Call.Show d e = absurd (false-true refl e)
 step-of (Call.Ask q) d e = absurd (false-true refl e)
 
 -- every list with an accepted opening in it has a last one
@@ -75,6 +78,7 @@ moved-keeps : (k : Call) (c : Content) (d : Desk) → isOpen k ≡ false → isS
 unfolding moved
 moved-keeps (Call.Open b) c d o s = absurd (false-true o refl)
 moved-keeps Call.Step c d o s = absurd (false-true s refl)
+moved-keeps Call.Show c d o s = refl
 moved-keeps (Call.Ask q) c d o s = refl
 
 pub call-keeps : (k : Call) (d : Desk) → (isOpen k && accepted k d) ≡ false → (isStep k && accepted k d) ≡ false → perform k d .desk ≡ d
@@ -86,6 +90,10 @@ call-keeps k d o s = go (accepted k d) refl (isOpen k) refl (isStep k) refl o s
     go true a false p true q o s = absurd (false-true s refl)
     go true a false p false q o s = let w = accepted-content k d a in ap (λ z. z .desk) (perform-accepted k d (w .0) (w .1)) ∙ moved-keeps k (w .0) d p q
 
+-- 'The last six calls alter no buffer and no standing', accepted or refused: standing, store and both tables are as they were
+pub reading-keeps : (k : Call) (d : Desk) → isOpen k ≡ false → isStep k ≡ false → perform k d .desk ≡ d
+reading-keeps k d o s = call-keeps k d (ap (λ (x : Bool). x && accepted k d) o) (ap (λ (x : Bool). x && accepted k d) s)
+
 -- ---- after s accepted steps, a list of calls with no accepted opening in it
 
 pub record Since (c : Content) (T s : ℕ) (answers : List Reply) (d : Desk) : Type 0 where
@@ -93,7 +101,7 @@ pub record Since (c : Content) (T s : ℕ) (answers : List Reply) (d : Desk) : T
   pub each : (i : ℕ) → i < length answers → getD answers i Reply.Row ≡ answerAfter c T (s + suc i)
 
 module _ {c : Content} {T : ℕ} where
-  step-stands : (k : Call) (s : ℕ) (d : Desk) → Stands c T s d → (isStep k && accepted k d) ≡ true → Stands c T (s + 1) (perform k d .desk) × (perform k d .reply ≡ answerAfter c T (s + 1))
+  pub step-stands : (k : Call) (s : ℕ) (d : Desk) → Stands c T s d → (isStep k && accepted k d) ≡ true → Stands c T (s + 1) (perform k d .desk) × (perform k d .reply ≡ answerAfter c T (s + 1))
   unfolding moved answer
   step-stands k s d w q =
       let p : k ≡ Call.Step = step-of k d q in

@@ -1,6 +1,6 @@
--- The two calls that move the desk: open and step. Rests on Desk, Case, theory's Lists, casefile's Reading and Gapless, rounds' Table.
+-- The two calls that move the desk: open and step. Rests on Desk, Case, View, theory's Lists, casefile's Reading and Gapless, rounds' Table.
 --   opened: the desk after an accepted opening; fresh, stored, topped: its standing, its store and its tables
---   shownTable: the table that is shown; rowWorked, changedNow: the row of F that a step works, and whether this round has changed anything by then
+--   rowWorked, changedNow: the row of F that a step works, and whether this round has changed anything by then
 --   nextRow, nextRound, movedOn: the standing after a row; worked: the desk after it
 --   stepped, stepAnswer: the desk after an accepted step, and what it answers
 use Prim.Native.Nat.{ℕ, _+_}
@@ -11,9 +11,10 @@ use lib.ListN.{replicate}
 use Rattle.theory.specs.Lists.{written}
 use Rattle.casefile.specs.Reading.{Content, contentParts}
 use Rattle.casefile.specs.Gapless.{gapless}
-use Rattle.rounds.specs.Table.{tableOf, rowWritten, rowChanged}
-use Rattle.desk.specs.Desk.{Standing, Desk, Reply, wholeTable, otherTable}
+use Rattle.rounds.specs.Table.{rowWritten, rowChanged}
+use Rattle.desk.specs.Desk.{Standing, Desk, Reply, otherTable}
 use Rattle.desk.specs.Case.{ops, model1, model2, N1, N2, tableSize, operator}
+use Rattle.desk.specs.View.{shownTable}
 
 -- ---- open: 'makes an unsettled desk at round 0 and next row 0, the first table whole'
 
@@ -32,10 +33,6 @@ unfoldable pub opened : Content → Desk → Desk
 opened c d = record { standing = fresh c; store = stored c (d .store); first = topped c (d .first); second = topped c (d .second) }
 
 -- ---- step: 'works row q1 of the next round, for all q2, in the table that is not whole, and writes nothing else in either table'
-
--- the shown table, entry by entry
-abbrev pub shownTable : Content → Desk → ℕ → ℕ → ℕ
-shownTable c d = tableOf (wholeTable d) (N2 c)
 
 abbrev pub rowWorked : Content → Desk → List ℕ
 rowWorked c d = rowWritten (model1 c) (model2 c) (operator c) (shownTable c d) (d .standing .row) (otherTable d)

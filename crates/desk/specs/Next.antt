@@ -1,9 +1,9 @@
 -- What a desk that stands after s accepted steps is: its standing, the call that comes next, and what it answers.
--- Rests on Stands, RefusedLaws, Case, Refused, Moved, Perform, Run, theory's Rounds, rounds' Round.
+-- Rests on Stands, RefusedLaws, ViewLaws, Case, Refused, Moved, Perform, Run, theory's Rounds, rounds' Round.
 --   Position, at: round, next row and settled after s accepted steps
 --   stands-unspoiled, never-11-or-12: neither 11 nor 12 applies to the next call
---   ranges-are, next-answer, next-desk: it is accepted where it is in range, and works on c
---   shows, show-is, score-is, share-is, judge-yes-exactly, judge-no-exactly: what it answers
+--   ranges-are, next-answer, next-desk: it is accepted where its own tests are passed, and works on c
+--   shows, show-is: the table shown; treated-next, asks-as: what every question is answered, and refused for
 use Prim.Native.Nat.{ℕ, _+_, _*_, _/_, _%_, _≤_, _<_, min}
 use mathlib.Core.Path.{_≡_, refl, sym, ap, _∙_, subst}
 use mathlib.Core.Bool.{Bool, true, false, cond}
@@ -15,25 +15,26 @@ use borrow.Author.Tests.{ltb-true, eq-eqb, ne-eqb}
 use lib.Dec.{eqb}
 use lib.ListN.{length, getD, take}
 use Rattle.theory.specs.Lattice.{Element}
-use Rattle.theory.specs.Simulation.{SameTable, AtMostTable, Simulation, score, share}
-use Rattle.theory.specs.Rounds.{score-cong, T-at-most-size}
-use Rattle.theory.specs.TestLaws.{not-passed, false-true}
+use Rattle.theory.specs.Simulation.{SameTable, AtMostTable}
+use Rattle.theory.specs.Rounds.{T-at-most-size}
+use Rattle.theory.specs.TestLaws.{false-true}
 use Rattle.refusal.specs.declared.Refusal.{Refusal}
-use Rattle.refusal.specs.declared.Refusal.the-variants.{OutOfRange}
 use Rattle.refusal.specs.Number.{numberOf}
 use Rattle.casefile.specs.Reading.{Content, content, refused, storeReading}
 use Rattle.casefile.specs.Accepted.{store-reads}
 use Rattle.casefile.specs.Content.{ContentSound}
-use Rattle.rounds.specs.Table.{tableOf, changedBelow, simulationTest}
-use Rattle.rounds.specs.Round.{changed-none, shown-bytes, byte-at, share-cong, simulation-test}
-use Rattle.desk.specs.Desk.{Desk, Question, Call, Reply, wholeTable, isOpen}
-use Rattle.desk.specs.Case.{ops, latticeSize, model1, model2, N1, N2, tableSize, operator, roundIn, limit, entryAt, tableBytes}
-use Rattle.desk.specs.Refused.{Rules, callInRange, examined, isContent, accepted}
-use Rattle.desk.specs.Moved.{shownTable}
-use Rattle.desk.specs.Perform.{perform, asked, answer, moved}
-use Rattle.desk.specs.Run.{roundAfter, answerAfter}
-use Rattle.desk.specs.RefusedLaws.{Unspoiled, opens-or-not, open-long, in-store, perform-accepted}
-use Rattle.desk.specs.RulesLaws.{Long, long-not-short}
+use Rattle.rounds.specs.Table.{changedBelow}
+use Rattle.rounds.specs.Round.{changed-none, shown-bytes}
+use Rattle.desk.specs.Desk.{Standing, Desk, Question, Call, Reply, wholeTable, isOpen}
+use Rattle.desk.specs.Case.{ops, latticeSize, model1, model2, N1, tableSize, operator, roundIn, limit, tableBytes}
+use Rattle.desk.specs.View.{viewOf, shownTable}
+use Rattle.desk.specs.Refused.{Rules, tests, Verdict, passed, fails, verdict, isPassed, callVerdict, byVerdict, examined, isContent, accepted}
+use Rattle.desk.specs.Moved.{stepAnswer}
+use Rattle.desk.specs.Perform.{perform, shownTo, answer, moved, lentLeft}
+use Rattle.desk.specs.Run.{roundAfter, answerAfter, viewAfter, AsksAs}
+use Rattle.desk.specs.RefusedLaws.{Unspoiled, opens-or-not, open-long, in-store, perform-refused, perform-accepted}
+use Rattle.desk.specs.RulesLaws.{Long, long-not-short, verdict-late}
+use Rattle.desk.specs.ViewLaws.{Treated, treated, SameView, treated-cong}
 use Rattle.desk.specs.CaseNumbers.{CaseNumber, case-number}
 use Rattle.desk.specs.Stands.{known-sound, Going, Ended, Progress, GoingAt, EndedAt, Stands, sizes-most}
 
@@ -46,41 +47,44 @@ mod-of : (n round row s : ℕ) → row < n → s ≡ round * n + row → s % n �
 mod-of n round row s l q = rw (q, mul-add-mod-self-right round n row) (mod-eq-of-lt l)
 
 -- what follows of round, next row and settled, and the answer that they give
-pub record Position (c : Content) (T s round row : ℕ) (settled : Bool) : Type 0 where
-  pub round-is : round ≡ roundAfter c T s
-  pub row-below-T : roundAfter c T s < T → row ≡ s % N1 c
-  pub row-at-T : roundAfter c T s ≡ T → row ≡ 0
-  pub settled-exactly : (settled ≡ true) ↔ (roundAfter c T s ≡ T)
-  pub answer-is : cond settled (Reply.Settled round) (cond (eqb row 0) (Reply.Round round) Reply.Row) ≡ answerAfter c T s
+pub record Position (c : Content) (T s : ℕ) (x : Standing) : Type 0 where
+  pub round-is : x .round ≡ roundAfter c T s
+  pub row-below-T : roundAfter c T s < T → x .row ≡ s % N1 c
+  pub row-at-T : roundAfter c T s ≡ T → x .row ≡ 0
+  pub settled-exactly : (x .settled ≡ true) ↔ (roundAfter c T s ≡ T)
+  pub settled-is : x .settled ≡ eqb (roundAfter c T s) T
+  pub answer-is : stepAnswer x ≡ answerAfter c T s
 
-module _ {c : Content} {T s round row : ℕ} {changed settled : Bool} where
-  going-position : {whole other : List ℕ} → Going c T s round row changed settled whole other → Position c T s round row settled
+module _ {c : Content} {T s : ℕ} {x : Standing} where
+  going-position : {whole other : List ℕ} → Going c T s x whole other → Position c T s x
   going-position g =
-      let d : s / N1 c ≡ round = div-of (N1 c) round row s (g .row-below) (g .count) in
-      let m : s % N1 c ≡ row = mod-of (N1 c) round row s (g .row-below) (g .count) in
-      let b : min (s / N1 c) T ≡ round = rw d (min-eq-left (omega (arith, g .below))) in
-      let p : roundAfter c T s ≡ round = b in
+      let d : s / N1 c ≡ x .round = div-of (N1 c) (x .round) (x .row) s (g .row-below) (g .count) in
+      let m : s % N1 c ≡ x .row = mod-of (N1 c) (x .round) (x .row) s (g .row-below) (g .count) in
+      let b : min (s / N1 c) T ≡ x .round = rw d (min-eq-left (omega (arith, g .below))) in
+      let p : roundAfter c T s ≡ x .round = b in
       let n : ¬ (roundAfter c T s ≡ T) = λ z. omega (arith, p, z, g .below) in
       record {
         round-is = sym p;
         row-below-T = λ l. sym m;
         row-at-T = λ z. absurd (n z);
         settled-exactly = (λ z. absurd (false-true (g .unsettled) z), λ z. absurd (n z));
+        settled-is = g .unsettled ∙ sym (ne-eqb _ _ n);
         answer-is = rw (g .unsettled, ne-eqb _ _ n, p, m);
       }
 
-  ended-position : 0 < N1 c → Ended c T s round row changed settled → Position c T s round row settled
-  ended-position some x =
-      let p : roundAfter c T s ≡ T = min-eq-right (le-div-iff-mul-le some .1 (x .enough)) in
+  ended-position : 0 < N1 c → Ended c T s x → Position c T s x
+  ended-position some e =
+      let p : roundAfter c T s ≡ T = min-eq-right (le-div-iff-mul-le some .1 (e .enough)) in
       record {
-        round-is = x .at-T ∙ sym p;
+        round-is = e .at-T ∙ sym p;
         row-below-T = λ l. absurd (omega (arith, p, l));
-        row-at-T = λ z. x .row-0;
-        settled-exactly = (λ z. p, λ z. x .isSettled);
-        answer-is = rw (x .isSettled, eq-eqb _ _ p, x .at-T);
+        row-at-T = λ z. e .row-0;
+        settled-exactly = (λ z. p, λ z. e .isSettled);
+        settled-is = e .isSettled ∙ sym (eq-eqb _ _ p);
+        answer-is = rw (e .isSettled, eq-eqb _ _ p, e .at-T);
       }
 
-  pub position : {whole other : List ℕ} → 0 < N1 c → Progress c T s round row changed settled whole other → Position c T s round row settled
+  pub position : {whole other : List ℕ} → 0 < N1 c → Progress c T s x whole other → Position c T s x
   position some h = ⊎-elim going-position (ended-position some) (h .place)
 
 -- what holds of the whole table and of the other holds of the first and of the second
@@ -92,7 +96,7 @@ module _ {c : Content} {T s : ℕ} {d : Desk} (w : Stands c T s d) where
   content-is-sound : ContentSound c
   content-is-sound = known-sound (w .known)
 
-  pub at : Position c T s (d .standing .round) (d .standing .row) (d .standing .settled)
+  pub at : Position c T s (d .standing)
   at = position (content-is-sound .shape1 .some) (w .progress)
 
   -- ---- 'Neither 11 nor 12 applies to the call that comes next, whichever it is'
@@ -149,35 +153,39 @@ module _ {c : Content} {T s : ℕ} {d : Desk} (w : Stands c T s d) where
   pub stands-unspoiled : Unspoiled d c
   stands-unspoiled = record { long = long-not-short d long; rules = ⊎-elim going-rules ended-rules (w .progress .place) }
 
-  -- the refusals that are left: those of a case that is to be opened, and 13
-  pub next-refusal : (k : Call) (r : Refusal) → examined k d ≡ refused r → CaseNumber r ⊎ (r ≡ OutOfRange)
+  -- the refusals that are left: those of a case that is to be opened, and those after 12
+  pub next-refusal : (k : Call) (r : Refusal) → examined k d ≡ refused r → CaseNumber r ⊎ (12 < numberOf r)
   next-refusal k r q = ⊎-elim opens others (opens-or-not k)
     where
-      opens : (a : List ℕ) × (k ≡ Call.Open a) → CaseNumber r ⊎ (r ≡ OutOfRange)
+      opens : (a : List ℕ) × (k ≡ Call.Open a) → CaseNumber r ⊎ (12 < numberOf r)
       opens o = inl (case-number (o .0) r (sym (open-long (o .0) d (stands-unspoiled .long)) ∙ ap (λ (x : Call). examined x d) (sym (o .1)) ∙ q))
 
-      range : (t : Bool) → cond t (content c) (refused OutOfRange) ≡ refused r → r ≡ OutOfRange
-      range true x = absurd (let z : _≡_ {A = ℕ} 0 1 = cc in omega arith)
-      range false x = cc
+      late : (t : Verdict) → callVerdict k (viewOf c d) ≡ t → byVerdict c t ≡ refused r → 12 < numberOf r
+      late passed e x = absurd (let z : _≡_ {A = ℕ} 0 1 = cc in omega arith)
+      late (fails f) e x = let p : f ≡ r = cc in verdict-late k (viewOf c d) r (e ∙ ap fails p)
 
-      others : isOpen k ≡ false → CaseNumber r ⊎ (r ≡ OutOfRange)
-      others o = inr (range (callInRange k c) (sym (in-store k d c o stands-unspoiled) ∙ q))
+      others : isOpen k ≡ false → CaseNumber r ⊎ (12 < numberOf r)
+      others o = inr (late (callVerdict k (viewOf c d)) refl (sym (in-store k d c o stands-unspoiled) ∙ q))
 
   pub never-11-or-12 : (k : Call) (r : Refusal) → examined k d ≡ refused r → 10 < numberOf r → numberOf r < 13 → ⊥
-  never-11-or-12 k r q l m = ⊎-elim (λ (n : CaseNumber r). omega (arith, n .1)) (λ (n : r ≡ OutOfRange). omega (arith, ap numberOf n)) (next-refusal k r q)
+  never-11-or-12 k r q l m = ⊎-elim (λ (n : CaseNumber r). omega (arith, n .1)) (λ (n : 12 < numberOf r). omega arith) (next-refusal k r q)
 
-  -- ---- every call but open is accepted exactly when it is in range, and works on c
+  -- ---- every call but open is accepted exactly when its own tests are passed, and works on c
 
-  pub ranges-are : (k : Call) → isOpen k ≡ false → accepted k d ≡ callInRange k c
+  pub ranges-are : (k : Call) → isOpen k ≡ false → accepted k d ≡ isPassed (callVerdict k (viewOf c d))
   unfolding accepted
-  ranges-are k o = ap isContent (in-store k d c o stands-unspoiled) ∙ go (callInRange k c)
+  ranges-are k o = ap isContent (in-store k d c o stands-unspoiled) ∙ go (callVerdict k (viewOf c d))
     where
-      go : (t : Bool) → isContent (cond t (content c) (refused OutOfRange)) ≡ t
-      go true = refl
-      go false = refl
+      go : (t : Verdict) → isContent (byVerdict c t) ≡ isPassed t
+      go passed = refl
+      go (fails r) = refl
 
   pub works-on : (k : Call) → isOpen k ≡ false → accepted k d ≡ true → examined k d ≡ content c
-  works-on k o a = in-store k d c o stands-unspoiled ∙ ap (λ (t : Bool). cond t (content c) (refused OutOfRange)) (sym (ranges-are k o) ∙ a)
+  works-on k o a = in-store k d c o stands-unspoiled ∙ go (callVerdict k (viewOf c d)) (sym (ranges-are k o) ∙ a)
+    where
+      go : (t : Verdict) → isPassed t ≡ true → byVerdict c t ≡ content c
+      go passed e = refl
+      go (fails r) e = absurd (false-true refl e)
 
   pub next-answer : (k : Call) → isOpen k ≡ false → accepted k d ≡ true → perform k d .reply ≡ answer k c d
   next-answer k o a = ap (λ x. x .reply) (perform-accepted k d c (works-on k o a))
@@ -199,41 +207,33 @@ module _ {c : Content} {T s : ℕ} {d : Desk} (w : Stands c T s d) where
   pub shown-below : (U : ℕ → ℕ → ℕ) → AtMostTable (ops c) (model1 c) (model2 c) (roundIn c r) U → AtMostTable (ops c) (model1 c) (model2 c) (shownTable c d) U
   shown-below U h q₁ l q₂ m = rw (shows q₁ l q₂ m) (h q₁ l q₂ m)
 
-  -- ---- 'show then answers the table of round r, and (..) score, share and judge, when accepted, what their definitions give'
+  -- ---- 'show then answers the table of round r'
 
   whole-entries : tableSize c ≤ length (wholeTable d)
   whole-entries = omega (arith, sizes-most (w .known), w .progress .whole-long)
 
-  pub show-is : asked Question.Show d ≡ Reply.Shown (tableBytes c (roundIn c r))
+  pub show-is : shownTo d ≡ Reply.Shown (tableBytes c (roundIn c r))
   unfolding answer
   show-is =
-      let e : answer (Call.Ask Question.Show) c d ≡ Reply.Shown (take (tableSize c) (wholeTable d)) = refl in
-      next-answer (Call.Ask Question.Show) refl (ranges-are (Call.Ask Question.Show) refl) ∙ e ∙ ap Reply.Shown (shown-bytes (ops c) (model1 c) (model2 c) (operator c) (wholeTable d) (roundIn c r) shows (content-is-sound .shape2 .some) whole-entries)
+      let e : answer Call.Show c d ≡ Reply.Shown (take (tableSize c) (wholeTable d)) = refl in
+      next-answer Call.Show refl (ranges-are Call.Show refl) ∙ e ∙ ap Reply.Shown (shown-bytes (ops c) (model1 c) (model2 c) (operator c) (wholeTable d) (roundIn c r) shows (content-is-sound .shape2 .some) whole-entries)
 
-  pub score-is : asked Question.Score d ≡ Reply.Element (score (ops c) (model1 c) (model2 c) (roundIn c r))
-  unfolding answer
-  score-is = next-answer (Call.Ask Question.Score) refl (ranges-are (Call.Ask Question.Score) refl) ∙ ap Reply.Element (score-cong (ops c) (model1 c) (model2 c) shows)
+  -- ---- every question goes by what round r shows
 
-  pub share-is : (l : ℕ) → accepted (Call.Ask (Question.Share l)) d ≡ true → asked (Question.Share l) d ≡ Reply.PerCent (share (ops c) (tableSize c) (entryAt c (roundIn c r)) l)
-  unfolding answer
-  share-is l a = next-answer (Call.Ask (Question.Share l)) refl a ∙ ap Reply.PerCent (share-cong (ops c) (tableSize c) (λ i. getD (wholeTable d) i 0) (entryAt c (roundIn c r)) l (byte-at (ops c) (model1 c) (model2 c) (operator c) (wholeTable d) (roundIn c r) shows (content-is-sound .shape2 .some)))
+  views-same : SameView (viewOf c d) (viewAfter c T s)
+  views-same = record { holds-same = refl; round-same = at .round-is; settled-same = at .settled-is; entries-same = shows }
 
-  module _ (t : List ℕ) (a : accepted (Call.Ask (Question.Judge t)) d ≡ true) where
-    abbrev test : Bool
-    test = simulationTest (model1 c) (model2 c) (operator c) (tableOf t (N2 c))
+  pub treated-next : (q : Question) → treated q (viewOf c d) ≡ treated q (viewAfter c T s)
+  treated-next q = treated-cong q (viewOf c d) (viewAfter c T s) views-same
 
-    judged : asked (Question.Judge t) d ≡ Reply.Says test
-    unfolding answer
-    judged = next-answer (Call.Ask (Question.Judge t)) refl a
+  asked-next : (q : Question) → examined (Call.Ask q) d ≡ byVerdict c (verdict (tests q (viewAfter c T s)))
+  asked-next q = in-store (Call.Ask q) d c refl stands-unspoiled ∙ ap (λ (t : Treated). byVerdict c (verdict (t .tested))) (treated-next q)
 
-    judge-test : (test ≡ true) ↔ Simulation (ops c) (model1 c) (model2 c) (tableOf t (N2 c))
-    judge-test = simulation-test (ops c) (model1 c) (model2 c) (operator c) (tableOf t (N2 c))
-
-    says : (x y : Bool) → Reply.Says x ≡ Reply.Says y → x ≡ y
-    says x y q = cc
-
-    pub judge-yes-exactly : (asked (Question.Judge t) d ≡ Reply.Says true) ↔ Simulation (ops c) (model1 c) (model2 c) (tableOf t (N2 c))
-    judge-yes-exactly = (λ q. judge-test .0 (says test true (sym judged ∙ q)), λ h. judged ∙ ap Reply.Says (judge-test .1 h))
-
-    pub judge-no-exactly : (asked (Question.Judge t) d ≡ Reply.Says false) ↔ ¬ (Simulation (ops c) (model1 c) (model2 c) (tableOf t (N2 c)))
-    judge-no-exactly = (λ q h. false-true (says test false (sym judged ∙ q)) (judge-test .1 h), λ n. judged ∙ ap Reply.Says (not-passed test (λ p. n (judge-test .0 p))))
+  pub asks-as : (q : Question) → AsksAs q d (viewAfter c T s)
+  unfolding answer moved lentLeft
+  asks-as q =
+      record {
+        accepts = ranges-are (Call.Ask q) refl ∙ ap (λ (t : Treated). isPassed (verdict (t .tested))) (treated-next q);
+        answers = λ e. perform-accepted (Call.Ask q) d c (asked-next q ∙ ap (byVerdict c) e) ∙ ap (λ (t : Treated). record { reply = t .reply; desk = d; lent = t .lent }) (treated-next q);
+        refuses = λ r e. perform-refused (Call.Ask q) d r (asked-next q ∙ ap (byVerdict c) e);
+      }

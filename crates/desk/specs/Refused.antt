@@ -1,15 +1,17 @@
--- Which refusal a call gets, or the content that it works on. Rests on Desk, Case, theory's Test, casefile's Reading, and refusal.
+-- Which refusal a call gets, or the content that it works on. Rests on Desk, Case, View, theory's Test, casefile's Reading, and refusal.
 --   short, by tooShort: 11, a buffer is too short
 --   Rules: 12, the rules of the standing, the store and the tables; spoiled, by spoiledAs, keptFor and rulesKept: their test
 --   sizesKept, rowKept, settledKept, roundKept, standingKept, tableKept: the test rule by rule
---   InRange, inRange, callInRange: 13, the ranges of a question's arguments, and their test, by hasFormula, isModel and hasState
+--   Test, tests: what a question is refused for after 12, in order, by hasFormula, isModel and hasState; refusals, OneOf: the refusals of its tests
+--   InRange: that they are passed, as a statement; Verdict, verdict, isPassed, allPassed: the first that is not passed, if there is one
+--   callVerdict, callRefusals: the same of any call; byVerdict: what comes of it
 --   examined: the refusal that a call gets, or the content that it works on, by afterShort and ofStore; accepted, by isContent: it gets none
 --   numberReply, refusedReply: what a refused call answers
 use Prim.Native.Nat.{ℕ, _+_, _*_, _-_, _≤_, _<_}
 use mathlib.Core.Path.{_≡_}
 use mathlib.Core.Logic.{_⊎_}
 use mathlib.Core.Bool.{Bool, true, false, cond, not, _&&_, _||_}
-use mathlib.Core.List.{List, []}
+use mathlib.Core.List.{List, [], _∷_}
 use lib.Dec.{ltb, leb, eqb}
 use lib.ListN.{length, getD}
 use Rattle.theory.specs.Test.{allBelow, _⇒_}
@@ -19,6 +21,7 @@ use Rattle.refusal.specs.Number.{numberOf, partOf}
 use Rattle.casefile.specs.Reading.{Content, CaseReading, refused, content, caseReading, storeReading}
 use Rattle.desk.specs.Desk.{Standing, Desk, Question, Call, Reply}
 use Rattle.desk.specs.Case.{latticeSize, N1, N2, tableSize, modelIn, limit}
+use Rattle.desk.specs.View.{View, viewOf}
 
 -- ---- 11: 'the store or a table is shorter than above'
 
@@ -92,40 +95,90 @@ isModel m = eqb m 1 || eqb m 2
 abbrev pub hasState : Content → ℕ → ℕ → Bool
 hasState c m q = ltb q (modelIn c m .states)
 
-abbrev pub inRange : Question → Content → Bool
-inRange Question.Show c = true
-inRange Question.Score c = true
-inRange (Question.Value f m q) c = hasFormula c f && isModel m && hasState c m q
-inRange (Question.Whole f m) c = hasFormula c f && isModel m
-inRange (Question.Share e) c = ltb e (latticeSize c)
-inRange (Question.Judge t) c = eqb (length t) (tableSize c) && tableKept (tableSize c) (latticeSize c) t
+-- ---- what a question is refused for after 12
 
--- the same as statements; RulesLaws shows that the tests say the same
-abbrev pub InRange : Question → Content → Type 0
-InRange Question.Show c = Unit {0}
-InRange Question.Score c = Unit {0}
-InRange (Question.Value f m q) c = (f < length (c .formulas)) × ((m ≡ 1) ⊎ (m ≡ 2)) × (q < modelIn c m .states)
-InRange (Question.Whole f m) c = (f < length (c .formulas)) × ((m ≡ 1) ⊎ (m ≡ 2))
-InRange (Question.Share e) c = e < latticeSize c
-InRange (Question.Judge t) c = (length t ≡ tableSize c) × ((i : ℕ) → i < tableSize c → getD t i 0 < latticeSize c)
+-- a test, and the refusal that it gives where it is not passed
+pub record Test : Type 0 where
+  pub passes : Bool
+  pub otherwise : Refusal
 
--- step has no such argument, and open does not use 13
-abbrev pub callInRange : Call → Content → Bool
-callInRange (Call.Open b) c = true
-callInRange Call.Step c = true
-callInRange (Call.Ask q) c = inRange q c
+abbrev pub orOutOfRange : Bool → Test
+orOutOfRange x = record { passes = x; otherwise = OutOfRange }
+
+-- the tests of a question, in order
+abbrev pub tests : Question → View → List Test
+tests Question.Score v = []
+tests (Question.Value f m q) v = orOutOfRange (hasFormula (v .holds) f && isModel m && hasState (v .holds) m q) ∷ []
+tests (Question.Whole f m) v = orOutOfRange (hasFormula (v .holds) f && isModel m) ∷ []
+tests (Question.Share e) v = orOutOfRange (ltb e (latticeSize (v .holds))) ∷ []
+tests (Question.Judge t) v = orOutOfRange (eqb (length t) (tableSize (v .holds)) && tableKept (tableSize (v .holds)) (latticeSize (v .holds)) t) ∷ []
+
+-- the refusals that they give, in order
+abbrev pub refusals : Question → List Refusal
+refusals Question.Score = []
+refusals (Question.Value f m q) = OutOfRange ∷ []
+refusals (Question.Whole f m) = OutOfRange ∷ []
+refusals (Question.Share e) = OutOfRange ∷ []
+refusals (Question.Judge t) = OutOfRange ∷ []
+
+-- that they are all passed, as a statement; RulesLaws shows that the tests say the same
+abbrev pub InRange : Question → View → Type 0
+InRange Question.Score v = Unit {0}
+InRange (Question.Value f m q) v = (f < length (v .holds .formulas)) × ((m ≡ 1) ⊎ (m ≡ 2)) × (q < modelIn (v .holds) m .states)
+InRange (Question.Whole f m) v = (f < length (v .holds .formulas)) × ((m ≡ 1) ⊎ (m ≡ 2))
+InRange (Question.Share e) v = e < latticeSize (v .holds)
+InRange (Question.Judge t) v = (length t ≡ tableSize (v .holds)) × ((i : ℕ) → i < tableSize (v .holds) → getD t i 0 < latticeSize (v .holds))
+
+abbrev pub OneOf : Refusal → List Refusal → Type 0
+OneOf r [] = ⊥
+OneOf r (x ∷ xs) = (r ≡ x) ⊎ OneOf r xs
+
+-- what comes of a list of tests: all are passed, or the first that is not gives its refusal
+pub data Verdict : Type 0 where
+  passed : Verdict
+  fails : Refusal → Verdict
+
+abbrev pub verdict : List Test → Verdict
+verdict [] = passed
+verdict (t ∷ ts) = cond (t .passes) (verdict ts) (fails (t .otherwise))
+
+abbrev pub isPassed : Verdict → Bool
+isPassed passed = true
+isPassed (fails r) = false
+
+abbrev pub allPassed : Question → View → Bool
+allPassed q v = isPassed (verdict (tests q v))
+
+-- open, step and show have no such tests
+abbrev pub callVerdict : Call → View → Verdict
+callVerdict (Call.Open b) v = passed
+callVerdict Call.Step v = passed
+callVerdict Call.Show v = passed
+callVerdict (Call.Ask q) v = verdict (tests q v)
+
+-- the refusals that they give: 'the other calls 11, 12, 13'
+abbrev pub callRefusals : Call → List Refusal
+callRefusals (Call.Open b) = []
+callRefusals Call.Step = []
+callRefusals Call.Show = []
+callRefusals (Call.Ask q) = refusals q
 
 -- ---- 'The first that applies is given, in this order'
 
--- 12, then 13
+abbrev pub byVerdict : Content → Verdict → CaseReading
+byVerdict c passed = content c
+byVerdict c (fails r) = refused r
+
+-- 12, then the call's own tests
 abbrev pub ofStore : Call → Desk → CaseReading → CaseReading
 ofStore k d (refused r) = refused SpoiledDesk
-ofStore k d (content c) = cond (keptFor c d) (cond (callInRange k c) (content c) (refused OutOfRange)) (refused SpoiledDesk)
+ofStore k d (content c) = cond (keptFor c d) (byVerdict c (callVerdict k (viewOf c d))) (refused SpoiledDesk)
 
 -- 'open uses 11 and 1 to 10, the other calls 11, 12, 13'
 abbrev pub afterShort : Call → Desk → CaseReading
 afterShort (Call.Open b) d = caseReading b
 afterShort Call.Step d = ofStore Call.Step d (storeReading (d .store))
+afterShort Call.Show d = ofStore Call.Show d (storeReading (d .store))
 afterShort (Call.Ask q) d = ofStore (Call.Ask q) d (storeReading (d .store))
 
 -- the refusal of a call, or the content that it works on: that of its case (open) or that of the store
@@ -149,9 +202,5 @@ numberReply r = Reply.Refused (numberOf r) (partOf r)
 abbrev pub refusedReply : Call → Refusal → Reply
 refusedReply (Call.Open b) r = numberReply r
 refusedReply Call.Step r = numberReply r
-refusedReply (Call.Ask Question.Show) r = Reply.Shown []
-refusedReply (Call.Ask Question.Score) r = numberReply r
-refusedReply (Call.Ask (Question.Value f m q)) r = numberReply r
-refusedReply (Call.Ask (Question.Whole f m)) r = numberReply r
-refusedReply (Call.Ask (Question.Share e)) r = numberReply r
-refusedReply (Call.Ask (Question.Judge t)) r = numberReply r
+refusedReply Call.Show r = Reply.Shown []
+refusedReply (Call.Ask q) r = numberReply r

@@ -12,21 +12,22 @@ use mathlib.Core.Logic.{_⊎_, inl, inr}
 use mathlib.Core.List.{List}
 use Rattle.theory.specs.TestLaws.{false-true}
 use Rattle.refusal.specs.declared.Refusal.{Refusal}
-use Rattle.refusal.specs.declared.Refusal.the-variants.{ShortDesk, SpoiledDesk, OutOfRange}
+use Rattle.refusal.specs.declared.Refusal.the-variants.{ShortDesk, SpoiledDesk}
 use Rattle.casefile.specs.Reading.{Content, CaseReading, refused, content, caseReading, storeReading}
 use Rattle.casefile.specs.Accepted.{refused-content}
-use Rattle.desk.specs.Desk.{Desk, Call, isOpen}
-use Rattle.desk.specs.Refused.{short, keptFor, spoiledAs, Rules, spoiled, callInRange, ofStore, afterShort, examined, isContent, accepted, refusedReply}
-use Rattle.desk.specs.Perform.{perform, performed, answer, moved}
+use Rattle.desk.specs.Desk.{Desk, Call, isOpen, lentBy}
+use Rattle.desk.specs.View.{viewOf}
+use Rattle.desk.specs.Refused.{short, keptFor, spoiledAs, Rules, spoiled, Verdict, passed, fails, callVerdict, byVerdict, ofStore, afterShort, examined, isContent, accepted, refusedReply}
+use Rattle.desk.specs.Perform.{perform, performed, answer, moved, lentLeft}
 use Rattle.desk.specs.RulesLaws.{rules-in, spoiled-exactly}
 
 -- ---- 'a refusal alters nothing'
 
-pub perform-refused : (k : Call) (d : Desk) (r : Refusal) → examined k d ≡ refused r → perform k d ≡ record { reply = refusedReply k r; desk = d }
+pub perform-refused : (k : Call) (d : Desk) (r : Refusal) → examined k d ≡ refused r → perform k d ≡ record { reply = refusedReply k r; desk = d; lent = lentBy k }
 unfolding perform
-perform-refused k d r e = let z : performed k d (refused r) ≡ record { reply = refusedReply k r; desk = d } = refl in ap (performed k d) e ∙ z
+perform-refused k d r e = let z : performed k d (refused r) ≡ record { reply = refusedReply k r; desk = d; lent = lentBy k } = refl in ap (performed k d) e ∙ z
 
-pub perform-accepted : (k : Call) (d : Desk) (c : Content) → examined k d ≡ content c → perform k d ≡ record { reply = answer k c d; desk = moved k c d }
+pub perform-accepted : (k : Call) (d : Desk) (c : Content) → examined k d ≡ content c → perform k d ≡ record { reply = answer k c d; desk = moved k c d; lent = lentLeft k c d }
 unfolding perform
 perform-accepted k d c e = ap (performed k d) e
 
@@ -34,9 +35,10 @@ perform-accepted k d c e = ap (performed k d) e
 pub opens-or-not : (k : Call) → ((b : List ℕ) × (k ≡ Call.Open b)) ⊎ (isOpen k ≡ false)
 opens-or-not (Call.Open b) = inl (b, refl)
 opens-or-not Call.Step = inr refl
+opens-or-not Call.Show = inr refl
 opens-or-not (Call.Ask q) = inr refl
 
--- ---- which refusal, and when: 'open uses 11 and 1 to 10, the other calls 11, 12, 13', the first that applies
+-- ---- which refusal, and when: 'open uses 11 and 1 to 10, the other calls 11, 12' and their own tests, the first that applies
 
 pub is-short : (k : Call) (d : Desk) → short d ≡ true → examined k d ≡ refused ShortDesk
 unfolding examined
@@ -50,6 +52,7 @@ open-long b d s = ap (λ (t : Bool). cond t (refused ShortDesk) (caseReading b))
 after-store : (k : Call) (d : Desk) → isOpen k ≡ false → afterShort k d ≡ ofStore k d (storeReading (d .store))
 after-store (Call.Open b) d o = absurd (false-true o refl)
 after-store Call.Step d o = refl
+after-store Call.Show d o = refl
 after-store (Call.Ask q) d o = refl
 
 other-long : (k : Call) (d : Desk) → isOpen k ≡ false → short d ≡ false → examined k d ≡ ofStore k d (storeReading (d .store))
@@ -64,7 +67,7 @@ is-spoiled k d o s p = other-long k d o s ∙ go (storeReading (d .store)) p
     go (refused r) h = refl
     go (content c) h = rules (keptFor c d) h
       where
-        rules : (t : Bool) → not t ≡ true → cond t (cond (callInRange k c) (content c) (refused OutOfRange)) (refused SpoiledDesk) ≡ refused SpoiledDesk
+        rules : (t : Bool) → not t ≡ true → cond t (byVerdict c (callVerdict k (viewOf c d))) (refused SpoiledDesk) ≡ refused SpoiledDesk
         rules true h = absurd (false-true refl h)
         rules false h = refl
 
@@ -73,9 +76,9 @@ pub record Unspoiled (d : Desk) (c : Content) : Type 0 where
   pub long : short d ≡ false
   pub rules : Rules d c
 
--- then it is 13 or the call is accepted
-pub in-store : (k : Call) (d : Desk) (c : Content) → isOpen k ≡ false → Unspoiled d c → examined k d ≡ cond (callInRange k c) (content c) (refused OutOfRange)
-in-store k d c o u = other-long k d o (u .long) ∙ ap (ofStore k d) (u .rules .reads) ∙ ap (λ (t : Bool). cond t (cond (callInRange k c) (content c) (refused OutOfRange)) (refused SpoiledDesk)) (rules-in d c (u .rules))
+-- then it goes by the call's own tests
+pub in-store : (k : Call) (d : Desk) (c : Content) → isOpen k ≡ false → Unspoiled d c → examined k d ≡ byVerdict c (callVerdict k (viewOf c d))
+in-store k d c o u = other-long k d o (u .long) ∙ ap (ofStore k d) (u .rules .reads) ∙ ap (λ (t : Bool). cond t (byVerdict c (callVerdict k (viewOf c d))) (refused SpoiledDesk)) (rules-in d c (u .rules))
 
 -- ---- 'Every input to which no numbered refusal of its call applies is accepted'
 
@@ -95,28 +98,28 @@ open-accepted b d c e = go (short d) refl
 pub data Outcome (k : Call) (d : Desk) : Type 0 where
   too-short : short d ≡ true → examined k d ≡ refused ShortDesk → Outcome k d
   broken : short d ≡ false → ((c : Content) → ¬ Rules d c) → examined k d ≡ refused SpoiledDesk → Outcome k d
-  outside : (c : Content) → Unspoiled d c → callInRange k c ≡ false → examined k d ≡ refused OutOfRange → Outcome k d
-  inside : (c : Content) → Unspoiled d c → callInRange k c ≡ true → examined k d ≡ content c → Outcome k d
+  outside : (c : Content) → Unspoiled d c → (r : Refusal) → callVerdict k (viewOf c d) ≡ fails r → examined k d ≡ refused r → Outcome k d
+  inside : (c : Content) → Unspoiled d c → callVerdict k (viewOf c d) ≡ passed → examined k d ≡ content c → Outcome k d
 
 pub outcome : (k : Call) (d : Desk) → isOpen k ≡ false → Outcome k d
 outcome k d o = go (short d) refl
   where
-    at-range : (c : Content) → Unspoiled d c → (t : Bool) → callInRange k c ≡ t → Outcome k d
-    at-range c u true i = inside c u i (in-store k d c o u ∙ rw i)
-    at-range c u false i = outside c u i (in-store k d c o u ∙ rw i)
+    at-tests : (c : Content) → Unspoiled d c → (x : Verdict) → callVerdict k (viewOf c d) ≡ x → Outcome k d
+    at-tests c u passed i = inside c u i (in-store k d c o u ∙ ap (byVerdict c) i)
+    at-tests c u (fails r) i = outside c u r i (in-store k d c o u ∙ ap (byVerdict c) i)
 
     rules : short d ≡ false → (t : Bool) → spoiled d ≡ t → Outcome k d
     rules s true p = broken s (λ c w. false-true (spoiled-exactly d .1 (c, w)) p) (is-spoiled k d o s p)
-    rules s false p = let w = spoiled-exactly d .0 p in at-range (w .0) (record { long = s; rules = w .1 }) (callInRange k (w .0)) refl
+    rules s false p = let w = spoiled-exactly d .0 p in at-tests (w .0) (record { long = s; rules = w .1 }) (callVerdict k (viewOf (w .0) d)) refl
 
     go : (t : Bool) → short d ≡ t → Outcome k d
     go true s = too-short s (is-short k d s)
     go false s = rules s (spoiled d) refl
 
--- it is accepted where the desk is long enough and not spoiled, and the arguments are in range
+-- it is accepted where the desk is long enough and not spoiled, and its own tests are passed
 pub record OtherAccepted (k : Call) (d : Desk) (c : Content) : Type 0 where
   pub held : Unspoiled d c
-  pub range : callInRange k c ≡ true
+  pub range : callVerdict k (viewOf c d) ≡ passed
 
 pub other-accepted : (k : Call) (d : Desk) (c : Content) → isOpen k ≡ false → examined k d ≡ content c → OtherAccepted k d c
 other-accepted k d c o e = go (outcome k d o)
@@ -124,7 +127,7 @@ other-accepted k d c o e = go (outcome k d o)
     go : Outcome k d → OtherAccepted k d c
     go (too-short s p) = absurd (refused-content (sym p ∙ e))
     go (broken s n p) = absurd (refused-content (sym p ∙ e))
-    go (outside x u i p) = absurd (refused-content (sym p ∙ e))
+    go (outside x u r i p) = absurd (refused-content (sym p ∙ e))
     go (inside x u i p) = let q : x ≡ c = cc in rw (← q) (record { held = u; range = i })
 
 -- accepted or refused, and never both

@@ -5,7 +5,7 @@
 --   Stands: the invariant; opening-starts: an accepted opening starts it
 use Prim.Native.Nat.{ℕ, _+_, _*_, _≤_, _<_}
 use mathlib.Core.Path.{_≡_, refl, _∙_}
-use mathlib.Core.Bool.{Bool, true, false}
+use mathlib.Core.Bool.{true, false}
 use mathlib.Core.Logic.{_⊎_, inl}
 use mathlib.Core.List.{List, _++_}
 use native.Mathlib.Omega.{arith}
@@ -19,7 +19,7 @@ use Rattle.casefile.specs.Accepted.{gapless-most}
 use Rattle.casefile.specs.Content.{ContentSound, content-sound}
 use Rattle.rounds.specs.Table.{tableOf}
 use Rattle.rounds.specs.Round.{RoundSoFar, round-none, top-round}
-use Rattle.desk.specs.Desk.{Desk, wholeTable, otherTable}
+use Rattle.desk.specs.Desk.{Standing, Desk, wholeTable, otherTable}
 use Rattle.desk.specs.Case.{ops, model1, model2, N1, N2, tableSize, operator, roundIn, IsT}
 use Rattle.desk.specs.Refused.{short}
 use Rattle.desk.specs.RulesLaws.{long-enough}
@@ -37,41 +37,41 @@ pub known-sound : {c : Content} {T : ℕ} → Known c T → ContentSound c
 known-sound {c} k = content-sound (k .case) c (k .reads)
 
 module _ (c : Content) (T : ℕ) where
-  -- before T: s is round · N1 + row, and the rows below `row` of the next round stand in the other table
-  pub record Going (s round row : ℕ) (changed settled : Bool) (whole other : List ℕ) : Type 0 where
-    pub unsettled : settled ≡ false
-    pub below : round < T
-    pub row-below : row < N1 c
-    pub count : s ≡ round * N1 c + row
+  -- before T: s is round · N1 + row, and the rows below the next row of the next round stand in the other table
+  pub record Going (s : ℕ) (x : Standing) (whole other : List ℕ) : Type 0 where
+    pub unsettled : x .settled ≡ false
+    pub below : x .round < T
+    pub row-below : x .row < N1 c
+    pub count : s ≡ x .round * N1 c + x .row
     pub before : List ℕ
-    pub so-far : RoundSoFar (model1 c) (model2 c) (operator c) (tableOf whole (N2 c)) before row other changed
+    pub so-far : RoundSoFar (model1 c) (model2 c) (operator c) (tableOf whole (N2 c)) before (x .row) other (x .changed)
 
   -- at T
-  pub record Ended (s round row : ℕ) (changed settled : Bool) : Type 0 where
-    pub isSettled : settled ≡ true
-    pub at-T : round ≡ T
-    pub row-0 : row ≡ 0
-    pub unchanged : changed ≡ false
+  pub record Ended (s : ℕ) (x : Standing) : Type 0 where
+    pub isSettled : x .settled ≡ true
+    pub at-T : x .round ≡ T
+    pub row-0 : x .row ≡ 0
+    pub unchanged : x .changed ≡ false
     pub enough : T * N1 c ≤ s
 
   -- the whole table is the round's, both are long enough, and their entries are elements
-  pub record Progress (s round row : ℕ) (changed settled : Bool) (whole other : List ℕ) : Type 0 where
+  pub record Progress (s : ℕ) (x : Standing) (whole other : List ℕ) : Type 0 where
     pub whole-long : 4096 ≤ length whole
     pub other-long : 4096 ≤ length other
     pub whole-elements : (i : ℕ) → i < tableSize c → Element (ops c) (getD whole i 0)
     pub other-elements : (i : ℕ) → i < tableSize c → Element (ops c) (getD other i 0)
-    pub shown : SameTable (ops c) (model1 c) (model2 c) (tableOf whole (N2 c)) (roundIn c round)
-    pub place : Going s round row changed settled whole other ⊎ Ended s round row changed settled
+    pub shown : SameTable (ops c) (model1 c) (model2 c) (tableOf whole (N2 c)) (roundIn c (x .round))
+    pub place : Going s x whole other ⊎ Ended s x
 
   -- the same of a desk's standing and tables
   abbrev pub GoingAt : ℕ → Desk → Type 0
-  GoingAt s d = Going s (d .standing .round) (d .standing .row) (d .standing .changed) (d .standing .settled) (wholeTable d) (otherTable d)
+  GoingAt s d = Going s (d .standing) (wholeTable d) (otherTable d)
 
   abbrev pub EndedAt : ℕ → Desk → Type 0
-  EndedAt s d = Ended s (d .standing .round) (d .standing .row) (d .standing .changed) (d .standing .settled)
+  EndedAt s d = Ended s (d .standing)
 
   abbrev pub ProgressAt : ℕ → Desk → Type 0
-  ProgressAt s d = Progress s (d .standing .round) (d .standing .row) (d .standing .changed) (d .standing .settled) (wholeTable d) (otherTable d)
+  ProgressAt s d = Progress s (d .standing) (wholeTable d) (otherTable d)
 
   -- 'this desk is what the content c gives after s accepted steps': its store begins with the gapless case, and any bytes may follow
   pub record Stands (s : ℕ) (d : Desk) : Type 0 where

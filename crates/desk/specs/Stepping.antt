@@ -22,9 +22,9 @@ use Rattle.desk.specs.Case.{ops, model1, model2, N1, N2, tableSize, oper
 use Rattle.desk.specs.Moved.{rowWorked, changedNow, nextRow, nextRound, worked, stepped}
 use Rattle.desk.specs.Stands.{Known, known-sound, Going, Ended, Progress, GoingAt, EndedAt, ProgressAt, Stands, sizes-most, some-states}
 
--- the same of equal flags and tables
-progress-with : {c : Content} {T s round row : ℕ} {changed settled changed′ settled′ : Bool} {whole other whole′ other′ : List ℕ} → changed′ ≡ changed → settled′ ≡ settled → whole′ ≡ whole → other′ ≡ other → Progress c T s round row changed settled whole other → Progress c T s round row changed′ settled′ whole′ other′
-progress-with m n p q h = rw (m, n, p, q) h
+-- the same of equal tables
+progress-with : {c : Content} {T s : ℕ} {x : Standing} {whole other whole′ other′ : List ℕ} → whole′ ≡ whole → other′ ≡ other → Progress c T s x whole other → Progress c T s x whole′ other′
+progress-with p q h = rw (p, q) h
 
 -- the same store and sizes, and what is progress now
 stands-with : {c : Content} {T s n : ℕ} {d : Desk} → Stands c T s d → (e : Desk) → e .store ≡ d .store → e .standing .states1 ≡ d .standing .states1 → e .standing .states2 ≡ d .standing .states2 → ProgressAt c T n e → Stands c T n e
@@ -58,7 +58,13 @@ turn-other false f g o = refl
 
 module _ {c : Content} {T : ℕ} (known : Known c T) where
   -- ---- one row more
-  module _ {s round row : ℕ} {changed settled : Bool} {whole other : List ℕ} (h : Progress c T s round row changed settled whole other) (g : Going c T s round row changed settled whole other) where
+  module _ {s : ℕ} {x : Standing} {whole other : List ℕ} (h : Progress c T s x whole other) (g : Going c T s x whole other) where
+    abbrev round : ℕ
+    round = x .round
+
+    abbrev row : ℕ
+    row = x .row
+
     abbrev S : ℕ → ℕ → ℕ
     S = tableOf whole (N2 c)
 
@@ -66,7 +72,7 @@ module _ {c : Content} {T : ℕ} (known : Known c T) where
     out = rowWritten (model1 c) (model2 c) (operator c) S row other
 
     abbrev now : Bool
-    now = changed || rowChanged (model1 c) (model2 c) (operator c) S row
+    now = x .changed || rowChanged (model1 c) (model2 c) (operator c) S row
 
     more : RoundSoFar (model1 c) (model2 c) (operator c) S (g .before) (row + 1) out now
     more = round-more (g .so-far) (g .row-below) (omega (arith, sizes-most known, h .other-long, g .so-far .worked .same-length)) refl refl refl
@@ -78,7 +84,7 @@ module _ {c : Content} {T : ℕ} (known : Known c T) where
     out-elements = row-elements (ops c) (model1 c) (model2 c) (operator c) (F-element (known-sound known .laws) (model1 c) (model2 c)) S row other (g .row-below) (omega (arith, sizes-most known, h .other-long)) (h .other-elements)
 
     -- a row that is not the last
-    pub row-more : row + 1 < N1 c → Progress c T (s + 1) round (row + 1) now false whole out
+    pub row-more : row + 1 < N1 c → Progress c T (s + 1) (nextRow now x) whole out
     row-more l =
         record {
           whole-long = h .whole-long;
@@ -111,7 +117,7 @@ module _ {c : Content} {T : ℕ} (known : Known c T) where
           absurd (known .isT .least (suc round) (omega arith) q (subst (λ (x : ℕ). SameTable (ops c) (model1 c) (model2 c) (roundIn c (suc round)) (roundIn c x)) p (done .unchanged .0 n))))
           (eq-or-lt-of-le (g .below))
 
-      place-after : (n : Bool) → now ≡ n → Going c T (s + 1) (round + 1) 0 false (not n) out whole ⊎ Ended c T (s + 1) (round + 1) 0 false (not n)
+      place-after : (n : Bool) → now ≡ n → Going c T (s + 1) (nextRound n x) out whole ⊎ Ended c T (s + 1) (nextRound n x)
       place-after true n =
           inl
           (record {
@@ -126,7 +132,7 @@ module _ {c : Content} {T : ℕ} (known : Known c T) where
           let q : suc round ≡ T = T-at-same n in
           inr (record { isSettled = refl; at-T = omega arith; row-0 = refl; unchanged = refl; enough = rw (← q) (omega (arith, g .count)) })
 
-      pub round-more-done : Progress c T (s + 1) (round + 1) 0 false (not now) out whole
+      pub round-more-done : Progress c T (s + 1) (nextRound now x) out whole
       round-more-done =
           record {
             whole-long = out-long;
@@ -142,9 +148,6 @@ module _ {c : Content} {T : ℕ} (known : Known c T) where
     -- the row of F of the shown table, in its place in the other one
     row-is : rowWorked c d ≡ rowWritten (model1 c) (model2 c) (operator c) (tableOf (wholeTable d) (N2 c)) (d .standing .row) (otherTable d)
     row-is = refl
-
-    changed-is : changedNow c d ≡ (d .standing .changed || rowChanged (model1 c) (model2 c) (operator c) (tableOf (wholeTable d) (N2 c)) (d .standing .row))
-    changed-is = refl
 
     first-is : worked c d .first ≡ cond (d .standing .secondWhole) (rowWorked c d) (d .first)
     unfolding worked
@@ -182,7 +185,7 @@ module _ {c : Content} {T : ℕ} (known : Known c T) where
           let whole : wholeTable e ≡ rowWorked c d = tables-are d (not x) .0 ∙ turn-whole x (d .first) (d .second) (rowWorked c d) in
           let other : otherTable e ≡ wholeTable d = tables-are d (not x) .1 ∙ turn-other x (d .first) (d .second) (rowWorked c d) in
           stands-with w e refl refl refl
-          (progress-with refl (ap not (changed-is d)) (whole ∙ row-is d) other
+          (progress-with (whole ∙ row-is d) other
           (round-more-done (w .progress) g (eqb-true _ _ q)))
       go false q =
           let e = rowDone d (nextRow (changedNow c d) (d .standing)) in
@@ -190,9 +193,8 @@ module _ {c : Content} {T : ℕ} (known : Known c T) where
           let whole : wholeTable e ≡ wholeTable d = tables-are d x .0 ∙ keep-whole x (d .first) (d .second) (rowWorked c d) in
           let other : otherTable e ≡ rowWorked c d = tables-are d x .1 ∙ keep-other x (d .first) (d .second) (rowWorked c d) in
           let n : ¬ (d .standing .row + 1 ≡ N1 c) = eqb-false _ _ q in
-          let unsettled : e .standing .settled ≡ false = refl in
           stands-with w e refl refl refl
-          (progress-with (changed-is d) unsettled whole (other ∙ row-is d)
+          (progress-with whole (other ∙ row-is d)
           (row-more (w .progress) g (omega (arith, g .row-below))))
 
   pub step-moves : {s : ℕ} {d : Desk} → Stands c T s d → Stands c T (s + 1) (stepped c d)

@@ -19,8 +19,9 @@ use Rattle.casefile.specs.Content.{content-sound}
 use Rattle.model.specs.Places.{row-le}
 use Rattle.desk.specs.Desk.{Desk, Call, otherTable}
 use Rattle.desk.specs.Case.{ops, N1, N2, tableSize, operator}
+use Rattle.desk.specs.View.{shownTable}
 use Rattle.desk.specs.Refused.{examined}
-use Rattle.desk.specs.Moved.{opened, topped, shownTable, rowWorked, worked, stepped}
+use Rattle.desk.specs.Moved.{opened, topped, rowWorked, worked, stepped}
 use Rattle.desk.specs.Perform.{perform, moved}
 use Rattle.desk.specs.RefusedLaws.{perform-accepted, OpenAccepted, open-accepted, other-accepted}
 use Rattle.desk.specs.RulesLaws.{long-enough}
@@ -109,6 +110,7 @@ moved-same Call.Step c d e =
     let few = content-sound (take 24576 (d .store)) c (h .rules .reads) .entries-most in
     let l = long-enough d (h .long) in
     stepped-same c d (h .rules .row-below) (omega (arith, few, l .first-long)) (omega (arith, few, l .second-long))
+moved-same Call.Show c d e = unaltered
 moved-same (Call.Ask q) c d e = unaltered
 
 pub never-written : (k : Call) (c : Content) (d : Desk) → examined k d ≡ content c → Unwritten (tableSize c) (perform k d .desk) d

@@ -1,11 +1,11 @@
 -- What the examination of a desk answers, and what a call does. Rests on Read, desk's Perform, casefile's Answer.
 --   rulesOf: the rules of 12 beside the store's reading
 --   DeskExamined: what the examination answers
---   Does: what a call does
+--   Does, DoesWith: what a call does, without and with buffers that it is lent to write into
 use Prim.Native.Nat.{ℕ, _*_}
 use mathlib.Core.Bool.{Bool, _&&_}
 use mathlib.Core.Path.{_≡_}
-use mathlib.Core.List.{List}
+use mathlib.Core.List.{List, []}
 use Rattle.theory.specs.Part.{opsOf}
 use Rattle.operations.specs.Table.{opsIn}
 use Rattle.lattice.specs.Answer.{boundsOf}
@@ -37,6 +37,10 @@ pub record DeskExamined (d : Desk) (r : Examined) (t : List ℕ) : Type 0 where
   pub answer : r ≡ examinedAnswer (examined Call.Step d)
   pub tables : (c : Content) → examined Call.Step d ≡ content c → opsIn t (boundsOf (c .lattice)) ≡ opsOf (c .lattice)
 
--- the call k on the desk d answers x and leaves the desk e
+-- the call k on the desk d answers x, leaves the desk e, and leaves `lent` in the buffers that it is lent to write into
+abbrev pub DoesWith : List (List ℕ) → Call → Desk → Reply → Desk → Type 0
+DoesWith lent k d x e = perform k d ≡ record { reply = x; desk = e; lent = lent }
+
+-- the same of a call that is lent none
 abbrev pub Does : Call → Desk → Reply → Desk → Type 0
-Does k d x e = perform k d ≡ record { reply = x; desk = e }
+Does = DoesWith []

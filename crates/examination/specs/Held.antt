@@ -1,7 +1,7 @@
 -- What a call knows of a desk that is held, how the examination gets its answer, and what a call does after it.
 -- Rests on Answer, casefile's Caller, and desk's RefusedLaws.
 --   HeldDesk, when-held: what is known of a desk that is held
---   held-question, held-outside, refused-call: what a call does that is answered, out of range, or refused by the examination
+--   held-shown, held-question, held-outside, refused-call: what a call does that is answered, refused by its tests, or by the examination
 --   case-few, few: N1·N2 is at most 4,096; table-kept: the test of a table's bytes, from that of the code
 --   short-examined, unread-examined, spoiled-examined, held-examined: the four answers of the examination
 use Prim.Native.Nat.{ℕ, _+_, _*_, _≤_}
@@ -15,20 +15,22 @@ use lib.ListN.{take, getD}
 use Rattle.theory.specs.Test.{allBelow}
 use Rattle.theory.specs.TestLaws.{all-cong}
 use Rattle.refusal.specs.declared.Refusal.{Refusal}
-use Rattle.refusal.specs.declared.Refusal.the-variants.{ShortDesk, SpoiledDesk, OutOfRange}
+use Rattle.refusal.specs.declared.Refusal.the-variants.{ShortDesk, SpoiledDesk}
 use Rattle.casefile.specs.declared.Sizes.{Sizes}
 use Rattle.casefile.specs.Reading.{CaseReading, refused, content, storeReading}
 use Rattle.casefile.specs.Answer.{sizesOf}
 use Rattle.casefile.specs.Accepted.{refused-content}
 use Rattle.casefile.specs.Caller.{AcceptedCase, accepted-as}
-use Rattle.desk.specs.Desk.{Desk, Question, Call, isOpen}
-use Rattle.desk.specs.Refused.{short, tableKept, rulesKept, keptFor, spoiled, inRange, examined, refusedReply}
-use Rattle.desk.specs.Perform.{answerTo, answer, moved}
+use Rattle.desk.specs.Desk.{Desk, Question, Call, Reply, wholeTable, isOpen, lentTo, lentBy}
+use Rattle.desk.specs.Case.{tableSize}
+use Rattle.desk.specs.View.{View, viewOf}
+use Rattle.desk.specs.Refused.{short, tableKept, rulesKept, keptFor, spoiled, tests, passed, fails, verdict, byVerdict, examined, refusedReply, numberReply}
+use Rattle.desk.specs.Perform.{answerTo, lentAfter, answer, moved, lentLeft}
 use Rattle.desk.specs.RefusedLaws.{Unspoiled, is-short, is-spoiled, in-store, outcome, Outcome, too-short, broken, outside, inside, other-accepted, perform-refused, perform-accepted}
 use Rattle.desk.specs.RulesLaws.{Long, long-enough, rules-out}
 use Rattle.examination.specs.declared.Examined.{Examined}
 use Rattle.examination.specs.declared.Examined.the-variants.{Refused, Held}
-use Rattle.examination.specs.Answer.{examinedAnswer, DeskExamined, Does}
+use Rattle.examination.specs.Answer.{examinedAnswer, DeskExamined, Does, DoesWith}
 
 -- ---- after the answer that the desk is held with the sizes z, and the tables t
 
@@ -59,18 +61,25 @@ few h = case-few (h .case)
 pub table-kept : (table : List ℕ) (m count n : ℕ) (r : Bool) → r ≡ allBelow m (λ i. ltb (getD table (0 + i) 0) n) → m ≡ count → r ≡ tableKept count n table
 table-kept table m count n r e q = e ∙ all-cong m _ _ (λ i l. ap (λ (j : ℕ). ltb (getD table j 0) n) (zero-add i)) ∙ ap (λ (k : ℕ). tableKept k n table) q
 
--- a question on a desk that is held: answered, or refused with 13
+-- show and a question on a desk that is held: answered, or refused with the first of its tests that is not passed
 module _ {d : Desk} {z : Sizes} {t : List ℕ} (h : HeldDesk d z t) where
-  pub held-question : (q : Question) → inRange q (h .case .holds) ≡ true → Does (Call.Ask q) d (answerTo q (h .case .holds) d) d
-  unfolding answer moved
-  held-question q i = perform-accepted (Call.Ask q) d (h .case .holds) (in-store (Call.Ask q) d (h .case .holds) refl (h .kept) ∙ rw i)
+  abbrev pub heldView : View
+  heldView = viewOf (h .case .holds) d
 
-  pub held-outside : (q : Question) → inRange q (h .case .holds) ≡ false → Does (Call.Ask q) d (refusedReply (Call.Ask q) OutOfRange) d
-  held-outside q i = perform-refused (Call.Ask q) d OutOfRange (in-store (Call.Ask q) d (h .case .holds) refl (h .kept) ∙ rw i)
+  pub held-shown : Does Call.Show d (Reply.Shown (take (tableSize (h .case .holds)) (wholeTable d))) d
+  unfolding answer moved lentLeft
+  held-shown = perform-accepted Call.Show d (h .case .holds) (in-store Call.Show d (h .case .holds) refl (h .kept))
+
+  pub held-question : (q : Question) → verdict (tests q heldView) ≡ passed → DoesWith (lentAfter q heldView) (Call.Ask q) d (answerTo q heldView) d
+  unfolding answer moved lentLeft
+  held-question q i = perform-accepted (Call.Ask q) d (h .case .holds) (in-store (Call.Ask q) d (h .case .holds) refl (h .kept) ∙ ap (byVerdict (h .case .holds)) i)
+
+  pub held-outside : (q : Question) (r : Refusal) → verdict (tests q heldView) ≡ fails r → DoesWith (lentTo q) (Call.Ask q) d (numberReply r) d
+  held-outside q r i = perform-refused (Call.Ask q) d r (in-store (Call.Ask q) d (h .case .holds) refl (h .kept) ∙ ap (byVerdict (h .case .holds)) i)
 
 -- ---- after the answer that it is refused, every call but open is refused so
 
-pub refused-call : (k : Call) (d : Desk) (r : Examined) (f : Refusal) (t : List ℕ) → isOpen k ≡ false → DeskExamined d r t → r ≡ Refused f → Does k d (refusedReply k f) d
+pub refused-call : (k : Call) (d : Desk) (r : Examined) (f : Refusal) (t : List ℕ) → isOpen k ≡ false → DeskExamined d r t → r ≡ Refused f → DoesWith (lentBy k) k d (refusedReply k f) d
 refused-call k d r f t o w q = perform-refused k d f (go (outcome Call.Step d refl))
   where
     is : examinedAnswer (examined Call.Step d) ≡ Refused f
@@ -86,9 +95,9 @@ refused-call k d r f t o w q = perform-refused k d f (go (outcome Call.Step d re
         go-broken : Outcome k d → examined k d ≡ refused f
         go-broken (too-short x p) = absurd (let z : _≡_ {A = Bool} true false = sym x ∙ s in let y : _≡_ {A = ℕ} 0 1 = cc in omega arith)
         go-broken (broken x m p) = p ∙ same SpoiledDesk e
-        go-broken (outside c u i p) = absurd (n c (u .rules))
+        go-broken (outside c u g i p) = absurd (n c (u .rules))
         go-broken (inside c u i p) = absurd (n c (u .rules))
-    go (outside c u i e) = absurd (let z : _≡_ {A = ℕ} 0 1 = cc in omega arith)
+    go (outside c u g i e) = absurd (let z : _≡_ {A = ℕ} 0 1 = cc in omega arith)
     go (inside c u i e) =
         let v : Held (sizesOf c) ≡ Refused f = sym (ap examinedAnswer e) ∙ is in
         absurd (let z : _≡_ {A = ℕ} 0 1 = cc in omega arith)
@@ -106,17 +115,17 @@ unfolding spoiled
 unread-examined d f t s e = refused-examined d SpoiledDesk t (is-spoiled Call.Step d refl s (rw e))
 
 module _ (d : Desk) (z : Sizes) (t : List ℕ) (s : short d ≡ false) (a : AcceptedCase (take 24576 (d .store)) z t) where
-  abbrev tests : Bool
-  tests = rulesKept (z .states1) (z .states2) (z .lattice .size) d
+  abbrev kept : Bool
+  kept = rulesKept (z .states1) (z .states2) (z .lattice .size) d
 
-  rules-same : tests ≡ keptFor (a .holds) d
+  rules-same : kept ≡ keptFor (a .holds) d
   rules-same = rw (a .sizes)
 
-  pub spoiled-examined : (x : Bool) → x ≡ tests → x ≡ false → DeskExamined d (Refused SpoiledDesk) t
+  pub spoiled-examined : (x : Bool) → x ≡ kept → x ≡ false → DeskExamined d (Refused SpoiledDesk) t
   unfolding spoiled
   spoiled-examined x q f = refused-examined d SpoiledDesk t (is-spoiled Call.Step d refl s (rw (a .reads, ← rules-same, ← q, f)))
 
-  pub held-examined : (x : Bool) → x ≡ tests → x ≡ true → DeskExamined d (Held z) t
+  pub held-examined : (x : Bool) → x ≡ kept → x ≡ true → DeskExamined d (Held z) t
   held-examined x q f =
       let e = in-store Call.Step d (a .holds) refl (record { long = s; rules = rules-out d (a .holds) (a .reads) (sym rules-same ∙ sym q ∙ f) }) in
       record {

@@ -5,7 +5,7 @@
 use Prim.Native.Nat.{ℕ}
 use mathlib.Core.Path.{_≡_}
 use mathlib.Core.Bool.{Bool, cond}
-use mathlib.Core.List.{List}
+use mathlib.Core.List.{List, []}
 use lib.Dec.{eqb}
 use lib.ListN.{take}
 use Rattle.casefile.specs.Reading.{CaseReading, refused, content}
@@ -70,5 +70,5 @@ namedBytes x d = take (x .length) (cond (eqb (x .table) 2) (d .second) (d .first
 
 -- show's export: the table and the length by the desk's examination, and the bytes that they name are what show answers; the desk as it was
 pub record Names (d : Desk) (x : Shown) : Type 0 where
-  pub names : x ≡ named d (examined (Call.Ask Question.Show) d)
-  pub bytes : perform (Call.Ask Question.Show) d ≡ record { reply = Reply.Shown (namedBytes x d); desk = d }
+  pub names : x ≡ named d (examined Call.Show d)
+  pub bytes : perform Call.Show d ≡ record { reply = Reply.Shown (namedBytes x d); desk = d; lent = [] }

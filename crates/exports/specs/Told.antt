@@ -15,10 +15,10 @@ use lib.Seq.{length-take-le}
 use Rattle.casefile.specs.Reading.{Content, CaseReading, refused, content}
 use Rattle.casefile.specs.Content.{ContentSound, content-sound}
 use Rattle.calls.specs.Answer.{Does}
-use Rattle.desk.specs.Desk.{Desk, Call, Question, Reply, wholeTable}
+use Rattle.desk.specs.Desk.{Desk, Call, Reply, wholeTable}
 use Rattle.desk.specs.Case.{tableSize}
 use Rattle.desk.specs.Refused.{examined, accepted}
-use Rattle.desk.specs.Perform.{After, answer, moved}
+use Rattle.desk.specs.Perform.{After, answer, moved, lentLeft}
 use Rattle.desk.specs.RefusedLaws.{Unspoiled, perform-refused, perform-accepted, other-accepted, accepted-content, refused-refusal}
 use Rattle.desk.specs.RulesLaws.{long-enough}
 use Rattle.exports.specs.declared.Answer.{Answer}
@@ -76,7 +76,7 @@ told k d x e a p q = record { answer = q ∙ sym (ap (λ (r : After). numbers (r
 -- ---- show
 
 abbrev show : Call
-show = Call.Ask Question.Show
+show = Call.Show
 
 shown-same : (b b' : List ℕ) (d : Desk) → Does show d (Reply.Shown b) d → Does show d (Reply.Shown b') d → b ≡ b'
 shown-same b b' d p q = let r : Reply.Shown b ≡ Reply.Shown b' = sym (ap (λ (r : After). r .reply) p) ∙ ap (λ (r : After). r .reply) q in cc
@@ -100,7 +100,7 @@ module _ (d : Desk) (c : Content) (e : examined show d ≡ content c) where
       go false = omega (arith, sound .entries-most, long-enough d (held .long) .first-long)
 
   whole-shown : Does show d (Reply.Shown (take (tableSize c) (wholeTable d))) d
-  unfolding answer moved
+  unfolding answer moved lentLeft
   whole-shown = perform-accepted show d c e
 
 -- the length of what show answered says whether it was refused

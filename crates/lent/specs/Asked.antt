@@ -7,6 +7,9 @@ use Rattle.examination.specs.Read.{deskOf}
 use Rattle.calls.specs.Answer.{Does}
 use Rattle.desk.specs.Desk.{Call, Question, Reply}
 
--- the question q on the desk of these four answers x and leaves that desk, and the standing is unchanged by it
+-- the call k on the desk of these four answers x and leaves that desk, and the standing is unchanged by it; so the question q
+abbrev pub ReadsOnly : Call → Standing → List ℕ → List ℕ → List ℕ → Reply → Standing → Type 0
+ReadsOnly k s store first second x after = Does k (deskOf s store first second) x (deskOf after store first second) × (after ≡ s)
+
 abbrev pub AsksOnly : Question → Standing → List ℕ → List ℕ → List ℕ → Reply → Standing → Type 0
-AsksOnly q s store first second x after = Does (Call.Ask q) (deskOf s store first second) x (deskOf after store first second) × (after ≡ s)
+AsksOnly q = ReadsOnly (Call.Ask q)

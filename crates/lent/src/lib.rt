@@ -10,7 +10,7 @@ use operations::Element;
 ghost use Rattle.desk.specs.Desk.{Call, Question, Reply};
 ghost use Rattle.examination.specs.Read.{deskOf};
 ghost use Rattle.calls.specs.Answer.{Does, stepReply, openReply, elementReply, shareReply, judgeReply};
-ghost use Rattle.lent.specs.Asked.{AsksOnly};
+ghost use Rattle.lent.specs.Asked.{ReadsOnly, AsksOnly};
 
 // ---- the calls that move the standing on
 
@@ -44,7 +44,7 @@ pub fn step(s: &mut Standing, store: &[u8], first: &mut [u8], second: &mut [u8])
 
 // The first N1·N2 bytes of the whole table; an empty part where the desk is refused.
 pub fn show<'a>(s: &mut Standing, store: &[u8], first: &'a [u8], second: &'a [u8]) -> &'a [u8]
-    ensures { λ r. ⌜ AsksOnly Question.Show
+    ensures { λ r. ⌜ ReadsOnly Call.Show
         (now (s .entry)) (now (store .entry)) (now (first .entry)) (now (second .entry)) (Reply.Shown (now r)) (now (s .exit)) ⌝ }
 {
     calls::show(*s, store, first, second)

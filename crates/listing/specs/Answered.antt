@@ -18,11 +18,11 @@ use Rattle.rounds.specs.Table.{tableOf}
 use Rattle.rounds.specs.Round.{cell-lt}
 use Rattle.desk.specs.Desk.{Desk, Question, Call, Reply}
 use Rattle.desk.specs.Case.{ops, model1, model2, N1, N2, tableSize, modelIn, formulaIn, roundIn, entryAt, tableBytes, IsT}
-use Rattle.desk.specs.Perform.{asked}
+use Rattle.desk.specs.Perform.{asked, shownTo}
 use Rattle.desk.specs.Run.{run, LastOpening, answersSince, roundAfter}
 use Rattle.desk.specs.RefusedLaws.{open-accepted}
 use Rattle.desk.specs.Listed.{opening-T}
-use Rattle.desk.specs.Demand3.{Claim, listed}
+use Rattle.desk.specs.Demand3.{Claim, listed, ranges, whole-next, score-next}
 use Rattle.listing.specs.Text.{roundsWord, scoreWord, lastItem, each, rowsText, tableText, formulaText, formulaLine, formulasText, acceptedText, listingText}
 use Rattle.listing.specs.Writing.{each-cong}
 use Rattle.listing.specs.Entries.{rows-cong}
@@ -31,7 +31,7 @@ use Rattle.listing.specs.Settled.{listing-is}
 -- the answers of a desk that is settled: its round, the table that it shows, its score, and the formulas' values on models 1 and 2
 pub record Answers (c : Content) (d : Desk) (T : ℕ) (table : List ℕ) (e : ℕ) (v₁ v₂ : ℕ → ℕ) : Type 0 where
   pub round : d .standing .round ≡ T
-  pub show : asked Question.Show d ≡ Reply.Shown table
+  pub show : shownTo d ≡ Reply.Shown table
   pub score : asked Question.Score d ≡ Reply.Element e
   pub whole1 : (f : ℕ) → f < length (c .formulas) → asked (Question.Whole f 1) d ≡ Reply.Element (v₁ f)
   pub whole2 : (f : ℕ) → f < length (c .formulas) → asked (Question.Whole f 2) d ≡ Reply.Element (v₂ f)
@@ -62,17 +62,17 @@ module _ (c : Content) (T : ℕ) (answers : List Reply) (d : Desk) (w : Claim c 
   round-T : d .standing .round ≡ T
   round-T = w .round-is ∙ at-T
 
-  show-T : asked Question.Show d ≡ Reply.Shown (tableBytes c (roundIn c T))
+  show-T : shownTo d ≡ Reply.Shown (tableBytes c (roundIn c T))
   show-T = rw at-T at (w .show-next)
 
   score-T : asked Question.Score d ≡ Reply.Element (score (ops c) (model1 c) (model2 c) (roundIn c T))
-  score-T = rw at-T at (w .score-next)
+  score-T = rw at-T at (score-next w)
 
   whole-1 : (f : ℕ) → f < length (c .formulas) → asked (Question.Whole f 1) d ≡ Reply.Element (wholeValue (ops c) (modelIn c 1) (formulaIn c f))
-  whole-1 f l = w .whole-next f 1 (w .ranges (Question.Whole f 1) ∙ rw (lt-ltb f (length (c .formulas)) l))
+  whole-1 f l = whole-next w f 1 (ranges w (Question.Whole f 1) ∙ rw (lt-ltb f (length (c .formulas)) l))
 
   whole-2 : (f : ℕ) → f < length (c .formulas) → asked (Question.Whole f 2) d ≡ Reply.Element (wholeValue (ops c) (modelIn c 2) (formulaIn c f))
-  whole-2 f l = w .whole-next f 2 (w .ranges (Question.Whole f 2) ∙ rw (lt-ltb f (length (c .formulas)) l))
+  whole-2 f l = whole-next w f 2 (ranges w (Question.Whole f 2) ∙ rw (lt-ltb f (length (c .formulas)) l))
 
   answers-T : Answers c d T (tableBytes c (roundIn c T)) (score (ops c) (model1 c) (model2 c) (roundIn c T)) (λ f. wholeValue (ops c) (modelIn c 1) (formulaIn c f)) (λ f. wholeValue (ops c) (modelIn c 2) (formulaIn c f))
   answers-T = record { round = round-T; show = show-T; score = score-T; whole1 = whole-1; whole2 = whole-2 }

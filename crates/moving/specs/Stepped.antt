@@ -6,7 +6,7 @@
 use Prim.Native.Nat.{ℕ, _*_, _-_, _≤_, _<_}
 use mathlib.Core.Path.{_≡_, refl, ap, _∙_}
 use mathlib.Core.Bool.{Bool, true, false, cond, _||_}
-use mathlib.Core.List.{List}
+use mathlib.Core.List.{List, []}
 use native.Mathlib.Omega.{arith}
 use lib.ListN.{length, getD, take}
 use Rattle.theory.specs.Part.{modelOf}
@@ -20,8 +20,9 @@ use Rattle.casefile.specs.Conditions.{Placed}
 use Rattle.rounds.specs.Table.{tableOf, rowWritten, rowChanged, Shaped}
 use Rattle.desk.specs.Desk.{Desk, Standing, Call, Reply}
 use Rattle.desk.specs.Case.{latticeSize, model1, model2, N1, N2, operator, tableSize}
-use Rattle.desk.specs.Moved.{shownTable, changedNow, movedOn, worked, stepped, stepAnswer}
-use Rattle.desk.specs.Perform.{After, answer, moved}
+use Rattle.desk.specs.View.{shownTable}
+use Rattle.desk.specs.Moved.{changedNow, movedOn, worked, stepped, stepAnswer}
+use Rattle.desk.specs.Perform.{After, answer, moved, lentLeft}
 use Rattle.desk.specs.RefusedLaws.{in-store, perform-accepted}
 use Rattle.examination.specs.Answer.{Does}
 use Rattle.examination.specs.Held.{HeldDesk}
@@ -88,13 +89,13 @@ module _ {d : Desk} {z : Sizes} {t : List ℕ} (h : HeldDesk d z t) where
   row-within = rw (h .kept .rules .size1) (h .kept .rules .row-below)
 
   abbrev afterStep : Desk → After
-  afterStep e = record { reply = stepAnswer (e .standing); desk = e }
+  afterStep e = record { reply = stepAnswer (e .standing); desk = e; lent = [] }
 
   abbrev unmoved : Reply → After
-  unmoved x = record { reply = x; desk = d }
+  unmoved x = record { reply = x; desk = d; lent = [] }
 
   held-step : (e : Desk) → stepped (h .case .holds) d ≡ e → Does Call.Step d (stepAnswer (e .standing)) e
-  unfolding answer moved
+  unfolding answer moved lentLeft
   held-step e p = perform-accepted Call.Step d (h .case .holds) (in-store Call.Step d (h .case .holds) refl (h .kept)) ∙ ap afterStep p
 
   pub settled-step : d .standing .settled ≡ true → Does Call.Step d (Reply.Settled (d .standing .round)) d

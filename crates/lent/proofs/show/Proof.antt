@@ -5,7 +5,7 @@ use Rattle.lent.proofs.Walk.{Given, Item, ‵, raw, some, later, _⊛_,
 use Rattle.lent.proofs.Walk.{look, look-raw, init, forget, stop, hop, from, load, of-opd, and-then, no-more, assigns, land, returns, enter, alloc1, alloc0, params1, pass1, pass0, free1, free0}
 use Rattle.lent.proofs.Walk.{St, sv, Bytes, Rec, at, ref, Slice, slice, seen, borrowed, slice-twice, slice-typed, standing-tells, standing-typed, standing-makes}
 use Rattle.lent.proofs.Walk.{RattleType, owns, Is, shows, u8, RefT, MutRef, ptr-vals, mut-tells, slice-vals, shr-slice-tells, opens, closes, owned, facts, peeks, heard, nothing, spelt, onEntry, Args, Vals, Meets, tripleOf, Contract, Triple, calls-at, ensured, lasts, entered, cited, says, Stays, stay-none-slice, stay-ref, walkOf, goes-none-slice, goes-ref, Walks, ends-at, walked, walk-meets, yes}
-use Rattle.desk.specs.Desk.{Call, Question, Reply}
+use Rattle.desk.specs.Desk.{Call, Reply}
 use Rattle.examination.specs.Read.{deskOf}
 use Rattle.calls.specs.Answer.{Does}
 use Rattle.examination.specs.declared.Standing.{Standing}
@@ -69,7 +69,7 @@ module _ {M : Type 1} (𝓤 : URA M) (H : Heap 𝓤) (A : Atoms 𝓤) (W : Given
 
   -- what `calls::show` says of its result
   abbrev Says : RefT (List ℕ) → Type 0
-  Says r = Does (Call.Ask Question.Show) (deskOf h (x1 .now) (x2 .now) (x3 .now)) (Reply.Shown (r .now)) (deskOf h (x1 .now) (x2 .now) (x3 .now))
+  Says r = Does Call.Show (deskOf h (x1 .now) (x2 .now) (x3 .now)) (Reply.Shown (r .now)) (deskOf h (x1 .now) (x2 .now) (x3 .now))
 
   said : (r : RefT (List ℕ)) → ent 𝓤 (ensured 𝓤 H A core.ended (core.clauses 𝓤 H A at-mem run) κs′ given′ tt r) (fact 𝓤 (Says r))
   said r = exE 𝓤 _ (λ ws. snd∗ 𝓤 (sem 𝓤 H A (lasts core.ended κs′ given′ ws)) (fact 𝓤 (Says r)))

@@ -1,7 +1,7 @@
 -- `asking::show` meets its contract: by the examination, then a part of the whole table.
 use mathlib.Core.Path.{refl, sym}
 use lib.Seq.{length-take-le}
-use Rattle.desk.specs.Desk.{Desk, Call, Question}
+use Rattle.desk.specs.Desk.{Desk, Call}
 use Rattle.examination.specs.Read.{deskOf}
 use Rattle.examination.specs.Held.{HeldDesk, when-held, refused-call}
 use Rattle.asking.specs.Questions.{whole-fits, held-show}
@@ -23,7 +23,7 @@ slice-aggregate-result-2 c =
     sym (length-take-le _ (w .result .now) (rw (c .before .table-size .ensures .0) (whole-fits (held z) _ (w .ensures))))
 
 returns : tie.Need-returns
-returns c = refused-call (Call.Ask Question.Show) (desk (c .before .before .before)) _ _ _ refl (c .before .before .before .examine .ensures) (c .before .enum-told .given .1)
+returns c = refused-call Call.Show (desk (c .before .before .before)) _ _ _ refl (c .before .before .before .examine .ensures) (c .before .enum-told .given .1)
 
 returns-2 : tie.Need-returns-2
 returns-2 c =

@@ -1,0 +1,23 @@
+-- All that a question depends on: its refusals after 12, its answer, and what it leaves in the buffers that it is lent.
+-- Rests on Desk, Case and rounds' Table.
+--   shownTable: the table that a desk shows, entry by entry
+--   View: the content, the round, whether it is settled, and the table shown; viewOf: those of a desk whose store holds c
+use Prim.Native.Nat.{ℕ}
+use mathlib.Core.Bool.{Bool}
+use Rattle.casefile.specs.Reading.{Content}
+use Rattle.rounds.specs.Table.{tableOf}
+use Rattle.desk.specs.Desk.{Desk, wholeTable}
+use Rattle.desk.specs.Case.{N2}
+
+-- the shown table, entry by entry
+abbrev pub shownTable : Content → Desk → ℕ → ℕ → ℕ
+shownTable c d = tableOf (wholeTable d) (N2 c)
+
+pub record View : Type 0 where
+  pub holds : Content
+  pub round : ℕ
+  pub settled : Bool
+  pub shown : ℕ → ℕ → ℕ
+
+abbrev pub viewOf : Content → Desk → View
+viewOf c d = record { holds = c; round = d .standing .round; settled = d .standing .settled; shown = shownTable c d }
