@@ -3,12 +3,10 @@ use Prim.Native.Nat.{ℕ}
 use mathlib.Core.Path.{_≡_}
 use mathlib.Core.List.{List}
 use lib.ListN.{length, getD}
-use Rattle.theory.specs.Part.{opsOf}
-use Rattle.operations.specs.Table.{opsIn}
 use Rattle.casefile.specs.declared.Sizes.{Sizes}
 use Rattle.casefile.specs.declared.CaseCheck.{CaseCheck}
 use Rattle.casefile.specs.declared.CaseCheck.the-variants.{Refused, Accepted}
-use Rattle.lattice.specs.Answer.{boundsOf}
+use Rattle.lattice.specs.Answer.{boundsOf, CodesOf}
 use Rattle.casefile.specs.Reading.{Content, CaseReading, caseReading, refused, content}
 
 -- the lattice and the sizes of a content
@@ -26,8 +24,7 @@ abbrev pub caseAnswer : CaseReading → CaseCheck
 caseAnswer (refused r) = Refused r
 caseAnswer (content c) = Accepted (sizesOf c)
 
--- The answer r is that of the case b, and where b is accepted, the tables t hold the operations of its lattice. After a refusal the
--- tables are free.
-pub record CaseAnswered (b : List ℕ) (r : CaseCheck) (t : List ℕ) : Type 0 where
+-- The answer r is that of the case b, and where b is accepted, the words w are the codes of its lattice. After a refusal they are free.
+pub record CaseAnswered (b : List ℕ) (r : CaseCheck) (w : List ℕ) : Type 0 where
   pub answer : r ≡ caseAnswer (caseReading b)
-  pub tables : (c : Content) → caseReading b ≡ content c → opsIn t (boundsOf (c .lattice)) ≡ opsOf (c .lattice)
+  pub codes : (c : Content) → caseReading b ≡ content c → CodesOf (c .lattice) w

@@ -9,13 +9,12 @@ use mathlib.Core.List.{List}
 use borrow.Author.Tests.{eq-eqb, ne-eqb}
 use lib.Dec.{ltb, eqb}
 use lib.ListN.{length, getD}
-use Rattle.theory.specs.Part.{LatticePart, opsOf}
-use Rattle.operations.specs.Table.{opsIn}
-use Rattle.operations.specs.declared.Lattice.{Lattice}
+use Rattle.theory.specs.Part.{LatticePart}
+use Rattle.elements.specs.declared.Lattice.{Lattice}
 use Rattle.refusal.specs.declared.Refusal.{Refusal}
 use Rattle.refusal.specs.declared.Refusal.the-variants.{CaseSize, Directory, PartPlace, BadModel}
 use Rattle.lattice.specs.Reading.{LatticeReading, latticeReading}
-use Rattle.lattice.specs.Answer.{boundsOf, latticeAnswer}
+use Rattle.lattice.specs.Answer.{boundsOf, latticeAnswer, CodesOf}
 use Rattle.model.specs.Reading.{modelTest, modelAnswer}
 use Rattle.model.specs.declared.ModelCheck.{ModelCheck}
 use Rattle.casefile.specs.declared.CaseCheck.{CaseCheck}
@@ -74,7 +73,7 @@ module _ (b : List ℕ) where
   -- ---- the answers of the check
 
   refused-answered : (f : Refusal) (t : List ℕ) → caseReading b ≡ refused f → CaseAnswered b (Refused f) t
-  refused-answered f t e = record { answer = rw e refl; tables = λ c g. absurd (refused-content (sym e ∙ g)) }
+  refused-answered f t e = record { answer = rw e refl; codes = λ c g. absurd (refused-content (sym e ∙ g)) }
 
   pub size-answered : (t : List ℕ) → sizeTest b ≡ false → CaseAnswered b (Refused CaseSize) t
   unfolding caseReading
@@ -93,8 +92,8 @@ module _ (b : List ℕ) where
       let q = placed-reading b p in
       record {
         answer = h .answer ∙ parts-same (latticeReading (partAt b 0)) ∙ ap caseAnswer (sym q);
-        tables = λ c e. go c (content-of (partAt b 0) (partAt b 1) (partAt b 2) fs c (sym q ∙ e));
+        codes = λ c e. go c (content-of (partAt b 0) (partAt b 1) (partAt b 2) fs c (sym q ∙ e));
       }
     where
-      go : (c : Content) → ContentOf (partAt b 0) (partAt b 1) (partAt b 2) fs c → opsIn t (boundsOf (c .lattice)) ≡ opsOf (c .lattice)
-      go c k = h .tables (c .lattice) (let e : partAt b 0 ≡ c .latticeBytes = cc (k .is) in rw e (k .reads .lattice-read))
+      go : (c : Content) → ContentOf (partAt b 0) (partAt b 1) (partAt b 2) fs c → CodesOf (c .lattice) t
+      go c k = h .codes (c .lattice) (let e : partAt b 0 ≡ c .latticeBytes = cc (k .is) in rw e (k .reads .lattice-read))

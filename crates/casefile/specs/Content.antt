@@ -11,6 +11,7 @@ use lib.ListN.{length, getD}
 use Rattle.theory.specs.Lattice.{Laws}
 use Rattle.theory.specs.Model.{Valued}
 use Rattle.theory.specs.Part.{opsOf, modelOf, ModelShape}
+use Rattle.order.specs.Sound.{LatticeSound}
 use Rattle.lattice.specs.Accepted.{accepted-is-lattice, accepted-sound}
 use Rattle.model.specs.Places.{prod-le}
 use Rattle.model.specs.Accepted.{accepted-shape, accepted-valued}
@@ -22,6 +23,7 @@ use Rattle.casefile.specs.Accepted.{parts-length, accepted-case}
 use Rattle.casefile.specs.Conditions.{PartsRead, FormulasRead}
 
 pub record ContentSound (c : Content) : Type 0 where
+  pub lattice-sound : LatticeSound (c .lattice)
   pub laws : Laws (opsOf (c .lattice))
   -- n is at most 64; a table has 1 to 4,096 entries
   pub elements-most : c .lattice .size ≤ 64
@@ -43,6 +45,7 @@ content-sound b c e = go (accepted-case b c e .reads)
         let m1 = accepted-shape (c .lattice .size) (c .model1Bytes) (r .model1-read) in
         let m2 = accepted-shape (c .lattice .size) (c .model2Bytes) (r .model2-read) in
         record {
+          lattice-sound = rw (s .0) (s .1);
           laws = accepted-is-lattice (c .latticeBytes) (c .lattice) (r .lattice-read);
           elements-most = rw (s .0) (s .1 .formed .most);
           entries-some = mul-pos (m1 .some) (m2 .some);

@@ -8,9 +8,8 @@ use mathlib.Core.Bool.{Bool, true, false, cond, _&&_}
 use mathlib.Core.List.{List}
 use lib.Dec.{ltb, leb, eqb}
 use lib.ListN.{length, set}
-use Rattle.theory.specs.Part.{LatticePart, opsOf}
-use Rattle.operations.specs.Table.{opsIn}
-use Rattle.operations.specs.declared.Lattice.{Lattice}
+use Rattle.theory.specs.Part.{LatticePart}
+use Rattle.elements.specs.declared.Lattice.{Lattice}
 use Rattle.casefile.specs.declared.CaseCheck.{CaseCheck}
 use Rattle.casefile.specs.declared.CaseCheck.the-variants.{Refused, Accepted}
 use Rattle.casefile.specs.declared.FormulasCheck.{FormulasCheck}
@@ -18,7 +17,7 @@ use Rattle.casefile.specs.declared.FormulasCheck.the-variants.{RefusedAt
 use Rattle.theory.specs.Lists.{written}
 use Rattle.refusal.specs.declared.Refusal.the-variants.{BadModel, BadFormula}
 use Rattle.lattice.specs.Reading.{accepted, latticeReading}
-use Rattle.lattice.specs.Answer.{boundsOf, latticeAnswer}
+use Rattle.lattice.specs.Answer.{latticeAnswer, CodesOf}
 use Rattle.lattice.specs.declared.LatticeCheck.{LatticeCheck}
 use Rattle.model.specs.declared.ModelCheck.{ModelCheck}
 use Rattle.model.specs.Reading.{modelAnswer}
@@ -79,10 +78,10 @@ afterChecked b (LatticeCheck.Accepted l) = modelsAnswer b l
 abbrev pub partsAnswer : List ℕ → CaseCheck
 partsAnswer b = afterChecked b (latticeAnswer (latticeReading (partAt b 0)))
 
--- the answer r and the tables t that the check of the parts gives
-pub record PartsAnswered (b : List ℕ) (r : CaseCheck) (t : List ℕ) : Type 0 where
+-- the answer r and the codes w that the check of the parts gives
+pub record PartsAnswered (b : List ℕ) (r : CaseCheck) (w : List ℕ) : Type 0 where
   pub answer : r ≡ partsAnswer b
-  pub tables : (P : LatticePart) → latticeReading (partAt b 0) ≡ accepted P → opsIn t (boundsOf P) ≡ opsOf P
+  pub codes : (P : LatticePart) → latticeReading (partAt b 0) ≡ accepted P → CodesOf P w
 
 -- ---- the writer
 

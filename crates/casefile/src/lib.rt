@@ -1,10 +1,11 @@
 // Cases: the directory, the check of all parts, and the gapless case of the parts.
 mod writer;
 
+use elements::Codes;
+use elements::Lattice;
 use formula::FormulaCheck;
 use lattice::LatticeCheck;
 use model::ModelCheck;
-use operations::Lattice;
 use refusal::Refusal;
 ghost use mathlib.Core.Path.{_≡_};
 ghost use Prim.Native.Nat.{_+_, _-_, _≤_, _<_};
@@ -45,7 +46,7 @@ fn word(bytes: &[u8], at: usize) -> usize
     requires { ⌜ at + 1 < length (now bytes) ⌝ }
     ensures { λ r. ⌜ (r ≡ wordAt (now (bytes .entry)) at) × (r < 65536) ⌝ }
 {
-    operations::index(bytes[at]) + 256 * operations::index(bytes[at + 1])
+    elements::index(bytes[at]) + 256 * elements::index(bytes[at + 1])
 }
 
 // Where part i starts.
@@ -53,7 +54,7 @@ pub fn part_start(bytes: &[u8], i: u8) -> usize
     requires { ⌜ HasDirectory (now bytes) × (i < partCount (now bytes)) ⌝ }
     ensures { λ r. ⌜ (r ≡ partStart (now (bytes .entry)) i) × (r < 65536) ⌝ }
 {
-    word(bytes, 1 + 4 * operations::index(i))
+    word(bytes, 1 + 4 * elements::index(i))
 }
 
 // How many bytes part i has.
@@ -61,7 +62,7 @@ pub fn part_size(bytes: &[u8], i: u8) -> usize
     requires { ⌜ HasDirectory (now bytes) × (i < partCount (now bytes)) ⌝ }
     ensures { λ r. ⌜ (r ≡ partSize (now (bytes .entry)) i) × (r < 65536) ⌝ }
 {
-    word(bytes, 3 + 4 * operations::index(i))
+    word(bytes, 3 + 4 * elements::index(i))
 }
 
 // Where part i ends: a sum that may be past 16 bits.
@@ -102,7 +103,7 @@ fn right_directory(bytes: &[u8]) -> bool
     if 11 < count {
         return false;
     }
-    1 + 4 * operations::index(count) <= bytes.len()
+    1 + 4 * elements::index(count) <= bytes.len()
 }
 
 // Part i is not empty, starts at `from` or later, and ends within the case.
@@ -125,7 +126,7 @@ fn first_misplaced(bytes: &[u8]) -> u8
     ensures { λ r. ⌜ r ≡ misplaced (now (bytes .entry)) ⌝ }
 {
     let count = bytes[0];
-    let mut from = 1 + 4 * operations::index(count);
+    let mut from = 1 + 4 * elements::index(count);
     for i in 0..count {
         if !well_placed(bytes, i, from) {
             return i;
@@ -209,20 +210,20 @@ fn check_models(bytes: &[u8], l: Lattice) -> CaseCheck
 }
 
 // All parts of a case whose directory is right.
-fn check_parts(bytes: &[u8], t: &mut [u8; 12352]) -> CaseCheck
+fn check_parts(bytes: &[u8], w: &mut Codes) -> CaseCheck
     requires { ⌜ Placed (now bytes) ⌝ }
-    ensures { λ r. ⌜ PartsAnswered (now (bytes .entry)) r (now (t .exit)) ⌝ }
+    ensures { λ r. ⌜ PartsAnswered (now (bytes .entry)) r (now (w .exit)) ⌝ }
 {
-    match lattice::check(part(bytes, 0), t) {
+    match lattice::check(part(bytes, 0), w) {
         LatticeCheck::Refused(f) => CaseCheck::Refused(f),
         LatticeCheck::Accepted(l) => check_models(bytes, l),
     }
 }
 
-// The refusal that a case gets, or what it holds. The tables of an accepted case's lattice are left in t; after a refusal t holds
+// The refusal that a case gets, or what it holds. The codes of an accepted case's lattice are left in w; after a refusal w holds
 // anything. To check a store, lend its first 24,576 bytes.
-pub fn check(bytes: &[u8], t: &mut [u8; 12352]) -> CaseCheck
-    ensures { λ r. ⌜ CaseAnswered (now (bytes .entry)) r (now (t .exit)) ⌝ }
+pub fn check(bytes: &[u8], w: &mut Codes) -> CaseCheck
+    ensures { λ r. ⌜ CaseAnswered (now (bytes .entry)) r (now (w .exit)) ⌝ }
 {
     if !right_size(bytes) {
         return CaseCheck::Refused(Refusal::CaseSize);
@@ -234,7 +235,7 @@ pub fn check(bytes: &[u8], t: &mut [u8; 12352]) -> CaseCheck
     if i < bytes[0] {
         return CaseCheck::Refused(Refusal::PartPlace(i));
     }
-    check_parts(bytes, t)
+    check_parts(bytes, w)
 }
 
 // Writes the gapless case of the parts of an accepted case, and says how many bytes it has. The bytes after it are kept.

@@ -34,8 +34,8 @@ fn put_pair(out: &mut [u8], i: u8, start: usize, size: usize)
     requires { ⌜ (4 + 4 * i < length (now out)) × (start < 65536) × (size < 65536) ⌝ }
     ensures { λ _. ⌜ now (out .exit) ≡ withPair (now (out .entry)) i start size ⌝ }
 {
-    put_word(out, 1 + 4 * operations::index(i), start);
-    put_word(out, 3 + 4 * operations::index(i), size);
+    put_word(out, 1 + 4 * elements::index(i), start);
+    put_word(out, 3 + 4 * elements::index(i), size);
 }
 
 // Writes the pairs of offset and length, for parts without gaps.
@@ -44,7 +44,7 @@ pub fn write_pairs(bytes: &[u8], out: &mut [u8])
     ensures { λ _. ⌜ now (out .exit) ≡ withPairs (now (bytes .entry)) (now (out .entry)) ⌝ }
 {
     let count = bytes[0];
-    let mut at = 1 + 4 * operations::index(count);
+    let mut at = 1 + 4 * elements::index(count);
     for i in 0..count {
         let size = part_size(bytes, i);
         put_pair(out, i, at, size);
@@ -58,7 +58,7 @@ pub fn write_parts(bytes: &[u8], out: &mut [u8]) -> usize
     ensures { λ r. ⌜ (r ≡ length (gaplessOf (now (bytes .entry)))) × (now (out .exit) ≡ withParts (now (bytes .entry)) (now (out .entry))) ⌝ }
 {
     let count = bytes[0];
-    let mut at = 1 + 4 * operations::index(count);
+    let mut at = 1 + 4 * elements::index(count);
     for i in 0..count {
         let p = part(bytes, i);
         copy(p, out, at);

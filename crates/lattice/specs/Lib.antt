@@ -1,17 +1,26 @@
 -- The lattice part. Definitions first, then the theorems on them.
 -- ---- what a reader must believe
+-- the panel lattice
 pub mod Panel
+-- which refusal a part gets, or what it gives
 pub mod Reading
+-- what the check answers for it
 pub mod Answer
+-- a distributive De Morgan lattice
 pub mod DeMorgan
 -- ---- theorems
+-- exactly the distributive De Morgan lattices are accepted
 pub mod Accepted
+-- what a caller learns from the answer
 pub mod Caller
+-- the panel lattice is accepted
 pub mod PanelLattice
+-- the lattices of the worked examples
 pub mod Examples
 -- ---- for the code
 pub mod Form
-pub mod Tables
+pub mod Rows
+pub mod Parts
+pub mod ByWords
 pub mod Filling
-pub mod ByCodes
 pub mod Check

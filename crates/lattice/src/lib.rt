@@ -1,25 +1,28 @@
-// The lattice part: which refusal it gets, or none, and its operations left in tables.
+// The lattice part by words: which refusal it gets, or none, and its operations left in 128 words.
 mod panel;
+mod places;
+mod rows;
+mod tests;
 
-use bounds::Found;
-use operations::Element;
-use operations::Lattice;
+use elements::Codes;
+use elements::Element;
+use elements::Lattice;
 use refusal::Refusal;
-use rules::Rule;
 ghost use mathlib.Core.Path.{_≡_};
 ghost use mathlib.Core.Bool.{true};
-ghost use Prim.Native.Nat.{_<_};
-ghost use lib.ListN.{length};
-ghost use Rattle.theory.specs.Simulation.{one};
-ghost use Rattle.order.specs.Ordered.{Ordered};
+ghost use Prim.Native.Nat.{_+_, _<_, _≤_};
+ghost use lib.Dec.{eqb};
+ghost use lib.ListN.{length, getD};
+ghost use Rattle.theory.specs.Lists.{Filled};
+ghost use Rattle.theory.specs.Part.{element};
+ghost use Rattle.theory.specs.Test.{allBelow};
 ghost use Rattle.lattice.specs.Reading.{isPanel, latticeOf, latticeForm, latticeReading, partReading};
-ghost use Rattle.lattice.specs.Form.{PanelOrder};
+ghost use Rattle.lattice_codes.specs.Tests.{downOf};
 ghost use Rattle.lattice.specs.Answer.{Answered};
-ghost use Rattle.lattice.specs.Tables.{FilledTo};
-ghost use Rattle.lattice.specs.Filling.{BoundsFilled};
-ghost use Rattle.lattice.specs.ByCodes.{DistributiveIn};
+ghost use Rattle.lattice.specs.ByWords.{latticeBy, reasonBy};
+ghost use Rattle.lattice.specs.Filling.{wordsBy, antitonePair, antitone, involutive, LatticeWords};
 
-// What a lattice part gets: a refusal, or its size and bounds.
+// What a lattice part gets: a refusal, or its size, top and bottom.
 pub enum LatticeCheck {
     Refused(Refusal),
     Accepted(Lattice),
@@ -58,7 +61,7 @@ fn has_form(part: &[u8]) -> bool
         return true;
     }
     let limit = part[0];
-    let n = operations::index(limit);
+    let n = elements::index(limit);
     if n < 1 {
         return false;
     }
@@ -68,24 +71,10 @@ fn has_form(part: &[u8]) -> bool
     if part.len() != 1 + n + n * n {
         return false;
     }
-    if !operations::below(part, 1, n, limit) {
+    if !elements::below(part, 1, n, limit) {
         return false;
     }
-    operations::below(part, 1 + n, n * n, 2)
-}
-
-// 1 where a is at or below b in the part, else 0; `order` is the panel's, which is lent, as a copy of it at each entry takes longer than the rest.
-fn order_entry(part: &[u8], order: &[u8; 729], a: Element, b: Element) -> u8
-    requires { ⌜ (latticeForm (now part) ≡ true) × PanelOrder (now order) × (a .0 < latticeOf (now part) .size) × (b .0 < latticeOf (now part) .size) ⌝ }
-    ensures { λ r. ⌜ r ≡ one (latticeOf (now (part .entry)) .order (a .0) (b .0)) ⌝ }
-{
-    let i = operations::index(a.0);
-    let j = operations::index(b.0);
-    if is_panel(part) {
-        return order[i * 27 + j];
-    }
-    let n = operations::index(part[0]);
-    part[1 + n + (i * n + j)]
+    elements::below(part, 1 + n, n * n, 2)
 }
 
 // Not a, from the part.
@@ -96,117 +85,208 @@ fn complement_entry(part: &[u8], a: Element) -> Element
     if is_panel(part) {
         return Element(26 - a.0);
     }
-    let i = operations::index(a.0);
+    let i = elements::index(a.0);
     Element(part[1 + i])
 }
 
-// ---- filling the tables. `entries` is asked where a proof needs the length of a lent array
-
-fn entries(t: &[u8]) -> usize
-    ensures { λ r. ⌜ r ≡ length (now (t .entry)) ⌝ }
+// The words of the part's order.
+fn fill_order(part: &[u8], down: &mut [u64; 64])
+    requires { ⌜ latticeForm (now part) ≡ true ⌝ }
+    ensures { λ _. ⌜ Filled (downOf (latticeOf (now (part .entry)))) (latticeOf (now (part .entry)) .size) (now (down .exit)) ⌝ }
 {
-    t.len()
+    if is_panel(part) {
+        let order = panel::ORDER;
+        rows::fill(&order, 0, 27, down);
+        return;
+    }
+    let n = elements::index(part[0]);
+    rows::fill(part, 1 + n, n, down);
 }
 
-fn fill_order(part: &[u8], t: &mut [u8; 12352])
-    requires { ⌜ latticeForm (now part) ≡ true ⌝ }
-    ensures { λ _. ⌜ FilledTo (latticeOf (now (part .entry))) 4096 (now (t .exit)) ⌝ }
+// ---- the tests
+
+// The part is a distributive lattice.
+fn is_lattice(down: &[u64; 64], codes: &[u64; 64], places: &[u8; 256], n: usize, mask: u64) -> bool
+    requires { ⌜ n ≤ 64 ⌝ }
+    ensures { λ r. ⌜ r ≡ latticeBy n (now (down .entry)) (now (codes .entry)) mask ⌝ }
 {
-    let _ = entries(t);
-    let n = size(part);
-    let order = panel::ORDER;
-    for k in 0..4096 {
-        t[k] = order_entry(
-            part,
-            &order,
-            bounds::element_of(n, k / 64),
-            bounds::element_of(n, k),
-        );
+    if !tests::is_ordered(down, codes, n) {
+        return false;
+    }
+    if !tests::is_closed(codes, places, n, mask, true) {
+        return false;
+    }
+    tests::find(codes, places, n, 0) < n
+}
+
+// Why it is not one.
+fn reason(down: &[u64; 64], places: &[u8; 256], n: usize) -> Refusal
+    requires { ⌜ n ≤ 64 ⌝ }
+    ensures { λ r. ⌜ r ≡ reasonBy n (now (down .entry)) ⌝ }
+{
+    if !tests::is_ordered(down, down, n) {
+        return Refusal::NoPartialOrder;
+    }
+    let all = tests::all_of(n);
+    if !tests::is_closed(down, places, n, all, false) {
+        return Refusal::NoMeetOrJoin;
+    }
+    if tests::find(down, places, n, all) < n {
+        return Refusal::NotDistributive;
+    }
+    Refusal::NoMeetOrJoin
+}
+
+// ---- the words of an accepted part
+
+// Any number as an element.
+fn element_of(n: u8, k: usize) -> Element
+    ensures { λ r. ⌜ r .0 ≡ element n k ⌝ }
+{
+    let r = (k % 64) as u8;
+    if r < n {
+        return Element(r);
+    }
+    Element(0)
+}
+
+// The word at place k: the code of an element, from 64 on that of its complement.
+fn word_at(part: &[u8], codes: &[u64; 64], n: u8, k: usize) -> u64
+    requires { ⌜ (latticeForm (now part) ≡ true) × (n ≡ latticeOf (now part) .size) ⌝ }
+    ensures { λ r. ⌜ r ≡ wordsBy (latticeOf (now (part .entry))) (now (codes .entry)) k ⌝ }
+{
+    let e = element_of(n, k);
+    if k < 64 {
+        let i = elements::index(e.0);
+        return codes[i];
+    }
+    let i = elements::index(complement_entry(part, e).0);
+    codes[i]
+}
+
+fn entries(words: &[u64]) -> usize
+    ensures { λ r. ⌜ r ≡ length (now (words .entry)) ⌝ }
+{
+    words.len()
+}
+
+fn fill_words(part: &[u8], codes: &[u64; 64], n: u8, w: &mut Codes)
+    requires { ⌜ (latticeForm (now part) ≡ true) × (n ≡ latticeOf (now part) .size) ⌝ }
+    ensures { λ _. ⌜ Filled (wordsBy (latticeOf (now (part .entry))) (now (codes .entry))) 128 (now (w .exit)) ⌝ }
+{
+    let _ = entries(w);
+    for k in 0..128usize {
+        w[k] = word_at(part, codes, n, k);
     }
 }
 
-// Fills the meets and the joins, and says whether each two elements have both.
-fn fill_bounds(part: &[u8], t: &mut [u8; 12352]) -> bool
-    requires { ⌜ (latticeForm (now part) ≡ true) × Ordered (latticeOf (now part)) × FilledTo (latticeOf (now part)) 4096 (now t) ⌝ }
-    ensures { λ r. ⌜ BoundsFilled (latticeOf (now (part .entry))) r (now (t .exit)) ⌝ }
+// The complement of the complement is the element.
+fn is_involutive(part: &[u8], n: u8) -> bool
+    requires { ⌜ (latticeForm (now part) ≡ true) × (n ≡ latticeOf (now part) .size) ⌝ }
+    ensures { λ r. ⌜ r ≡ allBelow n (involutive (latticeOf (now (part .entry)))) ⌝ }
 {
-    let _ = entries(t);
-    let n = size(part);
-    for k in 4096..12288 {
-        let Found::At(e) = bounds::bound_at(t, n, k) else {
+    for a in 0..n {
+        let b = complement_entry(part, Element(a));
+        let c = complement_entry(part, b);
+        if c.0 != a {
             return false;
-        };
-        t[k] = e.0;
+        }
     }
     true
 }
 
-fn fill_complements(part: &[u8], t: &mut [u8; 12352])
-    requires { ⌜ (latticeForm (now part) ≡ true) × FilledTo (latticeOf (now part)) 12288 (now t) ⌝ }
-    ensures { λ _. ⌜ FilledTo (latticeOf (now (part .entry))) 12352 (now (t .exit)) ⌝ }
+// Where a is at or below b, not-b is at or below not-a.
+fn pair_antitone(w: &Codes, a: usize, b: usize) -> bool
+    requires { ⌜ (a < 64) × (b < 64) ⌝ }
+    ensures { λ r. ⌜ r ≡ antitonePair (now (w .entry)) a b ⌝ }
 {
-    let _ = entries(t);
-    let n = size(part);
-    for k in 12288..12352 {
-        t[k] = complement_entry(part, bounds::element_of(n, k)).0;
+    let x = w[a];
+    let y = w[b];
+    let u = w[64 + b];
+    let v = w[64 + a];
+    let p = (x & y) == x;
+    let q = (u & v) == u;
+    if p {
+        return q;
     }
+    true
+}
+
+fn row_antitone(w: &Codes, n: usize, a: usize) -> bool
+    requires { ⌜ (n ≤ 64) × (a < 64) ⌝ }
+    ensures { λ r. ⌜ r ≡ allBelow n (antitonePair (now (w .entry)) a) ⌝ }
+{
+    for b in 0..n {
+        if !pair_antitone(w, a, b) {
+            return false;
+        }
+    }
+    true
+}
+
+fn is_antitone(w: &Codes, n: usize) -> bool
+    requires { ⌜ n ≤ 64 ⌝ }
+    ensures { λ r. ⌜ r ≡ antitone n (now (w .entry)) ⌝ }
+{
+    for a in 0..n {
+        if !row_antitone(w, n, a) {
+            return false;
+        }
+    }
+    true
 }
 
 // ---- the check
 
-// What is left to test of a distributive lattice whose meets and joins are in the tables: refusal 8, or n, top and bottom.
-fn check_complements(part: &[u8], t: &mut [u8; 12352]) -> LatticeCheck
-    requires { ⌜ (latticeForm (now part) ≡ true) × DistributiveIn (latticeOf (now part)) (now t) ⌝ }
-    ensures { λ r. ⌜ Answered (partReading (latticeOf (now (part .entry)))) r (now (t .exit)) ⌝ }
+// What is left to test of a distributive lattice: refusal 8, or n, top and bottom.
+fn check_complements(
+    part: &[u8],
+    codes: &[u64; 64],
+    places: &[u8; 256],
+    mask: u64,
+    w: &mut Codes,
+) -> LatticeCheck
+    requires { ⌜ (latticeForm (now part) ≡ true) × LatticeWords (latticeOf (now part)) (now codes) mask ⌝ }
+    ensures { λ r. ⌜ Answered (partReading (latticeOf (now (part .entry)))) r (now (w .exit)) ⌝ }
 {
-    fill_complements(part, t);
-    let n = size(part);
-    if !rules::passes(t, n, Rule::Complement) {
+    let size = size(part);
+    let n = elements::index(size);
+    if !is_involutive(part, size) {
         return LatticeCheck::Refused(Refusal::BadComplement);
     }
-    let top = bounds::bound_of_all(t, n, true);
-    let bottom = bounds::bound_of_all(t, n, false);
+    fill_words(part, codes, size, w);
+    if !is_antitone(w, n) {
+        return LatticeCheck::Refused(Refusal::BadComplement);
+    }
+    let top = tests::find(codes, places, n, mask);
+    let bottom = tests::find(codes, places, n, 0);
     LatticeCheck::Accepted(Lattice {
-        size: n,
-        top,
-        bottom,
+        size,
+        top: Element(top as u8),
+        bottom: Element(bottom as u8),
     })
 }
 
-// The refusal that the part gets, or n, top and bottom: each test in turn, with meets and joins found by search and distributivity tested for
-// each two elements that are not in order, with every third.
-pub fn check_by_search(part: &[u8], t: &mut [u8; 12352]) -> LatticeCheck
-    ensures { λ r. ⌜ Answered (latticeReading (now (part .entry))) r (now (t .exit)) ⌝ }
+// The refusal that the part gets, or n, top and bottom. An accepted part's operations are left in the words; after a refusal they hold anything.
+// An empty part is the caller's to refuse, and is refused here for its form.
+pub fn check(part: &[u8], w: &mut Codes) -> LatticeCheck
+    ensures { λ r. ⌜ Answered (latticeReading (now (part .entry))) r (now (w .exit)) ⌝ }
 {
     if !has_form(part) {
         return LatticeCheck::Refused(Refusal::LatticeForm);
     }
-    fill_order(part, t);
-    let n = size(part);
-    if !rules::passes(t, n, Rule::Order) {
-        return LatticeCheck::Refused(Refusal::NoPartialOrder);
+    let n = elements::index(size(part));
+    let mut down = [0u64; 64];
+    fill_order(part, &mut down);
+    let mut places = [255u8; 256];
+    places::fill(&down, n, &mut places);
+    let mask = tests::irreducibles_of(&down, &places, n);
+    let mut codes = [0u64; 64];
+    tests::fill_codes(&down, n, mask, &mut codes);
+    let mut found = [255u8; 256];
+    places::fill(&codes, n, &mut found);
+    if !is_lattice(&down, &codes, &found, n, mask) {
+        return LatticeCheck::Refused(reason(&down, &places, n));
     }
-    if !fill_bounds(part, t) {
-        return LatticeCheck::Refused(Refusal::NoMeetOrJoin);
-    }
-    if !rules::passes(t, n, Rule::Distributive) {
-        return LatticeCheck::Refused(Refusal::NotDistributive);
-    }
-    check_complements(part, t)
-}
-
-// The same, by codes where the part passes their tests. An accepted part's operations are left in the tables; after a refusal the
-// tables hold anything. An empty part is the caller's to refuse, and is refused here for its form.
-pub fn check(part: &[u8], t: &mut [u8; 12352]) -> LatticeCheck
-    ensures { λ r. ⌜ Answered (latticeReading (now (part .entry))) r (now (t .exit)) ⌝ }
-{
-    if !has_form(part) {
-        return LatticeCheck::Refused(Refusal::LatticeForm);
-    }
-    fill_order(part, t);
-    let n = size(part);
-    if guesses::fill(t, n) {
-        return check_complements(part, t);
-    }
-    check_by_search(part, t)
+    check_complements(part, &codes, &found, mask, w)
 }

@@ -1,5 +1,5 @@
 // States and propositions, and the values of a model part.
-use operations::Element;
+use elements::Element;
 ghost use mathlib.Core.Path.{_≡_};
 ghost use Prim.Native.Nat.{_+_, _*_, _≤_, _<_};
 ghost use lib.ListN.{length, getD};
@@ -24,7 +24,7 @@ pub fn states(m: &[u8]) -> usize
     requires { ⌜ ModelShape (now m) ⌝ }
     ensures { λ r. ⌜ r ≡ modelOf (now (m .entry)) .states ⌝ }
 {
-    operations::index(m[0])
+    elements::index(m[0])
 }
 
 // k, the number of propositions.
@@ -32,7 +32,7 @@ pub fn propositions(m: &[u8]) -> usize
     requires { ⌜ ModelShape (now m) ⌝ }
     ensures { λ r. ⌜ r ≡ modelOf (now (m .entry)) .propositions ⌝ }
 {
-    operations::index(m[1])
+    elements::index(m[1])
 }
 
 // The initial value of a state.
@@ -40,7 +40,7 @@ pub fn initial(m: &[u8], q: State) -> Element
     requires { ⌜ ModelShape (now m) × (q .0 < getD (now m) 0 0) ⌝ }
     ensures { λ r. ⌜ r .0 ≡ modelOf (now (m .entry)) .initial (q .0) ⌝ }
 {
-    Element(m[2 + operations::index(q.0)])
+    Element(m[2 + elements::index(q.0)])
 }
 
 // Where row q begins, of rows of `width` values that begin at `start`.
@@ -48,7 +48,7 @@ fn row_at(start: usize, q: State, width: usize) -> usize
     requires { ⌜ (start < 65536) × (width < 256) ⌝ }
     ensures { λ r. ⌜ r ≡ start + q .0 * width ⌝ }
 {
-    start + operations::index(q.0) * width
+    start + elements::index(q.0) * width
 }
 
 // Where the proposition values of a state begin; there are k of them.
@@ -65,7 +65,7 @@ pub fn label(m: &[u8], q: State, p: Proposition) -> Element
     ensures { λ r. ⌜ r .0 ≡ modelOf (now (m .entry)) .label (q .0) (p .0) ⌝ }
 {
     let row = label_row(m, q);
-    let column = operations::index(p.0);
+    let column = elements::index(p.0);
     Element(m[row + column])
 }
 
@@ -84,7 +84,7 @@ pub fn transition(m: &[u8], q: State, r: State) -> Element
     ensures { λ e. ⌜ e .0 ≡ modelOf (now (m .entry)) .transition (q .0) (r .0) ⌝ }
 {
     let row = transition_row(m, q);
-    let column = operations::index(r.0);
+    let column = elements::index(r.0);
     Element(m[row + column])
 }
 
@@ -106,12 +106,12 @@ pub fn check(part: &[u8], n: u8) -> ModelCheck
     if 16 < propositions {
         return ModelCheck::Refused;
     }
-    let w = operations::index(states);
-    let k = operations::index(propositions);
+    let w = elements::index(states);
+    let k = elements::index(propositions);
     if part.len() != 2 + w + w * k + w * w {
         return ModelCheck::Refused;
     }
-    if !operations::below(part, 2, part.len() - 2, n) {
+    if !elements::below(part, 2, part.len() - 2, n) {
         return ModelCheck::Refused;
     }
     ModelCheck::Accepted(states, propositions)

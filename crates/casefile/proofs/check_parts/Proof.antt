@@ -16,7 +16,7 @@ returns c =
     let p = c .before .before .before .before .before .part .ensures in
     record {
       answer = ap (afterChecked (a .bytes .now)) (sym (c .before .f .given .1) ∙ k .answer ∙ ap (λ (l : List ℕ). latticeAnswer (latticeReading l)) p);
-      tables = λ P e. k .tables P (ap latticeReading p ∙ e);
+      codes = λ P e. k .codes P (ap latticeReading p ∙ e);
     }
 
 returns-2 : tie.Need-returns-2
@@ -26,7 +26,7 @@ returns-2 c =
     let p = c .before .before .before .before .before .before .part .ensures in
     record {
       answer = c .check-models .ensures ∙ ap (afterChecked (a .bytes .now)) (sym (c .before .before .l .given .1) ∙ k .answer ∙ ap (λ (l : List ℕ). latticeAnswer (latticeReading l)) p);
-      tables = λ P e. k .tables P (ap latticeReading p ∙ e);
+      codes = λ P e. k .codes P (ap latticeReading p ∙ e);
     }
 
 pub check-parts-spec : {M : Type 1} → statement M

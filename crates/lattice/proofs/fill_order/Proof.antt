@@ -1,51 +1,40 @@
--- `lattice::fill_order` meets its contract: the places below the counter are filled. Assumes nothing.
-use mathlib.Core.Path.{_≡_}
+-- `lattice::fill_order` meets its contract: by the two forms of a part. Assumes nothing.
+use Prim.Native.Nat.{ℕ}
+use mathlib.Core.Path.{_≡_, refl, sym, _∙_}
+use mathlib.Core.Bool.{false}
 use native.Mathlib.Omega.{arith}
-use borrow.Author.Needs.{needs}
-use Prim.Native.Nat.{_≤_, _-_}
-use lib.ListN.{length, length-set}
-use Rattle.theory.specs.Loop.{filled-none, filled-more, tab-at}
 use Rattle.theory.specs.Lists.{tab}
+use Rattle.theory.specs.Loop.{tab-at}
 use Rattle.lattice.specs.Panel.{panelOrder}
-use Rattle.lattice.specs.Reading.{latticeOf}
-use Rattle.lattice.specs.Form.{panelEntry}
-use Rattle.lattice.specs.Tables.{FilledTo, filled-reached, order-fill}
-use Rattle.lattice.specs.Accepted.{formed}
-use Rattle.order.specs.Bounds.{element-lt}
+use Rattle.lattice.specs.Reading.{isPanel}
+use Rattle.lattice.specs.Accepted.{ExplicitForm}
+use Rattle.lattice.specs.Form.{panelEntry, form-explicit}
+use Rattle.lattice.specs.Parts.{panel-bytes, panel-down, explicit-bytes, explicit-down}
+use borrow.Author.Needs.{needs}
 use Rattle.lattice.proofs.fill_order.Statement.{statement}
 use Rattle.lattice.proofs.fill_order.Tie as tie
 
-abbrev Inv-loop : tie.InvT-loop
-Inv-loop part t₀ n order k₀ t k = (k ≤ 4096) × (length t ≡ 12352) × FilledTo (latticeOf part) k t
-
-abbrev μ-loop : tie.MeasureT-loop
-μ-loop part t₀ n order k₀ t k = 4096 - k
-
-size-requires : tie.Need-size-requires Inv-loop μ-loop
-size-requires c κs = c .before .before .before .before .pre
-
-loop-holds : tie.Need-loop-holds Inv-loop μ-loop
-loop-holds c = (omega arith, c .before .before .entries-arg2 .given .0, filled-none)
-
 -- the rule of the constant, computed at all 729 entries
-order-entry-requires : tie.Need-order-entry-requires Inv-loop μ-loop
+fill-requires : tie.Need-fill-requires
 unfolding tab panelOrder
-order-entry-requires c κs =
-    let p = c .before .before .before .before .before .before .before .before .before .before .pre in
-    let z = c .before .before .before .before .before .size .ensures in
-    let f = formed _ p in
-    (p, record { at = λ k l. tab-at panelEntry 729 k l }, rw (c .before .element-of .ensures, z) (element-lt _ _ (f .some)), rw (c .element-of2 .ensures, z) (element-lt _ _ (f .some)))
+fill-requires c κs = (omega arith, panel-bytes _ refl (record { at = λ k l. tab-at panelEntry 729 k l }))
 
-loop-again : tie.Need-loop-again Inv-loop μ-loop
-loop-again c =
-    let i = c .before .before .before .before .before .loop .inv in
-    (omega arith, simp length-set (i .1), filled-more (i .2) (omega (arith, i .1)) (order-fill (latticeOf (c .before .before .before .before .before .before .before .before .before .before .before .args .part .now)) _ _ (c .before .before .before .before .loop-test .taken) (c .before .before .before .before .before .before .size .ensures) (c .before .before .element-of .ensures) (c .before .element-of2 .ensures) (c .order-entry .ensures)))
+returns : tie.Need-returns
+unfolding tab panelOrder
+returns c = panel-down _ (tab panelEntry 729 0) _ (sym (c .before .before .before .before .is-panel .ensures) ∙ c .before .before .before .if1 .taken) (record { at = λ k l. tab-at panelEntry 729 k l }) (c .fill .ensures)
 
-returns : tie.Need-returns Inv-loop μ-loop
-returns c = filled-reached (c .before .loop .inv .2) (c .loop-test .left)
+shared-slice-read-index : tie.Need-shared-slice-read-index
+shared-slice-read-index c = omega (arith, form-explicit _ (c .before .before .before .before .pre) (sym (c .before .before .is-panel .ensures) ∙ c .before .if1 .left) .exact)
+
+fill-requires-2 : tie.Need-fill-requires-2
+fill-requires-2 c κs =
+    let w : ExplicitForm (c .before .index .result) (c .before .before .before .before .before .before .args .part .now) = rw (c .before .index .ensures .0) (form-explicit _ (c .before .before .before .before .before .before .pre) (sym (c .before .before .before .before .is-panel .ensures) ∙ c .before .before .before .if1 .left)) in
+    (w .most, explicit-bytes _ _ w)
+
+returns-2 : tie.Need-returns-2
+returns-2 c = explicit-down _ _ _ (sym (c .before .before .before .before .before .is-panel .ensures) ∙ c .before .before .before .before .if1 .left) (c .before .before .index .ensures .0) (c .fill2 .ensures)
 
 pub fill-order-spec : {M : Type 1} → statement M
 fill-order-spec =
-    tie.close (tie.spec Inv-loop μ-loop (λ c κs. search needs) size-requires loop-holds (λ c κs. search needs)
-    (λ c κs. search needs) order-entry-requires (λ c. omega arith) (λ c. omega arith) (λ c. omega arith) loop-again
-    returns)
+    tie.close (tie.spec (λ c κs. search needs) (λ c. search needs) fill-requires returns shared-slice-read-index (λ c κs. search needs)
+    (λ c. search needs) fill-requires-2 returns-2)
