@@ -1,29 +1,24 @@
--- Finite meets and joins by words. Rests on theory's Lattice, Words, Coded.
---   CodeOf: a word is an element's; decode-in: the element found by it; meet-of, join-of: & and | of two such words
+-- Finite meets and joins by codes. Rests on theory's Lattice and Loop, Words, Coded.
+--   CodeOf: a word is an element's code; decode-in: the element found by it
+--   code-of, negated-of, bottom-of: the codes of an element, of its complement, of the bottom; meet-of, join-of: & and | of two codes
 --   bigJoin-lt, bigMeet-lt: the results are elements
---   Joined, Met: a loop over words so far; joined-none, joined-more, joined-all, met-none, met-more, met-all: its begin, one turn more, its end
+--   fold-meets, fold-joins: a fold of codes is the code of the finite meet or join
 use Prim.Native.Nat.{ℕ, zero, suc, _+_, _%_, _≤_, _<_}
 use mathlib.Core.Path.{_≡_, refl, sym, ap, ap₂, _∙_}
 use mathlib.Core.List.{List}
-use native.Mathlib.Numerals.{add-one}
+use native.Mathlib.Nat.{le-refl}
 use native.Mathlib.Omega.{arith}
 use lib.Bits.{bitAnd, bitOr}
 use lib.ListN.{getD}
 use Rattle.theory.specs.Lattice.{bigMeet, bigJoin}
+use Rattle.theory.specs.Loop.{fold}
 use Rattle.elements.specs.declared.Lattice.{Lattice}
-use Rattle.elements.specs.Words.{codeIn, decodeIn, opsIn, Coded}
-use Rattle.elements.specs.Coded.{guess-is, meet-lt, join-lt, meet-code, join-code}
+use Rattle.elements.specs.Words.{codeIn, negatedCodeIn, decodeIn, opsIn, Coded}
+use Rattle.elements.specs.Coded.{guess-is, meet-lt, join-lt, meet-code, join-code, complement-code}
 
--- x is the word of e. A record, so that a goal shows w, x and e
+-- x is the code of e. A record, so that a goal shows w, x and e
 pub record CodeOf (w : List ℕ) (x e : ℕ) : Type 0 where
   pub eq : x ≡ codeIn w e
-
--- x is the word of the join of the first n values, and of their meet
-pub record Joined (w : List ℕ) (l : Lattice) (f : ℕ → ℕ) (n x : ℕ) : Type 0 where
-  pub eq : x ≡ codeIn w (bigJoin (opsIn w l) n f)
-
-pub record Met (w : List ℕ) (l : Lattice) (f : ℕ → ℕ) (n x : ℕ) : Type 0 where
-  pub eq : x ≡ codeIn w (bigMeet (opsIn w l) n f)
 
 module _ {w : List ℕ} {l : Lattice} (c : Coded w l) where
   -- an element is found by its word
@@ -46,26 +41,28 @@ module _ {w : List ℕ} {l : Lattice} (c : Coded w l) where
   bigMeet-lt zero f = c .top-lt
   bigMeet-lt (suc n) f = meet-lt c (bigMeet (opsIn w l) n f) (f n)
 
-  -- ---- a loop that joins, and one that meets
+  -- an element's own code, and its complement's
+  pub code-of : (a : ℕ) → CodeOf w (codeIn w a) a
+  code-of a = record { eq = refl }
 
-  pub joined-none : {x : ℕ} {f : ℕ → ℕ} → CodeOf w x (l .bottom .0) → Joined w l f 0 x
-  unfolding bigJoin
-  joined-none h = record { eq = h .eq }
+  pub negated-of : (a : ℕ) → CodeOf w (negatedCodeIn w a) (opsIn w l .neg a)
+  negated-of a = record { eq = sym (complement-code c a) }
 
-  pub joined-more : {x y n : ℕ} {f : ℕ → ℕ} → Joined w l f n x → CodeOf w y (f n) → Joined w l f (n + 1) (bitOr x y)
-  unfolding bigJoin
-  joined-more {n = n} {f = f} h k = record { eq = rw add-one (join-of {a = bigJoin (opsIn w l) n f} {b = f n} (record { eq = h .eq }) k .eq) }
+  pub bottom-of : CodeOf w 0 (l .bottom .0)
+  bottom-of =
+      let m = c .most in
+      let b = c .bottom-lt in
+      let z : l .bottom .0 % 64 ≡ l .bottom .0 = omega arith in
+      record { eq = sym (ap (λ (i : ℕ). getD w i 0) z ∙ c .bottom-is) }
 
-  pub joined-all : {x i n : ℕ} {f : ℕ → ℕ} → Joined w l f i x → i ≤ n → n ≤ i → decodeIn w x ≡ bigJoin (opsIn w l) n f
-  joined-all {x} {i} {n} {f} h p q = let e : i ≡ n = omega arith in let v : Joined w l f n x = rw e at h in decode-in (record { eq = v .eq }) (bigJoin-lt n f)
+  -- ---- a fold of codes by & and by |
 
-  pub met-none : {x : ℕ} {f : ℕ → ℕ} → CodeOf w x (l .top .0) → Met w l f 0 x
-  unfolding bigMeet
-  met-none h = record { eq = h .eq }
+  pub fold-meets : (n : ℕ) (f u : ℕ → ℕ) {x : ℕ} → CodeOf w x (l .top .0) → ((i : ℕ) → i < n → CodeOf w (f i) (u i)) → CodeOf w (fold bitAnd x f n) (bigMeet (opsIn w l) n u)
+  unfolding fold bigMeet
+  fold-meets zero f u z h = z
+  fold-meets (suc n) f u z h = meet-of {a = bigMeet (opsIn w l) n u} {b = u n} (fold-meets n f u z (λ i m. h i (omega arith))) (h n (le-refl _))
 
-  pub met-more : {x y n : ℕ} {f : ℕ → ℕ} → Met w l f n x → CodeOf w y (f n) → Met w l f (n + 1) (bitAnd x y)
-  unfolding bigMeet
-  met-more {n = n} {f = f} h k = record { eq = rw add-one (meet-of {a = bigMeet (opsIn w l) n f} {b = f n} (record { eq = h .eq }) k .eq) }
-
-  pub met-all : {x i n : ℕ} {f : ℕ → ℕ} → Met w l f i x → i ≤ n → n ≤ i → decodeIn w x ≡ bigMeet (opsIn w l) n f
-  met-all {x} {i} {n} {f} h p q = let e : i ≡ n = omega arith in let v : Met w l f n x = rw e at h in decode-in (record { eq = v .eq }) (bigMeet-lt n f)
+  pub fold-joins : (n : ℕ) (f u : ℕ → ℕ) → ((i : ℕ) → i < n → CodeOf w (f i) (u i)) → CodeOf w (fold bitOr 0 f n) (bigJoin (opsIn w l) n u)
+  unfolding fold bigJoin
+  fold-joins zero f u h = bottom-of
+  fold-joins (suc n) f u h = join-of {a = bigJoin (opsIn w l) n u} {b = u n} (fold-joins n f u (λ i m. h i (omega arith))) (h n (le-refl _))

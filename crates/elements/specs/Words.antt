@@ -1,10 +1,10 @@
 -- A lattice in 128 words. Rests on theory's Lattice, Part and Test.
---   codeIn, negatedCodeIn: the code of an element, and that of its complement; decodeIn: the first number with a code
+--   codeIn, negatedCodeIn, valueCode: the code of an element, that of its complement, and one or the other; decodeIn: the first number with a code
 --   atMostIn, meetIn, joinIn, complementIn: the operations; opsIn: all of them
 --   Coded: what 128 words must be for that
 use Prim.Native.Nat.{ℕ, _+_, _%_, _≤_, _<_}
 use mathlib.Core.Path.{_≡_}
-use mathlib.Core.Bool.{Bool}
+use mathlib.Core.Bool.{Bool, cond}
 use mathlib.Core.List.{List}
 use lib.Bits.{bitAnd, bitOr}
 use lib.Dec.{ltb, eqb}
@@ -20,6 +20,10 @@ codeIn w a = getD w (a % 64) 0
 
 abbrev pub negatedCodeIn : List ℕ → ℕ → ℕ
 negatedCodeIn w a = getD w (64 + a % 64) 0
+
+-- one or the other
+abbrev pub valueCode : Bool → List ℕ → ℕ → ℕ
+valueCode negated w a = cond negated (negatedCodeIn w a) (codeIn w a)
 
 -- the first number below 64 with the code x; 64 for none
 abbrev pub decodeIn : List ℕ → ℕ → ℕ

@@ -5,7 +5,7 @@ ghost use lib.Dec.{ltb};
 ghost use lib.ListN.{length, getD};
 ghost use Rattle.theory.specs.Lists.{tab, written};
 ghost use Rattle.theory.specs.Test.{allBelow};
-ghost use Rattle.elements.specs.Words.{codeIn, negatedCodeIn, decodeIn, atMostIn, Coded};
+ghost use Rattle.elements.specs.Words.{codeIn, negatedCodeIn, valueCode, decodeIn, atMostIn, Coded};
 
 // An element of the lattice, by its number.
 pub struct Element(pub u8);
@@ -52,6 +52,16 @@ pub fn negated_code(w: &Codes, a: Element) -> u64
     ensures { λ r. ⌜ r ≡ negatedCodeIn (now (w .entry)) (a .0) ⌝ }
 {
     w[64 + (a.0 % 64) as usize]
+}
+
+// The code of an element, or that of its complement.
+pub fn value_code(w: &Codes, negated: bool, a: Element) -> u64
+    ensures { λ r. ⌜ r ≡ valueCode negated (now (w .entry)) (a .0) ⌝ }
+{
+    if negated {
+        return negated_code(w, a);
+    }
+    code(w, a)
 }
 
 // The first number with the code x, 64 for none. The guess is tried first.

@@ -1,13 +1,14 @@
 -- When a model part is accepted, what the check answers, and where a part's values stand. Rests on theory's Part and Test.
 --   sizesTest, elementsOnly, modelTest: whether a part is a model part; modelAnswer: what the check answers
---   labelRow, transitionRow: where the values of a state stand
+--   labelRow, transitionRow: where the values of a state stand; leavingCode: the code of a transition, or of its complement
 use Prim.Native.Nat.{ℕ, _+_, _*_, _-_}
 use mathlib.Core.Bool.{Bool, cond, _&&_}
 use mathlib.Core.List.{List}
 use lib.Dec.{ltb, leb, eqb}
 use lib.ListN.{length, getD}
-use Rattle.theory.specs.Part.{modelLength}
+use Rattle.theory.specs.Part.{modelLength, modelOf}
 use Rattle.theory.specs.Test.{allBelow}
+use Rattle.elements.specs.Words.{valueCode}
 use Rattle.model.specs.declared.ModelCheck.{ModelCheck}
 use Rattle.model.specs.declared.ModelCheck.the-variants.{Refused, Accepted}
 
@@ -37,3 +38,7 @@ labelRow b q = 2 + getD b 0 0 + q * getD b 1 0
 
 abbrev pub transitionRow : List ℕ → ℕ → ℕ
 transitionRow b q = 2 + getD b 0 0 + getD b 0 0 * getD b 1 0 + q * getD b 0 0
+
+-- the code of the transition from q to r, or that of its complement
+abbrev pub leavingCode : Bool → List ℕ → List ℕ → ℕ → ℕ → ℕ
+leavingCode negated w b q r = valueCode negated w (modelOf b .transition q r)

@@ -1,10 +1,12 @@
 // States and propositions, and the values of a model part.
+use elements::Codes;
 use elements::Element;
 ghost use mathlib.Core.Path.{_≡_};
 ghost use Prim.Native.Nat.{_+_, _*_, _≤_, _<_};
 ghost use lib.ListN.{length, getD};
+ghost use Rattle.theory.specs.Lists.{tab, written};
 ghost use Rattle.theory.specs.Part.{modelOf, ModelShape};
-ghost use Rattle.model.specs.Reading.{modelAnswer, labelRow, transitionRow};
+ghost use Rattle.model.specs.Reading.{modelAnswer, labelRow, transitionRow, leavingCode};
 
 // A state of a model, by its number.
 pub struct State(pub u8);
@@ -86,6 +88,18 @@ pub fn transition(m: &[u8], q: State, r: State) -> Element
     let row = transition_row(m, q);
     let column = elements::index(r.0);
     Element(m[row + column])
+}
+
+// The codes of the transitions that leave q, or of their complements, at the place `at` of out.
+pub fn transition_codes(w: &Codes, m: &[u8], q: State, negated: bool, out: &mut [u64], at: usize)
+    requires { ⌜ ModelShape (now m) × (q .0 < getD (now m) 0 0) × (at + getD (now m) 0 0 ≤ length (now out)) ⌝ }
+    ensures { λ _. ⌜ now (out .exit) ≡ written at (tab (leavingCode negated (now (w .entry)) (now (m .entry)) (q .0)) (getD (now (m .entry)) 0 0) 0) (now (out .entry)) ⌝ }
+{
+    let n = states(m);
+    for r in 0..n {
+        let e = transition(m, q, State(r as u8));
+        out[at + r] = elements::value_code(w, negated, e);
+    }
 }
 
 // Whether a part is a model over a lattice of n elements.

@@ -30,7 +30,7 @@ use Rattle.theory.specs.Lists.{tab}
 use Rattle.theory.specs.Written.{written-length, written-at, written-before, written-after, written-all}
 use Rattle.theory.specs.Test.{allBelow}
 use Rattle.theory.specs.TestLaws.{all-at, all-in, all-cong}
-use Rattle.operations.specs.declared.Lattice.{Lattice}
+use Rattle.elements.specs.declared.Lattice.{Lattice}
 use Rattle.model.specs.Places.{row-le}
 use Rattle.rounds.specs.Table.{tableOf, rowWritten, entrySame, rowSame, rowChanged, changedBelow, simulationTest, FIn}
 use Rattle.rounds.specs.Row.{not-and}

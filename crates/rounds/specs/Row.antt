@@ -1,6 +1,6 @@
 -- One row: where it stands in a table, and what a loop over a row's entries has done so far.
 -- Rests on Table, theory's Test and Written, and model's Places.
---   RowAt, row-at, row-entry: where a row stands, and its entries; few-entries: a table has at most 4,096
+--   RowAt, row-at, row-entry: where a row stands, and its entries; few-entries, held-by: a table has at most 4,096, and is held
 --   same-eqb, differ-eqb: the test of two bytes that stand for two entries
 --   RowSoFar: the entries so far are written and compared; row-none, row-more, row-all: its begin, turn and end
 --   row-written: at the row's end, what `row` says
@@ -18,12 +18,17 @@ use Rattle.theory.specs.Test.{allBelow}
 use Rattle.theory.specs.Lists.{tab}
 use Rattle.theory.specs.Written.{written-none, written-turn}
 use Rattle.theory.specs.Lists.{written}
+use Rattle.elements.specs.Words.{decodeIn}
 use Rattle.model.specs.Places.{row-le, prod-le}
 use Rattle.rounds.specs.Table.{tableOf, Shaped}
 
 -- a table has at most 64 · 64 entries
 pub few-entries : {m₁ m₂ s : List ℕ} → Shaped m₁ m₂ s → getD m₁ 0 0 * getD m₂ 0 0 ≤ 4096
 few-entries {m₁} {m₂} h = prod-le (getD m₁ 0 0) (getD m₂ 0 0) 64 64 (h .first .states-most) (h .second .states-most)
+
+-- a table for n₁ by n₂ states is held
+pub held-by : (m₁ m₂ s : List ℕ) (n₁ n₂ : ℕ) → Shaped m₁ m₂ s → n₁ ≡ getD m₁ 0 0 → n₂ ≡ getD m₂ 0 0 → n₁ * n₂ ≤ length s
+held-by m₁ m₂ s n₁ n₂ h e₁ e₂ = rw (e₁, e₂) (h .held)
 
 -- ---- where row q₁ stands: the code's place of it, and n₂ columns
 
@@ -78,6 +83,14 @@ row-more {at} {f} {g} {before} {q} u l p r =
 -- at the loop's end the counter has reached the row's end
 pub row-all : {at : ℕ} {f g : ℕ → ℕ} {before : List ℕ} {q n : ℕ} {out : List ℕ} {changed : Bool} → RowSoFar changed at f g before q out → q ≤ n → n ≤ q → RowSoFar changed at f g before n out
 row-all {q = q} {n = n} u a b = let e : q ≡ n = omega arith in rw e at u
+
+-- the elements of n codes are written into `before` from `at` on, which gives `out`; `changed` says whether any differs from that of s
+abbrev pub RowOut : List ℕ → List ℕ → List ℕ → ℕ → ℕ → List ℕ → List ℕ → Bool → Type 0
+RowOut w codes s at n before out changed = RowSoFar changed at (λ q. decodeIn w (getD codes q 0)) (λ q. getD s (at + q) 0) before n out
+
+-- n codes are those of the bytes of s from `at` on
+unfoldable pub rowSameAs : List ℕ → List ℕ → List ℕ → ℕ → ℕ → Bool
+rowSameAs w codes s at n = allBelow n (λ q. eqb (getD s (at + q) 0) (decodeIn w (getD codes q 0)))
 
 pub row-written : {m₁ m₂ : List ℕ} {q₁ n₂ at : ℕ} {f g : ℕ → ℕ} {before out : List ℕ} {changed : Bool} → RowAt m₁ m₂ q₁ n₂ at → n₂ ≡ getD m₂ 0 0 → RowSoFar changed at f g before n₂ out → (out ≡ written (q₁ * getD m₂ 0 0) (tab f (getD m₂ 0 0) 0) before) × (changed ≡ not (allBelow (getD m₂ 0 0) (λ i. eqb (g i) (f i))))
 row-written h e u = (rw (← h .here, ← e) (u .out-is), rw (← e) (u .changed-is))

@@ -8,8 +8,8 @@ use native.Mathlib.Omega.{arith}
 use lib.ListN.{getD}
 use Rattle.theory.specs.Simulation.{perCent, share}
 use Rattle.theory.specs.Loop.{Counted}
-use Rattle.operations.specs.declared.Lattice.{Lattice}
-use Rattle.operations.specs.Table.{atMostIn, opsIn}
+use Rattle.elements.specs.declared.Lattice.{Lattice}
+use Rattle.elements.specs.Words.{atMostIn, opsIn}
 use Rattle.rounds.specs.Table.{shareIn}
 
 -- it is theory's share, whatever the lattice's size and bounds

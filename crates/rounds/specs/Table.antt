@@ -19,8 +19,8 @@ use Rattle.theory.specs.Part.{modelOf, ModelShape}
 use Rattle.theory.specs.Simulation.{propositionPart, successorPart, F, score, count, perCent}
 use Rattle.theory.specs.Test.{allBelow}
 use Rattle.theory.specs.Lists.{tab, written}
-use Rattle.operations.specs.declared.Lattice.{Lattice}
-use Rattle.operations.specs.Table.{atMostIn, meetIn, joinIn, complementIn, opsIn}
+use Rattle.elements.specs.declared.Lattice.{Lattice}
+use Rattle.elements.specs.Words.{atMostIn, meetIn, joinIn, complementIn, opsIn}
 
 -- 'Entry (q1, q2) is byte q1·N2 + q2', of a table with n for N2
 abbrev pub tableOf : List ℕ → ℕ → ℕ → ℕ → ℕ

@@ -1,82 +1,111 @@
-// The simulation operator on tables that are held as bytes, by a lattice's tables: a row, a round, whether a table is a simulation, share.
-//   entries: one entry, and score
-// Rows and rounds by codes are in crate `rowcodes`.
-mod entries;
+// The simulation operator on tables that are held as bytes: a row, a round, whether a table is a simulation, score and share. Everything is worked
+// on the codes of elements (crate `elements`), and an entry is turned back into its element once.
+//   words: the codes of a row's entries
+mod words;
 
-pub use entries::entry;
-pub use entries::score;
+use elements::Codes;
+use elements::Element;
+use elements::Lattice;
 use model::State;
-use operations::Element;
-use operations::Lattice;
+use words::all_joins;
+use words::encode_table;
+use words::joined;
+use words::row_codes;
+use words::row_from;
 ghost use mathlib.Core.Path.{_≡_};
-ghost use Prim.Native.Nat.{_*_, _≤_, _<_};
+ghost use Prim.Native.Nat.{_+_, _*_, _≤_, _<_};
 ghost use lib.ListN.{length, getD};
 ghost use Rattle.theory.specs.Simulation.{one};
+ghost use Rattle.theory.specs.Lists.{Filled};
 ghost use Rattle.theory.specs.Loop.{Counted};
-ghost use Rattle.operations.specs.Table.{atMostIn};
-ghost use Rattle.rounds.specs.Table.{Shaped, Room, shareIn, RowIn, rowSameIn, simulationIn};
+ghost use Rattle.theory.specs.Part.{ModelShape};
+ghost use Rattle.elements.specs.Words.{atMostIn, Coded};
+ghost use Rattle.rounds.specs.Table.{Shaped, Room, shareIn, RowIn, scoreIn, simulationIn};
 ghost use Rattle.rounds.specs.Round.{RoundIn};
+ghost use Rattle.rounds.specs.Row.{RowOut, rowSameAs};
+ghost use Rattle.rounds.specs.Codes.{initialCode, Prepared};
 
 // ---- a row and a round
 
-// Works row q1 of F of the table s into the same row of out; says whether any entry differs from that of s.
-pub fn row(
-    t: &[u8; 12352],
+// Writes the elements of n codes from the place `at` of out on; says whether any differs from the byte of s at its place.
+fn write_row(
+    w: &Codes,
     l: Lattice,
-    m1: &[u8],
-    m2: &[u8],
+    codes: &[u64; 64],
     s: &[u8],
     out: &mut [u8],
-    q1: State,
+    at: usize,
+    n: usize,
 ) -> bool
-    requires { ⌜ Shaped (now m1) (now m2) (now s) × Room (now m1) (now m2) (now out) × (q1 .0 < getD (now m1) 0 0) ⌝ }
-    ensures { λ r. ⌜ RowIn (now (t .entry)) l (now (m1 .entry)) (now (m2 .entry)) (now (s .entry)) (q1 .0) (now (out .entry)) (now (out .exit)) r ⌝ }
+    requires { ⌜ Coded (now w) l × (n ≤ 64) × (at + n ≤ length (now s)) × (at + n ≤ length (now out)) ⌝ }
+    ensures { λ r. ⌜ RowOut (now (w .entry)) (now (codes .entry)) (now (s .entry)) at n (now (out .entry)) (now (out .exit)) r ⌝ }
 {
-    let n2 = model::states(m2);
-    let at = operations::index(q1.0) * n2;
     let mut changed = false;
-    for q2 in 0..n2 {
-        let e = entry(t, l, m1, m2, s, q1, State(q2 as u8));
-        changed = changed | (s[at + q2] != e.0);
-        out[at + q2] = e.0;
+    for q in 0..n {
+        let old = s[at + q];
+        let e = elements::decode(w, l, codes[q], Element(old));
+        changed = changed | (old != e.0);
+        out[at + q] = e.0;
     }
     changed
 }
 
+// Works row q1 of F of the table s into the same row of out; says whether any entry differs from that of s.
+pub fn row(w: &Codes, l: Lattice, m1: &[u8], m2: &[u8], s: &[u8], out: &mut [u8], q1: State) -> bool
+    requires { ⌜ Coded (now w) l × Shaped (now m1) (now m2) (now s) × Room (now m1) (now m2) (now out) × (q1 .0 < getD (now m1) 0 0) ⌝ }
+    ensures { λ r. ⌜ RowIn (now (w .entry)) l (now (m1 .entry)) (now (m2 .entry)) (now (s .entry)) (q1 .0) (now (out .entry)) (now (out .exit)) r ⌝ }
+{
+    let n2 = model::states(m2);
+    let mut table = [0u64; 4096];
+    encode_table(w, s, model::states(m1), n2, &mut table);
+    let mut codes = [0u64; 64];
+    row_codes(w, elements::code(w, l.top), m1, m2, &table, q1, &mut codes);
+    write_row(w, l, &codes, s, out, elements::index(q1.0) * n2, n2)
+}
+
 // Works F of the table `whole` into the first N1·N2 bytes of `other`, and keeps its other bytes; says whether any entry differs from that
 // of `whole`.
-pub fn round(
-    t: &[u8; 12352],
-    l: Lattice,
-    m1: &[u8],
-    m2: &[u8],
-    whole: &[u8],
-    other: &mut [u8],
-) -> bool
-    requires { ⌜ Shaped (now m1) (now m2) (now whole) × Room (now m1) (now m2) (now other) ⌝ }
-    ensures { λ r. ⌜ RoundIn (now (t .entry)) l (now (m1 .entry)) (now (m2 .entry)) (now (whole .entry)) (now (other .entry)) (now (other .exit)) r ⌝ }
+pub fn round(w: &Codes, l: Lattice, m1: &[u8], m2: &[u8], whole: &[u8], other: &mut [u8]) -> bool
+    requires { ⌜ Coded (now w) l × Shaped (now m1) (now m2) (now whole) × Room (now m1) (now m2) (now other) ⌝ }
+    ensures { λ r. ⌜ RoundIn (now (w .entry)) l (now (m1 .entry)) (now (m2 .entry)) (now (whole .entry)) (now (other .entry)) (now (other .exit)) r ⌝ }
 {
     let n1 = model::states(m1);
+    let n2 = model::states(m2);
+    let mut joins = [0u64; 4096];
+    prepare(w, m1, m2, whole, &mut joins);
+    let top = elements::code(w, l.top);
+    let mut codes = [0u64; 64];
     let mut changed = false;
     for q1 in 0..n1 {
-        let c = row(t, l, m1, m2, whole, other, State(q1 as u8));
+        row_from(w, top, m1, m2, &joins, State(q1 as u8), &mut codes);
+        let c = write_row(w, l, &codes, whole, other, q1 * n2, n2);
         changed = changed | c;
     }
     changed
 }
 
+// The inner joins of a table, of every q2.
+fn prepare(w: &Codes, m1: &[u8], m2: &[u8], s: &[u8], joins: &mut [u64; 4096])
+    requires { ⌜ Shaped (now m1) (now m2) (now s) ⌝ }
+    ensures { λ _. ⌜ Prepared (now (w .entry)) (now (m1 .entry)) (now (m2 .entry)) (now (s .entry)) (now (joins .exit)) ⌝ }
+{
+    let n1 = model::states(m1);
+    let mut table = [0u64; 4096];
+    encode_table(w, s, n1, model::states(m2), &mut table);
+    all_joins(w, m2, &table, n1, joins);
+}
+
 // ---- the test for a simulation
 
-// Whether row q1 of the table s equals that of F of it: the entries are compared up to the first that differs.
-fn row_same(t: &[u8; 12352], l: Lattice, m1: &[u8], m2: &[u8], s: &[u8], q1: State) -> bool
-    requires { ⌜ Shaped (now m1) (now m2) (now s) × (q1 .0 < getD (now m1) 0 0) ⌝ }
-    ensures { λ r. ⌜ r ≡ rowSameIn (now (t .entry)) l (now (m1 .entry)) (now (m2 .entry)) (now (s .entry)) (q1 .0) ⌝ }
+// Whether n codes are those of the bytes of s from `at` on: they are compared up to the first that differs.
+fn row_same(w: &Codes, l: Lattice, codes: &[u64; 64], s: &[u8], at: usize, n: usize) -> bool
+    requires { ⌜ Coded (now w) l × (n ≤ 64) × (at + n ≤ length (now s)) ⌝ }
+    ensures { λ r. ⌜ r ≡ rowSameAs (now (w .entry)) (now (codes .entry)) (now (s .entry)) at n ⌝ }
 {
-    let n2 = model::states(m2);
-    let at = operations::index(q1.0) * n2;
-    for q2 in 0..n2 {
-        let e = entry(t, l, m1, m2, s, q1, State(q2 as u8));
-        if s[at + q2] != e.0 {
+    for q in 0..n {
+        let old = s[at + q];
+        let e = elements::decode(w, l, codes[q], Element(old));
+        if old != e.0 {
             return false;
         }
     }
@@ -84,17 +113,56 @@ fn row_same(t: &[u8; 12352], l: Lattice, m1: &[u8], m2: &[u8], s: &[u8], q1: Sta
 }
 
 // Whether the table s is a simulation.
-pub fn is_simulation(t: &[u8; 12352], l: Lattice, m1: &[u8], m2: &[u8], s: &[u8]) -> bool
-    requires { ⌜ Shaped (now m1) (now m2) (now s) ⌝ }
-    ensures { λ r. ⌜ r ≡ simulationIn (now (t .entry)) l (now (m1 .entry)) (now (m2 .entry)) (now (s .entry)) ⌝ }
+pub fn is_simulation(w: &Codes, l: Lattice, m1: &[u8], m2: &[u8], s: &[u8]) -> bool
+    requires { ⌜ Coded (now w) l × Shaped (now m1) (now m2) (now s) ⌝ }
+    ensures { λ r. ⌜ r ≡ simulationIn (now (w .entry)) l (now (m1 .entry)) (now (m2 .entry)) (now (s .entry)) ⌝ }
 {
     let n1 = model::states(m1);
+    let n2 = model::states(m2);
+    let mut joins = [0u64; 4096];
+    prepare(w, m1, m2, s, &mut joins);
+    let top = elements::code(w, l.top);
+    let mut codes = [0u64; 64];
     for q1 in 0..n1 {
-        if !row_same(t, l, m1, m2, s, State(q1 as u8)) {
+        row_from(w, top, m1, m2, &joins, State(q1 as u8), &mut codes);
+        if !row_same(w, l, &codes, s, q1 * n2, n2) {
             return false;
         }
     }
     true
+}
+
+// ---- score
+
+// The codes of the initial values.
+fn initial_codes(w: &Codes, m: &[u8], out: &mut [u64])
+    requires { ⌜ ModelShape (now m) × (length (now out) ≡ 64) ⌝ }
+    ensures { λ _. ⌜ Filled (initialCode (now (w .entry)) (now (m .entry))) (getD (now (m .entry)) 0 0) (now (out .exit)) ⌝ }
+{
+    let n = model::states(m);
+    for q in 0..n {
+        out[q] = elements::code(w, model::initial(m, State(q as u8)));
+    }
+}
+
+// The meet over q1 of its initial value → the join over q2 of its initial value met with entry (q1, q2) of s.
+pub fn score(w: &Codes, l: Lattice, m1: &[u8], m2: &[u8], s: &[u8]) -> Element
+    requires { ⌜ Coded (now w) l × Shaped (now m1) (now m2) (now s) ⌝ }
+    ensures { λ r. ⌜ r .0 ≡ scoreIn (now (w .entry)) l (now (m1 .entry)) (now (m2 .entry)) (now (s .entry)) ⌝ }
+{
+    let n1 = model::states(m1);
+    let n2 = model::states(m2);
+    let mut right = [0u64; 64];
+    initial_codes(w, m2, &mut right);
+    let mut entries = [0u64; 64];
+    let mut x = elements::code(w, l.top);
+    for q in 0..n1 {
+        elements::encode(w, s, q * n2, n2, &mut entries, 0);
+        let y = joined(&right, &entries, 0, n2);
+        let z = elements::negated_code(w, model::initial(m1, State(q as u8)));
+        x = x & (z | y);
+    }
+    elements::decode(w, l, x, l.top)
 }
 
 // ---- share
@@ -109,22 +177,22 @@ fn one_if(b: bool) -> usize
 }
 
 // How many of the first n entries of s are at or above e.
-fn count_from(t: &[u8; 12352], e: Element, s: &[u8], n: usize) -> usize
+fn count_from(w: &Codes, e: Element, s: &[u8], n: usize) -> usize
     requires { ⌜ n ≤ length (now s) ⌝ }
-    ensures { λ r. ⌜ Counted (λ i. atMostIn (now (t .entry)) (e .0) (getD (now (s .entry)) i 0)) n r ⌝ }
+    ensures { λ r. ⌜ Counted (λ i. atMostIn (now (w .entry)) (e .0) (getD (now (s .entry)) i 0)) n r ⌝ }
 {
     let mut c: usize = 0;
     for i in 0..n {
-        c += one_if(operations::at_most(t, e, Element(s[i])));
+        c += one_if(elements::at_most(w, e, Element(s[i])));
     }
     c
 }
 
 // The per cent of the first n entries of s that are at or above e, halves up.
-pub fn share(t: &[u8; 12352], e: Element, s: &[u8], n: usize) -> u8
+pub fn share(w: &Codes, e: Element, s: &[u8], n: usize) -> u8
     requires { ⌜ (0 < n) × (n ≤ 4096) × (n ≤ length (now s)) ⌝ }
-    ensures { λ r. ⌜ r ≡ shareIn (now (t .entry)) (e .0) (now (s .entry)) n ⌝ }
+    ensures { λ r. ⌜ r ≡ shareIn (now (w .entry)) (e .0) (now (s .entry)) n ⌝ }
 {
-    let c = count_from(t, e, s, n);
+    let c = count_from(w, e, s, n);
     ((200 * c + n) / (2 * n)) as u8
 }

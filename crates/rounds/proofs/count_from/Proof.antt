@@ -3,16 +3,16 @@ use Prim.Native.Nat.{_≤_, _-_}
 use native.Mathlib.Omega.{arith}
 use borrow.Author.Needs.{needs}
 use lib.ListN.{getD}
-use Rattle.operations.specs.Table.{atMostIn}
+use Rattle.elements.specs.Words.{atMostIn}
 use Rattle.theory.specs.Loop.{Counted, one-most, counted-none, counted-more, counted-all}
 use Rattle.rounds.proofs.count_from.Statement.{statement}
 use Rattle.rounds.proofs.count_from.Tie as tie
 
 abbrev Inv-loop : tie.InvT-loop
-Inv-loop t e s n c₀ i₀ c i = (i ≤ n) × Counted (λ j. atMostIn t (e .0) (getD s j 0)) i c
+Inv-loop w e s n c₀ i₀ c i = (i ≤ n) × Counted (λ j. atMostIn w (e .0) (getD s j 0)) i c
 
 abbrev μ-loop : tie.MeasureT-loop
-μ-loop t e s n c₀ i₀ c i = n - i
+μ-loop w e s n c₀ i₀ c i = n - i
 
 loop-holds : tie.Need-loop-holds Inv-loop μ-loop
 loop-holds c = (omega arith, counted-none)

@@ -1,54 +1,42 @@
--- `rounds::row` meets its contract: the entries below q2 are written and compared. Assumes nothing.
-use mathlib.Core.Path.{_≡_, refl}
-use Prim.Native.Nat.{_≤_, _-_}
-use native.Mathlib.Omega.{arith}
-use borrow.Author.Needs.{needs}
-use lib.ListN.{length, getD, length-set}
+-- `rounds::row` meets its contract: the codes of the table, then those of the row, then its elements. Assumes nothing.
+use mathlib.Core.Path.{ap, _∙_}
 use Rattle.model.specs.Places.{prod-le}
-use Rattle.rounds.specs.Table.{tableOf, rowSame, entryIn}
-use Rattle.rounds.specs.Row.{RowAt, row-at, row-entry, RowSoFar, row-none, row-more, row-all, row-written}
+use Rattle.rounds.specs.Row.{held-by, row-at}
+use Rattle.rounds.specs.Codes.{model-pair}
+use Rattle.rounds.specs.RowCodes.{table-rows, row-top, row-in}
+use borrow.Author.Needs.{needs}
+use native.Mathlib.Omega.{arith}
 use Rattle.rounds.proofs.row.Statement.{statement}
 use Rattle.rounds.proofs.row.Tie as tie
 
-abbrev Inv-loop : tie.InvT-loop
-Inv-loop t l m1 m2 s out₀ q1 n2 at changed₀ q2₀ out changed q2 =
-    RowAt m1 m2 (q1 .0) n2 at
-    × (q2 ≤ n2)
-    × (length out ≡ length out₀)
-    × RowSoFar changed at (entryIn t l m1 m2 s (q1 .0)) (tableOf s (getD m2 0 0) (q1 .0)) out₀ q2 out
+encode-table-requires : tie.Need-encode-table-requires
+encode-table-requires c κs =
+    let b = c .before .before .before .before .before .before .before in
+    let e₁ = c .before .states2 .ensures in
+    let e₂ = c .before .before .states .ensures in
+    (omega (arith, e₁, b .pre .1 .first .states-most), omega (arith, e₂, b .pre .1 .second .states-most), held-by (b .args .m1 .now) (b .args .m2 .now) (b .args .s .now) _ _ (b .pre .1) e₁ e₂, search needs)
 
-abbrev μ-loop : tie.MeasureT-loop
-μ-loop t l m1 m2 s out₀ q1 n2 at changed₀ q2₀ out changed q2 = n2 - q2
+row-codes-requires : tie.Need-row-codes-requires
+row-codes-requires c κs = (model-pair (c .before .before .before .before .before .before .before .before .before .before .before .before .pre .1), c .before .before .before .before .before .before .before .before .before .before .before .before .pre .3, search needs)
 
-mul-at : tie.Need-mul-at Inv-loop μ-loop
-mul-at c = omega (arith, prod-le (c .index .result) (c .before .states .result) 255 64 (omega arith) (omega arith))
+mul-write-row : tie.Need-mul-write-row
+mul-write-row c = omega (arith, prod-le (c .index .result) (c .before .before .before .before .before .before .before .before .before .before .before .before .states .result) 255 64 (omega arith) (omega arith))
 
-loop-holds : tie.Need-loop-holds Inv-loop μ-loop
-loop-holds c =
-    let b = c .before .before .before .before .before .before in
-    (row-at _ _ (b .args .s .now) _ _ _ (b .pre .0) (b .pre .2) (c .before .states .ensures) (c .index .ensures .0), omega arith, refl, row-none)
+write-row-requires : tie.Need-write-row-requires
+write-row-requires c κs =
+    let b = c .before .before .before .before .before .before .before .before .before .before .before .before .before .before .before .before .before in
+    let r = row-at (b .args .m1 .now) (b .args .m2 .now) (b .args .s .now) (b .args .q1 .0) _ _ (b .pre .1) (b .pre .3) (c .before .before .before .before .before .before .before .before .before .before .before .before .states .ensures) (c .index .ensures .0) in
+    (b .pre .0, r .few, omega (arith, r .within, b .pre .1 .held), omega (arith, r .within, b .pre .2))
 
-loop-again : tie.Need-loop-again Inv-loop μ-loop
-loop-again c =
-    let i = c .before .before .before .before .loop .inv in
-    let a = c .before .before .before .before .before .before .before .before .before .before .before .args in (
-      i .0,
-      omega arith,
-      simp length-set (i .2),
-      row-more (i .3) (omega (arith, i .0, c .before .before .before .before .before .before .before .before .before .before .before .pre .1)) (row-entry (a .m1 .now) (a .m2 .now) (a .s .now) (a .q1 .0) _ _ _ (i .0)) (c .before .before .entry .ensures),
-    )
-
-same-length : tie.Need-same-length Inv-loop μ-loop
-same-length c = c .before .loop .inv .2
-
-returns : tie.Need-returns Inv-loop μ-loop
-unfolding rowSame
+returns : tie.Need-returns
 returns c =
-    let i = c .before .loop .inv in
-    row-written (i .0) (c .before .before .before .states .ensures) (row-all (i .3) (omega arith) (omega arith))
+    let b = c .before .before .before .before .before .before .before .before .before .before .before .before .before .before .before .before .before .before .before .before in
+    let r = row-at (b .args .m1 .now) (b .args .m2 .now) (b .args .s .now) (b .args .q1 .0) _ _ (b .pre .1) (b .pre .3) (c .before .before .before .before .before .before .before .before .before .before .before .before .before .before .before .states .ensures) (c .before .before .before .index .ensures .0) in
+    let t = table-rows (b .args .w .now) (b .args .m1 .now) (b .args .m2 .now) (b .args .s .now) _ _ (c .before .before .before .before .before .before .before .before .before .before .before .before .encode-table .ensures) (c .before .before .before .before .before .before .before .before .before .before .before .before .before .before .states2 .ensures) (c .before .before .before .before .before .before .before .before .before .before .before .before .before .before .before .states .ensures) in
+    let f = row-top (b .args .l .top .0) (c .before .before .before .before .before .before .before .before .before .before .code .ensures) (c .before .before .before .before .before .before .before .row-codes .ensures) in
+    row-in (b .pre .0) (b .pre .1) t (b .args .q1 .0) r (c .before .before .before .before .before .before .before .before .before .before .before .before .before .before .before .states .ensures) f (c .before .before .write-row .ensures)
 
 pub row-spec : {M : Type 1} → statement M
 row-spec =
-    tie.close (tie.spec Inv-loop μ-loop (λ c κs. search needs) (λ c κs. search needs) mul-at loop-holds
-    (λ c. search needs) (λ c κs. search needs) (λ c. search needs) (λ c. search needs) (λ c. search needs)
-    (λ c. search needs) (λ c. search needs) (λ c. search needs) loop-again same-length returns)
+    tie.close (tie.spec (λ c κs. search needs) (λ c κs. search needs) (λ c. search needs) encode-table-requires (λ c κs. search needs)
+    (λ c. search needs) row-codes-requires (λ c κs. search needs) mul-write-row write-row-requires (λ c. search needs) returns)

@@ -13,7 +13,7 @@ cast-result c =
 returns : tie.Need-returns
 returns c =
     let a = c .before .before .args in
-    share-counted (a .t .now) (a .e .0) (a .s .now) (a .n) _ (c .count-from .ensures)
+    share-counted (a .w .now) (a .e .0) (a .s .now) (a .n) _ (c .count-from .ensures)
 
 pub share-spec : {M : Type 1} → statement M
 share-spec =

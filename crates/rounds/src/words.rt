@@ -1,0 +1,192 @@
+// The codes of a row's entries of F: what is read is turned into codes once, and worked by & and | alone.
+use elements::Codes;
+use model::Proposition;
+use model::State;
+ghost use mathlib.Core.Path.{_≡_};
+ghost use Prim.Native.Nat.{_+_, _*_, _≤_, _<_};
+ghost use lib.ListN.{length, getD};
+ghost use Rattle.theory.specs.Part.{ModelShape};
+ghost use Rattle.theory.specs.Lists.{Filled, tab, written};
+ghost use Rattle.model.specs.Reading.{leavingCode};
+ghost use Rattle.rounds.specs.Codes.{ModelPair, tableCode, joinCode, innerCode, meetCode, iffCode, propositionsCode, entryFrom, rowFrom, Rows, EntryCodes};
+
+// ---- what is read
+
+// The codes of a table's n1 rows of n2 entries, 64 to a row.
+pub(crate) fn encode_table(w: &Codes, s: &[u8], n1: usize, n2: usize, out: &mut [u64])
+    requires { ⌜ (n1 ≤ 64) × (n2 ≤ 64) × (n1 * n2 ≤ length (now s)) × (length (now out) ≡ 4096) ⌝ }
+    ensures { λ _. ⌜ Rows (tableCode (now (w .entry)) (now (s .entry)) n2) n1 n2 (now (out .exit)) ⌝ }
+{
+    for q in 0..n1 {
+        elements::encode(w, s, q * n2, n2, out, q * 64);
+    }
+}
+
+// ---- propositions
+
+// The code of p1 ↔ p2.
+fn equivalent(w: &Codes, m1: &[u8], m2: &[u8], q1: State, q2: State, p: Proposition) -> u64
+    requires { ⌜ ModelPair (now m1) (now m2) × (q1 .0 < getD (now m1) 0 0) × (q2 .0 < getD (now m2) 0 0) × (p .0 < getD (now m1) 1 0) ⌝ }
+    ensures { λ r. ⌜ r ≡ iffCode (now (w .entry)) (now (m1 .entry)) (now (m2 .entry)) (q1 .0) (q2 .0) (p .0) ⌝ }
+{
+    let a = model::label(m1, q1, p);
+    let b = model::label(m2, q2, p);
+    let x = elements::negated_code(w, a) | elements::code(w, b);
+    let y = elements::negated_code(w, b) | elements::code(w, a);
+    x & y
+}
+
+// The code of the meet over all propositions of p1 ↔ p2; `top` is that of the top.
+fn propositions(w: &Codes, top: u64, m1: &[u8], m2: &[u8], q1: State, q2: State) -> u64
+    requires { ⌜ ModelPair (now m1) (now m2) × (q1 .0 < getD (now m1) 0 0) × (q2 .0 < getD (now m2) 0 0) ⌝ }
+    ensures { λ r. ⌜ r ≡ propositionsCode (now (w .entry)) top (now (m1 .entry)) (now (m2 .entry)) (q1 .0) (q2 .0) ⌝ }
+{
+    let k = model::propositions(m1);
+    let mut x = top;
+    for p in 0..k {
+        x = x & equivalent(w, m1, m2, q1, q2, Proposition(p as u8));
+    }
+    x
+}
+
+// ---- successors
+
+// The join of the first n words of `row`, each met with that at its place from `at` on.
+pub(crate) fn joined(row: &[u64; 64], table: &[u64], at: usize, n: usize) -> u64
+    requires { ⌜ (n ≤ 64) × (at + n ≤ length (now table)) ⌝ }
+    ensures { λ r. ⌜ r ≡ joinCode (now (row .entry)) (now (table .entry)) at n ⌝ }
+{
+    let mut x: u64 = 0;
+    for i in 0..n {
+        x = x | (row[i] & table[at + i]);
+    }
+    x
+}
+
+// The joins of `row` with each of the first n1 rows of a table, at the place `at` of joins.
+fn join_rows(
+    row: &[u64; 64],
+    table: &[u64; 4096],
+    n1: usize,
+    n2: usize,
+    joins: &mut [u64],
+    at: usize,
+)
+    requires { ⌜ (n1 ≤ 64) × (n2 ≤ 64) × (at + n1 ≤ length (now joins)) ⌝ }
+    ensures { λ _. ⌜ now (joins .exit) ≡ written at (tab (λ q. joinCode (now (row .entry)) (now (table .entry)) (q * 64) n2) n1 0) (now (joins .entry)) ⌝ }
+{
+    for q in 0..n1 {
+        joins[at + q] = joined(row, table, q * 64, n2);
+    }
+}
+
+// For each q1', the code of the join over q2' of R2(q2, q2') met with entry (q1', q2') of the table, at the place `at` of joins. No state of
+// model 1 that is left is in it.
+fn inner_joins(
+    w: &Codes,
+    m2: &[u8],
+    q2: State,
+    table: &[u64; 4096],
+    n1: usize,
+    joins: &mut [u64],
+    at: usize,
+)
+    requires { ⌜ ModelShape (now m2) × (q2 .0 < getD (now m2) 0 0) × (n1 ≤ 64) × (at + n1 ≤ length (now joins)) ⌝ }
+    ensures { λ _. ⌜ now (joins .exit) ≡ written at (tab (innerCode (now (w .entry)) (now (m2 .entry)) (now (table .entry)) (q2 .0)) n1 0) (now (joins .entry)) ⌝ }
+{
+    let mut row = [0u64; 64];
+    model::transition_codes(w, m2, q2, false, &mut row, 0);
+    join_rows(&row, table, n1, model::states(m2), joins, at);
+}
+
+// The inner joins of every q2, 64 to a row: one filling serves all rows of a round.
+pub(crate) fn all_joins(w: &Codes, m2: &[u8], table: &[u64; 4096], n1: usize, joins: &mut [u64])
+    requires { ⌜ ModelShape (now m2) × (n1 ≤ 64) × (length (now joins) ≡ 4096) ⌝ }
+    ensures { λ _. ⌜ Rows (innerCode (now (w .entry)) (now (m2 .entry)) (now (table .entry))) (getD (now (m2 .entry)) 0 0) n1 (now (joins .exit)) ⌝ }
+{
+    let n2 = model::states(m2);
+    for q2 in 0..n2 {
+        inner_joins(w, m2, State(q2 as u8), table, n1, joins, q2 * 64);
+    }
+}
+
+// The meet of the first n words of `left`, each joined with that at its place from `at` on.
+fn met(top: u64, left: &[u64; 64], joins: &[u64], at: usize, n: usize) -> u64
+    requires { ⌜ (n ≤ 64) × (at + n ≤ length (now joins)) ⌝ }
+    ensures { λ r. ⌜ r ≡ meetCode top (now (left .entry)) (now (joins .entry)) at n ⌝ }
+{
+    let mut x = top;
+    for i in 0..n {
+        x = x & (left[i] | joins[at + i]);
+    }
+    x
+}
+
+// ---- entries and rows
+
+// The code of entry (q1, q2) of F: `left` has the codes of the complements of the transitions that leave q1, `joins` the inner joins of q2
+// from `at` on.
+fn entry(
+    w: &Codes,
+    top: u64,
+    m1: &[u8],
+    m2: &[u8],
+    left: &[u64; 64],
+    joins: &[u64],
+    at: usize,
+    q1: State,
+    q2: State,
+) -> u64
+    requires { ⌜ ModelPair (now m1) (now m2) × (q1 .0 < getD (now m1) 0 0) × (q2 .0 < getD (now m2) 0 0) × (at + getD (now m1) 0 0 ≤ length (now joins)) ⌝ }
+    ensures { λ r. ⌜ r ≡ entryFrom (now (w .entry)) top (now (m1 .entry)) (now (m2 .entry)) (now (left .entry)) (now (joins .entry)) at (q1 .0) (q2 .0) ⌝ }
+{
+    let p = propositions(w, top, m1, m2, q1, q2);
+    let n = met(top, left, joins, at, model::states(m1));
+    p & n
+}
+
+// The codes of row q1 of F of a table that is given as codes.
+pub(crate) fn row_codes(
+    w: &Codes,
+    top: u64,
+    m1: &[u8],
+    m2: &[u8],
+    table: &[u64; 4096],
+    q1: State,
+    out: &mut [u64],
+)
+    requires { ⌜ ModelPair (now m1) (now m2) × (q1 .0 < getD (now m1) 0 0) × (length (now out) ≡ 64) ⌝ }
+    ensures { λ _. ⌜ EntryCodes (now (w .entry)) top (now (m1 .entry)) (now (m2 .entry)) (now (table .entry)) (q1 .0) (now (out .exit)) ⌝ }
+{
+    let n1 = model::states(m1);
+    let n2 = model::states(m2);
+    let mut left = [0u64; 64];
+    model::transition_codes(w, m1, q1, true, &mut left, 0);
+    let mut joins = [0u64; 64];
+    for q2 in 0..n2 {
+        let q = State(q2 as u8);
+        inner_joins(w, m2, q, table, n1, &mut joins, 0);
+        out[q2] = entry(w, top, m1, m2, &left, &joins, 0, q1, q);
+    }
+}
+
+// The same from the inner joins of every q2.
+pub(crate) fn row_from(
+    w: &Codes,
+    top: u64,
+    m1: &[u8],
+    m2: &[u8],
+    joins: &[u64; 4096],
+    q1: State,
+    out: &mut [u64],
+)
+    requires { ⌜ ModelPair (now m1) (now m2) × (q1 .0 < getD (now m1) 0 0) × (length (now out) ≡ 64) ⌝ }
+    ensures { λ _. ⌜ Filled (rowFrom (now (w .entry)) top (now (m1 .entry)) (now (m2 .entry)) (now (joins .entry)) (q1 .0)) (getD (now (m2 .entry)) 0 0) (now (out .exit)) ⌝ }
+{
+    let n2 = model::states(m2);
+    let mut left = [0u64; 64];
+    model::transition_codes(w, m1, q1, true, &mut left, 0);
+    for q2 in 0..n2 {
+        out[q2] = entry(w, top, m1, m2, &left, joins, q2 * 64, q1, State(q2 as u8));
+    }
+}
