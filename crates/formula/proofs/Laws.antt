@@ -32,7 +32,8 @@ use Rattle.formula.proofs.Ends.{under-or, under-and, under-bottom, unde
 -- ---- the arms of `node`
 
 -- by the token at the position
-coded : {b : List ℕ} {at after : ℕ} {t : Token} → Stands b at t after → (n : ℕ) → length b ≤ n + at → parse n (drop at b) ≡ byToken (parse (n - 1)) t (drop after b)
+coded : {b : List ℕ} {at after : ℕ} {t : Token} → Stands b at t after → (n : ℕ) → length b ≤ n + at
+    → parse n (drop at b) ≡ byToken (parse (n - 1)) t (drop after b)
 coded {b} {at} {after} {t} s n h =
     parse-token n (drop at b) (omega (arith, length-drop at b))
     ∙ ap (λ (u : Token). byToken (parse (n - 1)) u (drop (tokenSize u) (drop at b))) (s .token)
@@ -54,12 +55,13 @@ forward {b} {at} {k} {d} i e = go (parse (length b) (drop at b)) refl (e .is (le
         omega (arith, u, length-drop at b, length-append (bytesOf a) t, bytes-least a)
 
 module _ {b : List ℕ} {at after k d : ℕ} where
-  arm : {t : Token} {r : NodeEnd} → Stands b at t after → ((n : ℕ) → length b ≤ n + (at + 1) → r ≡ endOf k d (length b) (byToken (parse n) t (drop after b))) → NodeIs b at k d r
+  arm : {t : Token} {r : NodeEnd} → Stands b at t after
+      → ((n : ℕ) → length b ≤ n + (at + 1) → r ≡ endOf k d (length b) (byToken (parse n) t (drop after b))) → NodeIs b at k d r
   arm s f = record { is = λ n h. rw (coded s n h) (f (n - 1) (omega arith)) }
 
-  -- each kind of token, where g makes the formula
-  leaf-arm : {t : Token} (φ : Formula) (x : Bool) → ((n : ℕ) (y : List ℕ) → byToken (parse n) t y ≡ parsed φ y) → allowedUnder k d φ ≡ x → 1 ≤ tokenSize t
-      → Stands b at t after → NodeIs b at k d (endIf x after)
+  -- each kind of token: φ is a formula of one token, g makes a formula of its parts
+  leaf-arm : {t : Token} (φ : Formula) (x : Bool) → ((n : ℕ) (y : List ℕ) → byToken (parse n) t y ≡ parsed φ y)
+      → allowedUnder k d φ ≡ x → 1 ≤ tokenSize t → Stands b at t after → NodeIs b at k d (endIf x after)
   leaf-arm φ x u w l s = arm s (λ n h. rw (u n (drop after b), w, length-before b after (stands-within s l .1)))
 
   unary-arm : {t : Token} (d' : ℕ) (g : Formula → Formula) {r : NodeEnd} → ((n : ℕ) (y : List ℕ) → byToken (parse n) t y ≡ unary g (parse n y))
@@ -96,7 +98,8 @@ module _ {b : List ℕ} {at after k d : ℕ} where
   unfolding byToken tokenSize
   at-variable v s = leaf-arm (var v) _ (λ n y. refl) (under-var k d s v) (omega arith)
 
-  pub at-two : {r : NodeEnd} (x : Bool) → Stands b at (Two x) after → (i : NodeFacts) → NodeIs b after k d (At i) → NodeIs b (i .end) k d r → NodeIs b at k d r
+  pub at-two : {r : NodeEnd} (x : Bool) → Stands b at (Two x) after
+      → (i : NodeFacts) → NodeIs b after k d (At i) → NodeIs b (i .end) k d r → NodeIs b at k d r
   unfolding byToken tokenSize
   at-two true s i e = binary-arm or (λ n y. refl) (under-or k d) refl s i e
   at-two false s i e = binary-arm and (λ n y. refl) (under-and k d) refl s i e

@@ -1,5 +1,5 @@
--- The parse goes by tokens: the formula at the front of some bytes is decided by the token there and the bytes after it, so that a code
--- that does not go by codes reads what `parse` says. Rests on Bytes, RoundTrip and tokens' Tokens.
+-- The parse by tokens: the token at the front of some bytes, and the bytes after it, decide the formula there, so that a function that goes
+-- by tokens reads what `parse` says. Rests on Bytes, RoundTrip and tokens' Tokens.
 --   byToken: the formula that begins with a token
 --   parse-token: it is what `parse` gives
 --   token-bytes: the first token of a formula's bytes is its first node
@@ -34,7 +34,8 @@ byToken rest End b = unparsed
 byToken rest Broken b = unparsed
 
 -- from a code, and the bytes after it
-code-token : (rest : List ℕ → Parsed) (c : ℕ) (b : List ℕ) → byCode rest c b ≡ byToken rest (tokenByCode c b) (drop (tokenSize (tokenByCode c b)) (c ∷ b))
+code-token : (rest : List ℕ → Parsed) (c : ℕ) (b : List ℕ)
+    → byCode rest c b ≡ byToken rest (tokenByCode c b) (drop (tokenSize (tokenByCode c b)) (c ∷ b))
 unfolding byCode byToken tokenByCode tokenSize
 code-token rest zero b = refl
 code-token rest (suc zero) b = refl
@@ -55,7 +56,8 @@ code-token rest (suc (suc (suc (suc (suc (suc (suc (suc (suc (suc (suc n))))))))
     rw (code-other c b (omega arith)) (code-refused rest c b (omega arith))
 
 -- with enough depth for the bytes that are left
-pub parse-token : (n : ℕ) (b : List ℕ) → length b ≤ n → parse n b ≡ byToken (parse (n - 1)) (tokenOf b) (drop (tokenSize (tokenOf b)) b)
+pub parse-token : (n : ℕ) (b : List ℕ) → length b ≤ n
+    → parse n b ≡ byToken (parse (n - 1)) (tokenOf b) (drop (tokenSize (tokenOf b)) b)
 unfolding tokenOf byToken
 parse-token n [] l = parse-nil n
 parse-token n (c ∷ b) l = parse-code n c b (omega arith) ∙ code-token (parse (n - 1)) c b

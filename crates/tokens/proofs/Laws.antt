@@ -23,7 +23,8 @@ module _ (f : List ℕ) (at : ℕ) (l : at < length f) where
   at-code c q = rw (drop-cons f at 0 l, q, add-one)
 
   -- c or the next code, where a test for the code x decides
-  pub at-pair : (c x : ℕ) (t : Bool → List ℕ → Token) → ((b : List ℕ) → t (eqb c x) b ≡ tokenByCode c b) → ((b : List ℕ) → t (eqb (suc c) x) b ≡ tokenByCode (suc c) b)
+  pub at-pair : (c x : ℕ) (t : Bool → List ℕ → Token)
+      → ((b : List ℕ) → t (eqb c x) b ≡ tokenByCode c b) → ((b : List ℕ) → t (eqb (suc c) x) b ≡ tokenByCode (suc c) b)
       → c ≤ getD f at 0 → getD f at 0 ≤ suc c → t (eqb (getD f at 0) x) (drop (at + 1) f) ≡ tokenAt f at
   at-pair c x t u w y z =
       ⊎-elim (λ e. ap (λ (i : ℕ). t (eqb i x) (drop (at + 1) f)) e ∙ w _ ∙ at-code (suc c) e)

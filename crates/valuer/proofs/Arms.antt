@@ -89,7 +89,8 @@ module _ {t : List ℕ} {l : Lattice} {m f : List ℕ} {i : ℕ} {near mid far :
   right {d = d} {h = h} {e} a n p w = n .is d h e (subst (λ (q : ℕ). Spelled f q d (getD m 1 0) h) (sym (a .next)) (p .second)) w
 
 module _ {t : List ℕ} {l : Lattice} {m f : List ℕ} {at i : ℕ} {near mid far : List ℕ} where
-  pub here-second : {v : List ℕ} {j : ℕ} (x : Bool) → Stands f at (Two x) i → Here f at (getD m 1 0) → Node t l m f i near mid far v j → Second f i (getD m 1 0) j
+  pub here-second : {v : List ℕ} {j : ℕ} (x : Bool) → Stands f at (Two x) i → Here f at (getD m 1 0)
+      → Node t l m f i near mid far v j → Second f i (getD m 1 0) j
   unfolding tokenSize
   here-second true s y n = known s _ (λ d g h u. second (of-or (s .ends) g h u) n) y
   here-second false s y n = known s _ (λ d g h u. second (of-and (s .ends) g h u) n) y
@@ -99,7 +100,8 @@ module _ {t : List ℕ} {l : Lattice} {m f : List ℕ} {at i : ℕ} {near mid fa
 module _ {t : List ℕ} {l : Lattice} {m f : List ℕ} {at i : ℕ} {near mid far : List ℕ} where
   -- the answer for each formula that begins with the token that stands here
   by-one : {u : Token} {x : List ℕ} {j : ℕ} → Stands f at u i
-      → ((d : ℕ) (e : ℕ → ℕ → ℕ) (g h : Formula) → Spelled f at d (getD m 1 0) (build u g h) → SlotsHold (getD m 0 0) near mid far d e → Answer t l m f at (build u g h) e x j)
+      → ((d : ℕ) (e : ℕ → ℕ → ℕ) (g h : Formula) → Spelled f at d (getD m 1 0) (build u g h)
+      → SlotsHold (getD m 0 0) near mid far d e → Answer t l m f at (build u g h) e x j)
       → Node t l m f at near mid far x j
   by-one {u} {x} {j} s w = record {
     is = λ d φ e v h. by-token v u (s .token) (λ ψ. Spelled f at d (getD m 1 0) ψ → SlotsHold (getD m 0 0) near mid far d e → Answer t l m f at ψ e x j) (w d e) v h;
@@ -144,7 +146,8 @@ module _ {t : List ℕ} {l : Lattice} {m f : List ℕ} {at i : ℕ} {near mid fa
         values = filled-as o c (λ r q. ap₂ (meetIn t) (a .values .at r q) (z .values .at r q));
       })
 
-  pub next-arm : {x v : List ℕ} {j : ℕ} (b : Bool) → Stands f at (Next b) i → Node t l m f i near mid far x j → NextMap t l m b x v → Node t l m f at near mid far v j
+  pub next-arm : {x v : List ℕ} {j : ℕ} (b : Bool) → Stands f at (Next b) i → Node t l m f i near mid far x j
+      → NextMap t l m b x v → Node t l m f at near mid far v j
   unfolding bytesOf eval nextOf tokenSize
   next-arm true s nx o =
       by-one s (λ d e g h u w.
@@ -161,7 +164,8 @@ module _ {t : List ℕ} {l : Lattice} {m f : List ℕ} {at i : ℕ} {near mid fa
         values = filled-as o (le-refl _) (λ q k. someNext-cong (opsIn t l) (modelOf m) _ _ (a .values .at) q);
       })
 
-  pub fixpoint-arm : {x : List ℕ} {j s₀ : ℕ} (b : Bool) → Stands f at (Fixpoint b) i → s₀ ≡ startOf l b → Iterated t l m f i near mid s₀ x j → Node t l m f at near mid far x j
+  pub fixpoint-arm : {x : List ℕ} {j s₀ : ℕ} (b : Bool) → Stands f at (Fixpoint b) i → s₀ ≡ startOf l b
+      → Iterated t l m f i near mid s₀ x j → Node t l m f at near mid far x j
   unfolding bytesOf eval startOf tokenSize
   fixpoint-arm true s z n =
       by-one s (λ d e g h u w.

@@ -1,8 +1,8 @@
 // The values of formulas at the states of a model: a valuer of nodes and a fixpoint iteration that call each other, over a function for
-// each kind of node (maps, nexts), by the token at a place (tokens). A map from states to elements is an array of 64, of which the first N entries count. t and l are a lattice's
-// tables and numbers (operations), m is a model part (model), f a formula part (formula). A map is written into the lent array `out`, so that
-// a level of nesting takes little of the stack. Where the lattice has codes (codes) and an estimate says that they save steps,
-// AX and EX go by them (nexts).
+// each kind of node (maps, nexts); the token at a place says which (tokens). A map from states to elements is an array of 64, of which the
+// first N entries count. t and l are a lattice's tables and numbers (operations), m is a model part (model), f a formula part (formula). A map
+// is written into the lent array `out`, so that a level of nesting takes little of the stack. Where the lattice has codes (codes) and an
+// estimate says that they save steps, AX and EX go by them (nexts).
 mod estimate;
 
 use estimate::worth;
