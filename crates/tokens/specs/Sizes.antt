@@ -1,23 +1,25 @@
 -- A token lies within its part, and what is known where a token was read and matched. Rests on Tokens.
---   code-other: 'Any code from 11 to 255 is refused'
+--   code-past, code-other: 'Any code from 11 to 255 is refused'
 --   at-end: past the part's end stands the end
 --   size-within, end-most: a token lies within the part
 --   Stands, stands, stands-within: a token stands at a place, and another place is where it ends; both are within the part
 use Prim.Native.Nat.{ℕ, zero, suc, _+_, _≤_, _<_, max}
 use mathlib.Core.Path.{_≡_, refl, sym, ap, _∙_}
-use mathlib.Core.Bool.{Bool, true, false}
+use mathlib.Core.Bool.{Bool, true, false, cond}
 use mathlib.Core.List.{List, [], _∷_}
 use native.Mathlib.Omega.{arith}
-use lib.Dec.{ltb}
+use lib.Dec.{eqb, ltb}
 use lib.ListN.{length, drop, drop-of-length-le, length-drop}
 use borrow.Author.Tests.{ne-eqb, ltb-true, ltb-false}
 use Rattle.tokens.specs.declared.Token.{Token}
 use Rattle.tokens.specs.declared.Token.the-variants.{Variable, End, Broken}
 use Rattle.tokens.specs.Tokens.{literal, withNumber, tokenByCode, tokenOf, tokenSize, tokenAt}
 
-pub code-other : (c : ℕ) (b : List ℕ) → 11 ≤ c → tokenByCode c b ≡ Broken
-unfolding tokenByCode
-code-other c b l =
+-- where the codes 0 to 10 decide, and the code is past them
+pub code-past : {A : Type 0} (c : ℕ) → 11 ≤ c → (x₀ x₁ x₂ x₃ x₄ x₅ x₆ x₇ x₈ x₉ x₁₀ y : A)
+    → cond (eqb c 0) x₀ (cond (eqb c 1) x₁ (cond (eqb c 2) x₂ (cond (eqb c 3) x₃ (cond (eqb c 4) x₄ (cond (eqb c 5) x₅
+    (cond (eqb c 6) x₆ (cond (eqb c 7) x₇ (cond (eqb c 8) x₈ (cond (eqb c 9) x₉ (cond (eqb c 10) x₁₀ y)))))))))) ≡ y
+code-past c l x₀ x₁ x₂ x₃ x₄ x₅ x₆ x₇ x₈ x₉ x₁₀ y =
     simp (
       ne-eqb c 0 (λ e. omega arith),
       ne-eqb c 1 (λ e. omega arith),
@@ -31,6 +33,10 @@ code-other c b l =
       ne-eqb c 9 (λ e. omega arith),
       ne-eqb c 10 (λ e. omega arith),
     )
+
+pub code-other : (c : ℕ) (b : List ℕ) → 11 ≤ c → tokenByCode c b ≡ Broken
+unfolding tokenByCode
+code-other c b l = code-past c l _ _ _ _ _ _ _ _ _ _ _ _
 
 pub at-end : (f : List ℕ) (at : ℕ) → length f ≤ at → tokenAt f at ≡ End
 unfolding tokenOf
