@@ -227,7 +227,11 @@ mod tests {
             kind,
             number,
             part,
+            byte: 0,
             value,
+            second: 0,
+            flag1: false,
+            flag2: false,
         }
     }
 
