@@ -54,9 +54,9 @@ extern "C" {
 #define KOELCHAIR_REFUSED_NO_PARTIAL_ORDER 5
 #define KOELCHAIR_REFUSED_NO_MEET_OR_JOIN 6
 #define KOELCHAIR_REFUSED_NOT_DISTRIBUTIVE 7
-#define KOELCHAIR_REFUSED_COMPLEMENT 8       /* a complement rule is broken */
-#define KOELCHAIR_REFUSED_MODEL 9            /* a model part's length, a size or a value is wrong, or the models' counts of propositions differ */
-#define KOELCHAIR_REFUSED_FORMULA 10         /* a formula rule is broken */
+#define KOELCHAIR_REFUSED_BAD_COMPLEMENT 8   /* a complement rule is broken */
+#define KOELCHAIR_REFUSED_BAD_MODEL 9        /* a model part's length, a size or a value is wrong, or the models' counts of propositions differ */
+#define KOELCHAIR_REFUSED_BAD_FORMULA 10     /* a formula rule is broken */
 #define KOELCHAIR_REFUSED_SHORT_DESK 11      /* the store or a table is too short */
 #define KOELCHAIR_REFUSED_SPOILED_DESK 12    /* the desk breaks one of its rules, as a desk of zeros does */
 #define KOELCHAIR_REFUSED_OUT_OF_RANGE 13    /* a formula, model, state, element or table of the call is out of range */

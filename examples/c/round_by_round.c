@@ -35,9 +35,9 @@ static const char *refusal_in_words(uint8_t number)
     case KOELCHAIR_REFUSED_NO_PARTIAL_ORDER: return "the order is no partial order";
     case KOELCHAIR_REFUSED_NO_MEET_OR_JOIN: return "two elements have no meet or no join";
     case KOELCHAIR_REFUSED_NOT_DISTRIBUTIVE: return "the lattice is not distributive";
-    case KOELCHAIR_REFUSED_COMPLEMENT: return "a complement rule is broken";
-    case KOELCHAIR_REFUSED_MODEL: return "the model's length, a size or a value is wrong, or the models' propositions differ";
-    case KOELCHAIR_REFUSED_FORMULA: return "a formula rule is broken";
+    case KOELCHAIR_REFUSED_BAD_COMPLEMENT: return "a complement rule is broken";
+    case KOELCHAIR_REFUSED_BAD_MODEL: return "the model's length, a size or a value is wrong, or the models' propositions differ";
+    case KOELCHAIR_REFUSED_BAD_FORMULA: return "a formula rule is broken";
     case KOELCHAIR_REFUSED_SHORT_DESK: return "the store or a table is too short";
     case KOELCHAIR_REFUSED_SPOILED_DESK: return "the desk breaks one of its rules";
     case KOELCHAIR_REFUSED_OUT_OF_RANGE: return "an argument is out of range";
