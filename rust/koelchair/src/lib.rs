@@ -39,7 +39,8 @@
 //! - [`Refusal`] says why a call was refused; [`REFUSALS`] is the table of all refusals.
 //!
 //! How a case is laid out byte for byte, the calls, their answers and refusals, and what the words used here mean is said in
-//! docs/SPECIFICATION.md of the repository.
+//! docs/SPECIFICATION.md of the repository. Comments that speak of document 01 mean the customer's paper, which is not in the
+//! repository and of which that file says all that a caller needs.
 
 #![deny(missing_docs)]
 #![deny(unsafe_code)]
@@ -67,6 +68,24 @@ pub const CASE_MOST: usize = 32_768;
 
 /// The room for a listing; the longest is shorter.
 pub const LISTING_LENGTH: usize = 16_384;
+
+/// The most elements of a lattice.
+pub const ELEMENTS_MOST: usize = 64;
+
+/// The most states of a model.
+pub const STATES_MOST: usize = 64;
+
+/// The most propositions, the same in both models.
+pub const PROPOSITIONS_MOST: usize = 16;
+
+/// The most formulas of a case.
+pub const FORMULAS_MOST: usize = 8;
+
+/// The most bytes of a formula.
+pub const FORMULA_MOST: usize = 255;
+
+/// The most binders of a formula that stand one within another.
+pub const BINDERS_MOST: usize = 3;
 
 /// What the program `report` prints for a case: T, the rows of the settled table, the score and each formula's whole values, or the
 /// line `refused`, number, part. Each line ends in a line feed.

@@ -1,6 +1,7 @@
-//! The refusals have the same names and numbers in Rattle (crates/refusal), in Rust and in C (include/koelchair.h).
+//! The refusals have the same names and numbers in Rattle (crates/refusal), in Rust and in C (include/koelchair.h). The header has
+//! also the words of refusals, the sizes and the version of this crate.
 
-use koelchair::REFUSALS;
+use koelchair::{NO_PART, REFUSALS};
 use std::collections::BTreeMap;
 use std::path::Path;
 
@@ -57,22 +58,81 @@ fn rattle_has_the_names_of_the_table() {
     assert_eq!(variants, named);
 }
 
+/// What the header defines, by names without `KOELCHAIR_`.
+fn defined() -> BTreeMap<String, String> {
+    let defined = |line: &str| {
+        let (name, rest) = line.strip_prefix("#define KOELCHAIR_")?.split_once(' ')?;
+        let value = rest.split("/*").next()?.trim();
+        Some((name.to_string(), value.to_string()))
+    };
+    text("include/koelchair.h")
+        .lines()
+        .filter_map(defined)
+        .collect()
+}
+
+/// The numbers of the table by their names in the header, without `KOELCHAIR_`.
+fn names_in_capitals() -> BTreeMap<String, String> {
+    table()
+        .into_iter()
+        .map(|(number, name)| (format!("REFUSED_{}", capitals(&name)), number.to_string()))
+        .collect()
+}
+
 #[test]
 fn the_header_has_the_names_of_the_table() {
-    let text = text("include/koelchair.h");
-    let defined: BTreeMap<u8, String> = text
-        .lines()
-        .filter_map(|line| line.strip_prefix("#define KOELCHAIR_REFUSED_"))
-        .map(|line| {
-            let mut words = line.split_whitespace();
-            let name = words.next().expect("a name").to_string();
-            let number = words.next().expect("a number");
-            (number.parse().expect("a number"), name)
+    let mut refusals = defined();
+    refusals.retain(|name, _| name.starts_with("REFUSED_"));
+    assert_eq!(refusals, names_in_capitals());
+    assert_eq!(defined()["NO_PART"], NO_PART.to_string());
+}
+
+/// The header's function returns in the line of each refusal a string, which may go on in a second line.
+#[test]
+fn the_header_has_the_words_of_the_table() {
+    let header = text("include/koelchair.h");
+    let returned: BTreeMap<String, String> = header
+        .split("    case KOELCHAIR_")
+        .skip(1)
+        .map(|branch| {
+            let (name, rest) = branch.split_once(":\n").expect("a name");
+            let returned = rest.split(';').next().expect("a string");
+            let words: Vec<&str> = returned.split('"').skip(1).step_by(2).collect();
+            (name.to_string(), words.concat())
         })
         .collect();
-    let table: BTreeMap<u8, String> = table()
-        .into_iter()
-        .map(|(number, name)| (number, capitals(&name)))
-        .collect();
-    assert_eq!(defined, table);
+    let numbers = names_in_capitals();
+    assert_eq!(returned.len(), numbers.len());
+    for (name, words) in returned {
+        let number: usize = numbers[&name].parse().expect("a number");
+        assert_eq!(words, REFUSALS[number - 1].words, "{name}");
+    }
+}
+
+#[test]
+fn the_header_has_the_sizes() {
+    let defined = defined();
+    for (name, size) in [
+        ("STORE_LENGTH", koelchair::STORE_LENGTH),
+        ("TABLE_LENGTH", koelchair::TABLE_LENGTH),
+        ("CASE_MOST", koelchair::CASE_MOST),
+        ("LISTING_LENGTH", koelchair::LISTING_LENGTH),
+        ("ELEMENTS_MOST", koelchair::ELEMENTS_MOST),
+        ("STATES_MOST", koelchair::STATES_MOST),
+        ("PROPOSITIONS_MOST", koelchair::PROPOSITIONS_MOST),
+        ("FORMULAS_MOST", koelchair::FORMULAS_MOST),
+        ("FORMULA_MOST", koelchair::FORMULA_MOST),
+        ("BINDERS_MOST", koelchair::BINDERS_MOST),
+    ] {
+        assert_eq!(defined[name], size.to_string(), "{name}");
+    }
+}
+
+#[test]
+fn the_header_has_the_version() {
+    let defined = defined();
+    let version = env!("CARGO_PKG_VERSION");
+    assert_eq!(defined["VERSION"], format!("{version:?}"));
+    let parts = ["MAJOR", "MINOR", "PATCH"].map(|part| &*defined[&format!("VERSION_{part}")]);
+    assert_eq!(parts.join("."), version);
 }

@@ -3,3 +3,4 @@
 mod cases;
 mod examples;
 mod refusals;
+mod sizes;
