@@ -21,7 +21,7 @@ docs/SPECIFICATION.md. Elements, states and formulas are numbers from 0, models 
 import ctypes
 import pathlib
 from ctypes import c_bool, c_char, c_char_p, c_size_t, c_uint8, c_uint32
-from typing import List, NamedTuple
+from typing import NamedTuple, Optional
 
 
 class Standing(ctypes.Structure):
@@ -82,6 +82,8 @@ _STEPS = {2: "row", 3: "round", 4: "settled"}
 
 def _load(path):
     """The library, with its functions declared; an error where a struct here is not that of the header."""
+    if not path.is_file():
+        raise ImportError(f"there is no {path}: examples/python/build.sh makes a folder with it and this module")
     library = ctypes.CDLL(str(path))
     for name, (arguments, result) in _FUNCTIONS.items():
         function = getattr(library, "koelchair_" + name)
@@ -118,7 +120,7 @@ class Step(NamedTuple):
     """What step answers: `kind` is "row", "round" or "settled"; `round` is the round that was ended, T where settled, else None."""
 
     kind: str
-    round: int
+    round: Optional[int]
 
 
 def _accepted(answer):
@@ -186,7 +188,7 @@ class Desk:
         table = self._second if shown.table == 2 else self._first
         return table[: shown.length]
 
-    def rows(self) -> List[List[int]]:
+    def rows(self):
         """The shown table: a list for each state of model 1, in it an element for each state of model 2."""
         table, columns = self.show(), self._standing.states2
         return [list(table[i : i + columns]) for i in range(0, len(table), columns)]
