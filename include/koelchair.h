@@ -1,6 +1,6 @@
-/* Koelchair's eight calls and its listing for C, C99 or later, and for C++. They stand in target/staticlib/libexports.a, which
-   `rt staticlib exports` proves and writes. The contracts are in crates/exports/src; how a case is laid out byte for byte, and what the
-   words used here mean, is said in docs/SPECIFICATION.md.
+/* Koelchair's eight calls, what a desk holds, and the listing, for C, C99 or later, and for C++. They stand in
+   target/staticlib/libexports.a, which `rt staticlib exports` proves and writes. The contracts are in crates/exports/src; how a case is
+   laid out byte for byte, and what the words used here mean, is said in docs/SPECIFICATION.md.
 
    A desk is a standing, a store and two tables. The caller keeps all four: the standing as a struct, the others as bytes. A new desk
    is of any content, for instance zeros, and of KOELCHAIR_STORE_LENGTH and KOELCHAIR_TABLE_LENGTH bytes or more. koelchair_open and
@@ -131,12 +131,17 @@ typedef struct koelchair_standing {
     bool second_whole;
 } koelchair_standing;
 
-/* number and part are those of a refusal, value is as the kind says; where not named they are 0. */
+/* number and part are those of a refusal, value is as the kind says. A field that a kind does not name is 0 or false: byte, second, flag1
+   and flag2 are so in every answer of today. They are there so that a kind to come does not alter the layout. */
 typedef struct koelchair_answer {
     uint8_t kind;
     uint8_t number;
     uint8_t part;
+    uint8_t byte;
     uint32_t value;
+    uint32_t second;
+    bool flag1;
+    bool flag2;
 } koelchair_answer;
 
 /* The standing after the call, and its answer. */
@@ -150,6 +155,18 @@ typedef struct koelchair_shown {
     uint8_t table;
     size_t length;
 } koelchair_shown;
+
+/* What a desk holds: the elements of its lattice, the propositions that both models have, the states of each model, N1 and N2, and the
+   formulas. number and part are 0; where the desk is refused they are the refusal's, and all others are 0. */
+typedef struct koelchair_desk_sizes {
+    uint8_t number;
+    uint8_t part;
+    uint8_t elements;
+    uint8_t propositions;
+    uint8_t states1;
+    uint8_t states2;
+    uint8_t formulas;
+} koelchair_desk_sizes;
 
 /* ---- the calls that move the desk on */
 
@@ -212,6 +229,16 @@ koelchair_answer koelchair_judge(koelchair_standing standing,
                                  const uint8_t *first, size_t first_length,
                                  const uint8_t *second, size_t second_length,
                                  const uint8_t *table, size_t table_length);
+
+/* ---- what a desk holds */
+
+/* The sizes of what the desk holds: elements, propositions, states and formulas. Reads the store and both tables; writes nothing. A desk
+   that every call but koelchair_open refuses has the number 11 or 12 and the part of that refusal, and zeros. It is none of the eight
+   calls: use it for a desk whose case is not at hand. */
+koelchair_desk_sizes koelchair_sizes(koelchair_standing standing,
+                                     const uint8_t *store, size_t store_length,
+                                     const uint8_t *first, size_t first_length,
+                                     const uint8_t *second, size_t second_length);
 
 /* ---- the listing */
 

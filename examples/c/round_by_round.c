@@ -101,6 +101,17 @@ static bool print_formula(const struct desk *d, uint8_t formula, uint8_t model)
     return true;
 }
 
+/* Prints what the desk holds, or why it is refused. */
+static void print_sizes(const struct desk *d)
+{
+    koelchair_desk_sizes held = koelchair_sizes(LENT(d));
+    if (held.number != 0)
+        printf("the desk is refused %d %d: %s\n", held.number, held.part, koelchair_refusal_words(held.number));
+    else
+        printf("the desk holds %d elements, %d propositions, models of %d and %d states, %d formulas\n",
+               held.elements, held.propositions, held.states1, held.states2, held.formulas);
+}
+
 static void print_listing(const uint8_t *case_bytes, size_t case_length)
 {
     static uint8_t text[KOELCHAIR_LISTING_LENGTH];
@@ -119,10 +130,12 @@ int main(void)
         return 2;
     }
     print_listing(input, length);
+    print_sizes(&d);
     koelchair_moved opened = koelchair_open(d.standing, input, length, d.store, sizeof d.store, d.first, sizeof d.first, d.second, sizeof d.second);
     unless_refused("open", opened.answer);
     d.standing = opened.standing;
     printf("open: opened, a table of %d by %d entries\n", d.standing.states1, d.standing.states2);
+    print_sizes(&d);
     print_table(&d);
     while (!d.standing.settled)
         print_step(&d);

@@ -12,6 +12,7 @@ const size_t koelchair_standing_bytes = sizeof(koelchair_standing);
 const size_t koelchair_answer_bytes = sizeof(koelchair_answer);
 const size_t koelchair_moved_bytes = sizeof(koelchair_moved);
 const size_t koelchair_shown_bytes = sizeof(koelchair_shown);
+const size_t koelchair_desk_sizes_bytes = sizeof(koelchair_desk_sizes);
 
 const char *koelchair_words(uint8_t number)
 {

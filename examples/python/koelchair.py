@@ -43,7 +43,11 @@ class _Answer(ctypes.Structure):
         ("kind", c_uint8),
         ("number", c_uint8),
         ("part", c_uint8),
+        ("byte", c_uint8),
         ("value", c_uint32),
+        ("second", c_uint32),
+        ("flag1", c_bool),
+        ("flag2", c_bool),
     ]
 
 
@@ -53,6 +57,18 @@ class _Moved(ctypes.Structure):
 
 class _Shown(ctypes.Structure):
     _fields_ = [("table", c_uint8), ("length", c_size_t)]
+
+
+class _DeskSizes(ctypes.Structure):
+    _fields_ = [
+        ("number", c_uint8),
+        ("part", c_uint8),
+        ("elements", c_uint8),
+        ("propositions", c_uint8),
+        ("states1", c_uint8),
+        ("states2", c_uint8),
+        ("formulas", c_uint8),
+    ]
 
 
 _BYTES = [c_char_p, c_size_t]
@@ -68,12 +84,13 @@ _FUNCTIONS = {
     "score": (_DESK, _Answer),
     "share": (_DESK + [c_uint8], _Answer),
     "judge": (_DESK + _BYTES, _Answer),
+    "sizes": (_DESK, _DeskSizes),
     "listing": (_BYTES + [c_char_p], c_size_t),
     "words": ([c_uint8], c_char_p),
 }
 
 # The structs above, by their names in the header.
-_STRUCTS = {"standing": Standing, "answer": _Answer, "moved": _Moved, "shown": _Shown}
+_STRUCTS = {"standing": Standing, "answer": _Answer, "moved": _Moved, "shown": _Shown, "desk_sizes": _DeskSizes}
 
 # Kinds of answers, and what step calls its own.
 _REFUSED = 0
@@ -121,6 +138,16 @@ class Step(NamedTuple):
 
     kind: str
     round: Optional[int]
+
+
+class Sizes(NamedTuple):
+    """What a desk holds: elements of the lattice, propositions, states of models 1 and 2, formulas."""
+
+    elements: int
+    propositions: int
+    states1: int
+    states2: int
+    formulas: int
 
 
 def _accepted(answer):
@@ -213,6 +240,13 @@ class Desk:
         """Whether a table of N1 · N2 elements, as bytes, is a simulation; refused with 13."""
         table = bytes(table)
         return self._asked(_library.koelchair_judge, table, len(table)) == 1
+
+    def sizes(self):
+        """What the desk holds."""
+        held = _library.koelchair_sizes(self._standing, *self._lent())
+        if held.number != 0:
+            raise Refused(held.number, held.part)
+        return Sizes(held.elements, held.propositions, held.states1, held.states2, held.formulas)
 
 
 def listing(case):

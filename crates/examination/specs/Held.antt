@@ -4,9 +4,10 @@
 --   held-shown, held-question, held-outside, refused-call: what a call does that is answered, refused by its tests, or by the examination
 --   case-few, few: N1·N2 is at most 4,096; table-kept: the test of a table's bytes, from that of the code
 --   short-examined, unread-examined, spoiled-examined, held-examined: the four answers of the examination
+--   show-examined: the examination of show is that of step
 use Prim.Native.Nat.{ℕ, _+_, _*_, _≤_}
 use mathlib.Core.Path.{_≡_, refl, sym, ap, _∙_}
-use mathlib.Core.Bool.{Bool, true, false}
+use mathlib.Core.Bool.{Bool, true, false, cond}
 use mathlib.Core.List.{List}
 use native.Mathlib.Nat.{zero-add}
 use native.Mathlib.Omega.{arith}
@@ -24,7 +25,7 @@ use Rattle.casefile.specs.Caller.{AcceptedCase, accepted-as}
 use Rattle.desk.specs.Desk.{Desk, Question, Call, Reply, wholeTable, isOpen, lentTo, lentBy}
 use Rattle.desk.specs.Case.{tableSize}
 use Rattle.desk.specs.View.{View, viewOf}
-use Rattle.desk.specs.Refused.{short, tableKept, rulesKept, keptFor, spoiled, tests, passed, fails, verdict, byVerdict, examined, refusedReply, numberReply}
+use Rattle.desk.specs.Refused.{short, tableKept, rulesKept, keptFor, spoiled, tests, passed, fails, verdict, byVerdict, ofStore, examined, refusedReply, numberReply}
 use Rattle.desk.specs.Perform.{answerTo, lentAfter, answer, moved, lentLeft}
 use Rattle.desk.specs.RefusedLaws.{Unspoiled, is-short, is-spoiled, in-store, outcome, Outcome, too-short, broken, outside, inside, other-accepted, perform-refused, perform-accepted}
 use Rattle.desk.specs.RulesLaws.{Long, long-enough, rules-out}
@@ -132,3 +133,12 @@ module _ (d : Desk) (z : Sizes) (t : List ℕ) (s : short d ≡ false) (a : Acce
         answer = ap Held (a .sizes) ∙ sym (ap examinedAnswer e);
         tables = λ c g. let q : a .holds ≡ c = cc in rw (← q) (rw (a .sizes) at (a .tables));
       }
+
+-- show has no tests of its own, as step has none
+pub show-examined : (d : Desk) → examined Call.Show d ≡ examined Call.Step d
+unfolding examined
+show-examined d = ap (λ (x : CaseReading). cond (short d) (refused ShortDesk) x) (go (storeReading (d .store)))
+  where
+    go : (x : CaseReading) → ofStore Call.Show d x ≡ ofStore Call.Step d x
+    go (refused r) = refl
+    go (content c) = refl

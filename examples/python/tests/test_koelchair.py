@@ -19,6 +19,7 @@ class Examples(unittest.TestCase):
     def test_example_1(self):
         desk = koelchair.Desk(example(1))
         self.assertEqual(desk.rows(), [[2]])
+        self.assertEqual(desk.sizes(), koelchair.Sizes(3, 1, 1, 1, 1))
         self.assertEqual(desk.step(), koelchair.Step("round", 1))
         self.assertEqual(desk.step(), koelchair.Step("settled", 2))
         self.assertEqual(desk.step(), koelchair.Step("settled", 2))

@@ -37,6 +37,21 @@ pub enum StepAnswer {
     Settled(u32),
 }
 
+/// What a desk holds.
+#[derive(Clone, Copy, Debug, PartialEq, Eq, Hash)]
+pub struct Sizes {
+    /// n, the elements of the lattice.
+    pub elements: u8,
+    /// k, the propositions, the same in both models.
+    pub propositions: u8,
+    /// N1, the states of model 1.
+    pub states1: u8,
+    /// N2, the states of model 2.
+    pub states2: u8,
+    /// The formulas.
+    pub formulas: u8,
+}
+
 /// An answer that its call cannot give.
 fn impossible(call: &str, answer: raw::Answer) -> ! {
     panic!("the archive gave to {call} the answer {answer:?}, which it has not")
@@ -86,6 +101,28 @@ pub(crate) fn says(answer: raw::Answer) -> Result<bool, Refusal> {
     }
 }
 
+pub(crate) fn sizes(held: raw::DeskSizes) -> Result<Sizes, Refusal> {
+    let raw::DeskSizes {
+        number,
+        part,
+        elements,
+        propositions,
+        states1,
+        states2,
+        formulas,
+    } = held;
+    match number {
+        0 => Ok(Sizes {
+            elements,
+            propositions,
+            states1,
+            states2,
+            formulas,
+        }),
+        _ => Err(Refusal::read(number, part)),
+    }
+}
+
 #[cfg(test)]
 mod tests {
     use super::*;
@@ -123,6 +160,12 @@ mod tests {
         assert_eq!(element(refused), Err(Refusal::BadModel(2)));
         assert_eq!(per_cent(refused), Err(Refusal::BadModel(2)));
         assert_eq!(says(refused), Err(Refusal::BadModel(2)));
+        let held = raw::DeskSizes {
+            number: 12,
+            part: 255,
+            ..raw::DeskSizes::default()
+        };
+        assert_eq!(sizes(held), Err(Refusal::SpoiledDesk));
     }
 
     #[test]

@@ -1,6 +1,6 @@
 //! A desk that owns its standing, its store and both tables.
 
-use crate::{DeskMut, DeskRef, Element, Refusal, Standing, State, StepAnswer};
+use crate::{DeskMut, DeskRef, Element, Refusal, Sizes, Standing, State, StepAnswer};
 use crate::{STORE_LENGTH, TABLE_LENGTH};
 use std::fmt;
 
@@ -90,6 +90,11 @@ impl Desk {
     /// Refused with 13 where the table has another length or a byte that is no element.
     pub fn judge(&self, table: &[u8]) -> Result<bool, Refusal> {
         self.lent().judge(table)
+    }
+
+    /// What the desk holds.
+    pub fn sizes(&self) -> Sizes {
+        self.lent().sizes().expect(KEPT)
     }
 
     /// Where the desk stands.

@@ -1,6 +1,6 @@
 //! A desk whose standing, store and tables belong to the caller: `DeskRef` for the calls that read, `DeskMut` for all.
 
-use crate::{answer, raw, Element, Refusal, State, StepAnswer};
+use crate::{answer, raw, Element, Refusal, Sizes, State, StepAnswer};
 
 /// Where a desk stands. A standing of any content may be passed to any call: one that breaks a rule is refused with 12 by
 /// every call but [`DeskMut::open`].
@@ -100,6 +100,13 @@ impl<'a> DeskRef<'a> {
     /// Refused with 11 or 12, or with 13 where the table has another length or a byte that is no element.
     pub fn judge(self, table: &[u8]) -> Result<bool, Refusal> {
         answer::says(raw::judge(self, table))
+    }
+
+    /// What the desk holds, for a desk whose case is not at hand.
+    ///
+    /// Refused with 11 or 12.
+    pub fn sizes(self) -> Result<Sizes, Refusal> {
+        answer::sizes(raw::sizes(self))
     }
 }
 

@@ -52,7 +52,7 @@ mod lent;
 mod raw;
 mod refusal;
 
-pub use answer::{Element, State, StepAnswer};
+pub use answer::{Element, Sizes, State, StepAnswer};
 pub use desk::Desk;
 pub use lent::{DeskMut, DeskRef, Standing};
 pub use refusal::{Refusal, RefusalEntry, NO_PART, REFUSALS};

@@ -5,14 +5,19 @@
 
 use crate::{DeskMut, DeskRef, Standing, LISTING_LENGTH};
 
-/// An answer in numbers: `kind` says which, and the fields that this kind does not use are 0.
+/// An answer in numbers: `kind` says which, and the fields that this kind does not use are 0 or false. No kind uses `byte`, `second`,
+/// `flag1` and `flag2` yet.
 #[repr(C)]
 #[derive(Clone, Copy, Debug, Default)]
 pub struct Answer {
     pub kind: u8,
     pub number: u8,
     pub part: u8,
+    pub byte: u8,
     pub value: u32,
+    pub second: u32,
+    pub flag1: bool,
+    pub flag2: bool,
 }
 
 /// What open and step give: the standing after the call, and the answer.
@@ -27,6 +32,20 @@ pub struct Moved {
 pub struct Shown {
     pub table: u8,
     pub length: usize,
+}
+
+/// What a desk holds: the elements of its lattice, the propositions and the states of its models, and its formulas. A refused desk has the
+/// refusal's number and part, and zeros; any other has number and part 0.
+#[repr(C)]
+#[derive(Clone, Copy, Debug, Default)]
+pub struct DeskSizes {
+    pub number: u8,
+    pub part: u8,
+    pub elements: u8,
+    pub propositions: u8,
+    pub states1: u8,
+    pub states2: u8,
+    pub formulas: u8,
 }
 
 extern "C" {
@@ -120,6 +139,16 @@ extern "C" {
         table_length: usize,
     ) -> Answer;
 
+    fn koelchair_sizes(
+        standing: Standing,
+        store: *const u8,
+        store_length: usize,
+        first: *const u8,
+        first_length: usize,
+        second: *const u8,
+        second_length: usize,
+    ) -> DeskSizes;
+
     fn koelchair_listing(case: *const u8, case_length: usize, text: *mut u8) -> usize;
 }
 
@@ -194,6 +223,10 @@ pub fn share(desk: DeskRef, element: u8) -> Answer {
 
 pub fn judge(desk: DeskRef, table: &[u8]) -> Answer {
     ask!(koelchair_judge, desk, table.as_ptr(), table.len())
+}
+
+pub fn sizes(desk: DeskRef) -> DeskSizes {
+    ask!(koelchair_sizes, desk)
 }
 
 /// Writes the listing at the front of `text`, and gives its length.

@@ -1,7 +1,7 @@
 //! Worked examples 1, 2, 4 and 6 of document 01 and its listing, by the desk that owns its buffers and by the one that is lent them.
 
 use crate::cases::{self, Lent};
-use koelchair::{Desk, Element, State, StepAnswer};
+use koelchair::{Desk, Element, Sizes, State, StepAnswer};
 
 /// The answers of all steps up to the settling one, each with the table shown after it. The desk and one that is lent
 /// longer buffers with other content must give the same.
@@ -125,6 +125,27 @@ fn example_6() {
         let share = lent.lent().share(Element(1));
         assert_eq!(share, Ok(per_cent), "{ones} in 8");
     }
+}
+
+#[test]
+fn what_a_desk_holds() {
+    let desk = Desk::open(&cases::example_4()).unwrap();
+    let held = Sizes {
+        elements: 2,
+        propositions: 1,
+        states1: 2,
+        states2: 2,
+        formulas: 1,
+    };
+    assert_eq!(desk.sizes(), held);
+    let eighths = Lent::opened(&cases::eighths(3));
+    let held = Sizes {
+        states1: 8,
+        states2: 1,
+        formulas: 0,
+        ..held
+    };
+    assert_eq!(eighths.lent().sizes(), Ok(held));
 }
 
 #[test]

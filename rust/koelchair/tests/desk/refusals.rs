@@ -71,6 +71,7 @@ fn assert_refused(desk: &Lent, refusal: Refusal) {
     assert_eq!(desk.score(), Err(refusal));
     assert_eq!(desk.share(Element(0)), Err(refusal));
     assert_eq!(desk.judge(&[0; 4]), Err(refusal));
+    assert_eq!(desk.sizes(), Err(refusal));
 }
 
 #[test]
