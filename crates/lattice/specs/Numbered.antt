@@ -56,7 +56,10 @@ panel-is (a ∷ c ∷ b) t = absurd (omega (arith, eqb-true (length (a ∷ c ∷
 
 pub form-exactly : (b : List ℕ) → (latticeForm b ≡ true) ↔ HasForm b
 unfolding latticeForm isPanel
-form-exactly b = (λ t. there (isPanel b) refl t, λ w. ⊎-elim (λ (e : b ≡ 0 ∷ []). rw e) (λ (w : ExplicitForm (getD b 0 0) b). either (isPanel b) (explicit-in _ b w)) w)
+form-exactly b = (
+  λ t. there (isPanel b) refl t,
+  λ w. ⊎-elim (λ (e : b ≡ 0 ∷ []). rw e) (λ (x : ExplicitForm (getD b 0 0) b). either (isPanel b) (explicit-in _ b x)) w,
+)
   where
     there : (p : Bool) → isPanel b ≡ p → (p || explicitForm (getD b 0 0) b) ≡ true → HasForm b
     there true e t = inl (panel-is b e)
@@ -130,7 +133,8 @@ not-accepted e = let z : _≡_ {A = ℕ} 0 1 = cc in omega arith
 abbrev Numbered : Refusal → Type 0
 Numbered r = (4 ≤ numberOf r) × (numberOf r ≤ 8)
 
-require-number : (t : Bool) (f : Refusal) {next : LatticeReading} (r : Refusal) → Numbered f → (next ≡ refused r → Numbered r) → require t f next ≡ refused r → Numbered r
+require-number : (t : Bool) (f : Refusal) {next : LatticeReading} (r : Refusal) → Numbered f → (next ≡ refused r → Numbered r)
+    → require t f next ≡ refused r → Numbered r
 unfolding require
 require-number true f r n g e = g e
 require-number false f r n g e = let q : f ≡ r = cc in rw q at n

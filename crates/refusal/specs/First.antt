@@ -21,7 +21,8 @@ pub first-here : {A C : Type 0} {next own : A} (t : Bool) → (t ≡ true) ↔ C
 first-here true w n = (λ e. absurd (n e), λ h. absurd (h (w .0 refl)))
 first-here false w n = (λ e c. failed (w .1 c), λ h. refl)
 
-pub first-later : {A C X : Type 0} {next own other : A} (t : Bool) → (t ≡ true) ↔ C → (own ≡ other → ⊥) → (next ≡ other) ↔ X → (cond t next own ≡ other) ↔ (C × X)
+pub first-later : {A C X : Type 0} {next own other : A} (t : Bool) → (t ≡ true) ↔ C → (own ≡ other → ⊥)
+    → (next ≡ other) ↔ X → (cond t next own ≡ other) ↔ (C × X)
 first-later true w n x = (λ e. (w .0 refl, x .0 e), λ h. x .1 (h .1))
 first-later false w n x = (λ e. absurd (n e), λ h. failed (w .1 (h .0)))
 
