@@ -15,7 +15,7 @@ pub mod CaseParts  -- formula f and model m of an accepted case, as parts of its
 pub mod RulesLaws  -- the tests of refusals 11, 12 and 13 say what their rules say
 pub mod ViewLaws  -- a question treats views alike that agree at the pairs of states
 pub mod RefusedLaws  -- which refusal a call gets, and what an accepted call knows
-pub mod CaseNumbers  -- the refusals of a case have the numbers 1 to 10
+pub mod Demand1Holds  -- demand 1 holds of every call on every desk
 pub mod Stands  -- the invariant of demand 3, and that an accepted opening starts it
 pub mod Stepping  -- an accepted step moves it on
 pub mod Next  -- what the next call answers where it holds

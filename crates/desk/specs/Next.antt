@@ -23,6 +23,7 @@ use Rattle.refusal.specs.Number.{numberOf}
 use Rattle.casefile.specs.Reading.{Content, content, refused, storeReading}
 use Rattle.casefile.specs.Accepted.{store-reads}
 use Rattle.casefile.specs.Content.{ContentSound}
+use Rattle.casefile.specs.Numbered.{CaseNumber, case-number}
 use Rattle.rounds.specs.Table.{changedBelow}
 use Rattle.rounds.specs.Round.{changed-none, shown-bytes}
 use Rattle.desk.specs.Desk.{Standing, Desk, Question, Call, Reply, wholeTable, isOpen}
@@ -35,7 +36,6 @@ use Rattle.desk.specs.Run.{roundAfter, answerAfter, viewAfter, AsksAs}
 use Rattle.desk.specs.RefusedLaws.{Unspoiled, opens-or-not, open-long, in-store, perform-refused, perform-accepted}
 use Rattle.desk.specs.RulesLaws.{Long, long-not-short, verdict-late}
 use Rattle.desk.specs.ViewLaws.{Treated, treated, SameView, treated-cong}
-use Rattle.desk.specs.CaseNumbers.{CaseNumber, case-number}
 use Rattle.desk.specs.Stands.{known-sound, Going, Ended, Progress, GoingAt, EndedAt, Stands, sizes-most}
 
 -- ---- s is round · N1 + row

@@ -19,7 +19,8 @@ use Rattle.theory.specs.Test.{allBelow}
 use Rattle.theory.specs.TestLaws.{and-l, not-passed, false-true, all-in}
 use Rattle.lattice.specs.Panel.{panelOrder, panelPart}
 use Rattle.lattice.specs.Reading.{isPanel, latticeOf, explicitForm, latticeForm}
-use Rattle.lattice.specs.Accepted.{ExplicitForm, explicit-out}
+use Rattle.lattice.specs.Conditions.{ExplicitForm}
+use Rattle.lattice.specs.Numbered.{explicit-out}
 
 -- n² for n up to 64
 pub square-le : (n : ℕ) → n ≤ 64 → n * n ≤ 4096
