@@ -7,7 +7,6 @@ use mathlib.Core.Path.{_≡_, refl, sym, ap, _∙_, subst}
 use mathlib.Core.Bool.{Bool, true, false}
 use mathlib.Core.Logic.{_↔_}
 use mathlib.Core.List.{List, _∷_}
-use mathlib.Core.Option.{Option, none, some}
 use native.Mathlib.Omega.{arith}
 use lib.ListN.{length, getD}
 use Rattle.theory.specs.Value.{valueAt, wholeValue}
@@ -17,7 +16,6 @@ use Rattle.theory.specs.Rounds.{T-at-most, settled-greatest, below-rounds, fixe
 use Rattle.theory.specs.Preservation.{bounded-by-round, bounded-at-T}
 use Rattle.theory.specs.Sharp.{T-sharp}
 use Rattle.theory.specs.TestLaws.{false-true, not-passed}
-use Rattle.refusal.specs.declared.Refusal.{Refusal}
 use Rattle.refusal.specs.declared.Refusal.the-variants.{ShortDesk, SpoiledDesk}
 use Rattle.casefile.specs.Reading.{Content}
 use Rattle.casefile.specs.Content.{content-sound}
@@ -25,7 +23,7 @@ use Rattle.rounds.specs.Table.{tableOf, simulationTest}
 use Rattle.rounds.specs.Round.{simulation-test}
 use Rattle.desk.specs.Desk.{Desk, Question, Call, Reply}
 use Rattle.desk.specs.Case.{ops, model1, model2, N2, tableSize, modelIn, formulaIn, operator, roundIn, IsT, entryAt}
-use Rattle.desk.specs.Refused.{conditions, firstRefusal, noRefusal, inRange, accepted}
+use Rattle.desk.specs.Refused.{InRange, accepted}
 use Rattle.desk.specs.Moved.{opened}
 use Rattle.desk.specs.View.{View}
 use Rattle.desk.specs.Perform.{perform, asked, answerTo, moved}
@@ -69,19 +67,15 @@ module _ {c : Content} {T : ℕ} where
 
 -- ---- the questions one by one
 
-no-refusal : (x : Option Refusal) → noRefusal x ≡ true → x ≡ none
-no-refusal none e = refl
-no-refusal (some r) e = absurd (false-true refl e)
-
 module _ {c : Content} {T : ℕ} {answers : List Reply} {d : Desk} (w : Claim c T answers d) where
   abbrev view : View
   view = viewAfter c T (length answers)
 
-  pub ranges : (q : Question) → accepted (Call.Ask q) d ≡ inRange q view
+  pub ranges : (q : Question) → (accepted (Call.Ask q) d ≡ true) ↔ InRange q view
   ranges q = w .question-next q .accepts
 
   pub asked-next : (q : Question) → accepted (Call.Ask q) d ≡ true → asked q d ≡ answerTo q view .reply
-  asked-next q a = ap (λ x. x .reply) (w .question-next q .answers (no-refusal (firstRefusal (conditions q) view) (sym (ranges q) ∙ a)))
+  asked-next q a = ap (λ x. x .reply) (w .question-next q .answers (ranges q .0 a))
 
   pub value-next : (f m q : ℕ) → accepted (Call.Ask (Question.Value f m q)) d ≡ true
       → asked (Question.Value f m q) d ≡ Reply.Element (valueAt (ops c) (modelIn c m) (formulaIn c f) q)
@@ -92,7 +86,7 @@ module _ {c : Content} {T : ℕ} {answers : List Reply} {d : Desk} (w : Claim c 
   whole-next f m a = asked-next (Question.Whole f m) a
 
   pub score-next : asked Question.Score d ≡ Reply.Element (score (ops c) (model1 c) (model2 c) (roundIn c (roundAfter c T (length answers))))
-  score-next = asked-next Question.Score (ranges Question.Score)
+  score-next = asked-next Question.Score (ranges Question.Score .1 tt)
 
   pub share-next : (e : ℕ) → accepted (Call.Ask (Question.Share e)) d ≡ true
       → asked (Question.Share e) d ≡ Reply.PerCent (share (ops c) (tableSize c) (entryAt c (roundIn c (roundAfter c T (length answers)))) e)

@@ -33,7 +33,7 @@ use Rattle.desk.specs.Moved.{stepAnswer}
 use Rattle.desk.specs.Perform.{perform, showAnswer, answer, moved, lentAfter}
 use Rattle.desk.specs.Run.{roundAfter, answerAfter, viewAfter, AnsweredFrom}
 use Rattle.desk.specs.RefusedLaws.{Unspoiled, opens-or-not, open-long, in-store, perform-refused, perform-accepted}
-use Rattle.desk.specs.RulesLaws.{Long, long-not-short, refusal-one}
+use Rattle.desk.specs.RulesLaws.{Long, long-not-short, range-exactly, broken-exactly, refusal-one}
 use Rattle.desk.specs.ViewLaws.{SameView, conditions-cong, answer-cong}
 use Rattle.desk.specs.CaseNumbers.{CaseNumber, case-number}
 use Rattle.desk.specs.Stands.{known-sound, Going, Ended, Progress, GoingAt, EndedAt, Stands, sizes-most}
@@ -87,6 +87,10 @@ module _ {c : Content} {T s : ℕ} {x : Standing} where
   pub position : {whole other : List ℕ} → 0 < N1 c → Progress c T s x whole other → Position c T s x
   position states h = ⊎-elim going-position (ended-position states) (h .place)
 
+no-refusal : (x : Option Refusal) → noRefusal x ≡ true → x ≡ none
+no-refusal none e = refl
+no-refusal (some r) e = absurd (false-true refl e)
+
 -- what holds of the whole table and of the other holds of the first and of the second
 of-either : (P : List ℕ → Type 0) (w : Bool) (f g : List ℕ) → P (cond w g f) → P (cond w f g) → P f × P g
 of-either P true f g p q = (q, p)
@@ -122,8 +126,8 @@ module _ {c : Content} {T s : ℕ} {d : Desk} (w : Stands c T s d) where
   going-rules g =
       record {
         reads = store-reads-as;
-        size1 = w .states1-is;
-        size2 = w .states2-is;
+        size1 = w .sizes .0;
+        size2 = w .sizes .1;
         row-below = g .row-below;
         nothing-yet = λ z. g .so-far .changed-is ∙ ap (changedBelow (model1 c) (model2 c) (operator c) (shownTable c d)) z ∙ changed-none (model1 c) (model2 c) (operator c) (shownTable c d);
         unsettled-most = λ z. omega (arith, g .below, T-limit);
@@ -138,8 +142,8 @@ module _ {c : Content} {T s : ℕ} {d : Desk} (w : Stands c T s d) where
   ended-rules x =
       record {
         reads = store-reads-as;
-        size1 = w .states1-is;
-        size2 = w .states2-is;
+        size1 = w .sizes .0;
+        size2 = w .sizes .1;
         row-below = omega (arith, x .row-0, content-is-sound .shape1 .some);
         nothing-yet = λ z. x .unchanged;
         unsettled-most = λ z. absurd (false-true z (x .isSettled));
@@ -223,14 +227,19 @@ module _ {c : Content} {T s : ℕ} {d : Desk} (w : Stands c T s d) where
   views-same : SameView (viewOf c d) (viewAfter c T s)
   views-same = record { holds-same = refl; round-same = at .round-is; settled-same = at .settled-is; entries-same = shows }
 
-  asked-next : (q : Question) → examined (Call.Ask q) d ≡ afterRules c (firstRefusal (conditions q) (viewAfter c T s))
-  asked-next q = in-store (Call.Ask q) d c refl stands-unspoiled ∙ ap (afterRules c) (conditions-cong (viewOf c d) (viewAfter c T s) views-same (conditions q))
+  same-refusal : (q : Question) → firstRefusal (conditions q) (viewOf c d) ≡ firstRefusal (conditions q) (viewAfter c T s)
+  same-refusal q = conditions-cong (viewOf c d) (viewAfter c T s) views-same (conditions q)
+
+  asked-next : (q : Question) (x : Option Refusal) → firstRefusal (conditions q) (viewAfter c T s) ≡ x → examined (Call.Ask q) d ≡ afterRules c x
+  asked-next q x e = in-store (Call.Ask q) d c refl stands-unspoiled ∙ ap (afterRules c) (same-refusal q ∙ e)
 
   pub answered-from : (q : Question) → AnsweredFrom q d (viewAfter c T s)
   unfolding answer moved lentAfter
   answered-from q =
+      let v = viewAfter c T s in
+      let a : accepted (Call.Ask q) d ≡ noRefusal (firstRefusal (conditions q) v) = ranges-are (Call.Ask q) refl ∙ ap noRefusal (same-refusal q) in
       record {
-        accepts = ranges-are (Call.Ask q) refl ∙ ap noRefusal (conditions-cong (viewOf c d) (viewAfter c T s) views-same (conditions q));
-        answers = λ e. perform-accepted (Call.Ask q) d c (asked-next q ∙ ap (afterRules c) e) ∙ ap (λ (x : Answered). record { reply = x .reply; desk = d; lent = x .lent }) (answer-cong (viewOf c d) (viewAfter c T s) views-same q);
-        refuses = λ r e. perform-refused (Call.Ask q) d r (asked-next q ∙ ap (afterRules c) e);
+        accepts = (λ e. range-exactly q v .0 (no-refusal _ (sym a ∙ e)), λ h. a ∙ ap noRefusal (range-exactly q v .1 h));
+        answers = λ h. perform-accepted (Call.Ask q) d c (asked-next q none (range-exactly q v .1 h)) ∙ ap (λ (x : Answered). record { reply = x .reply; desk = d; lent = x .lent }) (answer-cong (viewOf c d) v views-same q);
+        refuses = λ r h. perform-refused (Call.Ask q) d r (asked-next q (some r) (broken-exactly v r (conditions q) .1 h));
       }

@@ -4,7 +4,7 @@
 --   sizesKept, rowKept, settledKept, roundKept, standingKept, tableKept: the test rule by rule
 --   Condition: what a question asks of its arguments after 12; conditionTest, ConditionHolds: as a test and as a statement; refusalOf: its refusal
 --   conditions, callConditions: those of a question and of a call, in order; AllHold, InRange: all hold; FirstBroken: one is broken first; refusalsOf, OneOf: their refusals
---   firstRefusal: the refusal of the first that is broken, if one is; noRefusal, inRange: there is none; afterRules: what comes of it
+--   firstRefusal: the refusal of the first that is broken, if one is; noRefusal: none is; afterRules: what comes of it
 --   examined: the refusal that a call gets, or the content that it works on, by afterShort and ofStore; accepted, by isContent: it gets none
 --   numberReply, refusedReply: what a refused call answers
 use Prim.Native.Nat.{ℕ, _+_, _*_, _-_, _≤_, _<_}
@@ -172,9 +172,6 @@ firstRefusal (x ∷ xs) v = cond (conditionTest x v) (firstRefusal xs v) (some (
 abbrev pub noRefusal : Option Refusal → Bool
 noRefusal none = true
 noRefusal (some r) = false
-
-abbrev pub inRange : Question → View → Bool
-inRange q v = noRefusal (firstRefusal (conditions q) v)
 
 abbrev pub afterRules : Content → Option Refusal → CaseReading
 afterRules c none = content c

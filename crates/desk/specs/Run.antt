@@ -6,9 +6,9 @@
 --   AnsweredFrom: a question on a desk is answered from a view
 use Prim.Native.Nat.{ℕ, _+_, _/_, _%_, min}
 use mathlib.Core.Path.{_≡_}
-use mathlib.Core.Bool.{cond, _&&_}
+use mathlib.Core.Bool.{true, cond, _&&_}
+use mathlib.Core.Logic.{_↔_}
 use mathlib.Core.List.{List, [], _∷_, _++_}
-use mathlib.Core.Option.{none, some}
 use lib.Dec.{eqb}
 use Rattle.theory.specs.Simulation.{one}
 use Rattle.refusal.specs.declared.Refusal.{Refusal}
@@ -16,7 +16,7 @@ use Rattle.casefile.specs.Reading.{Content, content}
 use Rattle.desk.specs.Desk.{Desk, Question, Call, Reply, isOpen, isStep, lentBuffers}
 use Rattle.desk.specs.Case.{N1, roundIn}
 use Rattle.desk.specs.View.{View}
-use Rattle.desk.specs.Refused.{conditions, firstRefusal, inRange, examined, accepted, numberReply}
+use Rattle.desk.specs.Refused.{conditions, InRange, FirstBroken, examined, accepted, numberReply}
 use Rattle.desk.specs.Perform.{perform, answerTo}
 
 -- 'Each call, refused or not, gets these as the call before left them, and nobody writes them in between.'
@@ -69,9 +69,10 @@ answerAfter c T s =
 abbrev pub viewAfter : Content → ℕ → ℕ → View
 viewAfter c T s = record { holds = c; round = roundAfter c T s; settled = eqb (roundAfter c T s) T; shown = roundIn c (roundAfter c T s) }
 
--- The question q on the desk d is answered from the view v: it is accepted exactly when its conditions hold for v, and then answers what it
--- answers from v, and leaves that in the buffers that it is lent; else it is refused for the first condition that is broken. The desk is as it was.
+-- 'when accepted, what their definitions give for that case with round r shown': the question q on the desk d is answered from the view v. It
+-- is accepted exactly when its conditions hold for v, and then answers what it answers from v, and leaves that in the buffers that it is
+-- lent; else it is refused for the first condition that is broken. The desk is as it was.
 pub record AnsweredFrom (q : Question) (d : Desk) (v : View) : Type 0 where
-  pub accepts : accepted (Call.Ask q) d ≡ inRange q v
-  pub answers : firstRefusal (conditions q) v ≡ none → perform (Call.Ask q) d ≡ record { reply = answerTo q v .reply; desk = d; lent = answerTo q v .lent }
-  pub refuses : (r : Refusal) → firstRefusal (conditions q) v ≡ some r → perform (Call.Ask q) d ≡ record { reply = numberReply r; desk = d; lent = lentBuffers q }
+  pub accepts : (accepted (Call.Ask q) d ≡ true) ↔ InRange q v
+  pub answers : InRange q v → perform (Call.Ask q) d ≡ record { reply = answerTo q v .reply; desk = d; lent = answerTo q v .lent }
+  pub refuses : (r : Refusal) → FirstBroken r (conditions q) v → perform (Call.Ask q) d ≡ record { reply = numberReply r; desk = d; lent = lentBuffers q }

@@ -7,6 +7,7 @@ pub mod DeMorgan
 -- ---- theorems
 pub mod Accepted
 pub mod Caller
+pub mod PanelTable
 pub mod PanelLattice
 pub mod Examples
 -- ---- for the code

@@ -3,12 +3,12 @@
 --   Answers, textOfAnswers: what a settled desk answers, and the text of it
 --   answers-are: it has such answers; listing-answered: whatever they are, the listing is their text
 use Prim.Native.Nat.{ℕ, _+_, _*_, _<_}
-use mathlib.Core.Path.{_≡_, sym, ap, ap₂, _∙_}
+use mathlib.Core.Path.{_≡_, refl, sym, ap, ap₂, _∙_}
 use mathlib.Core.Bool.{true}
+use mathlib.Core.Logic.{inl, inr}
 use mathlib.Core.List.{List, _++_}
 use native.Mathlib.Nat.{mul-add-div-right, mul-add-mod-self-right, div-eq-of-lt, mod-eq-of-lt, add-zero}
 use native.Mathlib.Omega.{arith}
-use borrow.Author.Tests.{lt-ltb}
 use lib.ListN.{length}
 use Rattle.theory.specs.Value.{wholeValue}
 use Rattle.theory.specs.Simulation.{SameTable, score}
@@ -70,10 +70,10 @@ module _ (c : Content) (T : ℕ) (answers : List Reply) (d : Desk) (w : Claim c 
   score-T = rw at-T at (score-next w)
 
   whole-1 : (f : ℕ) → f < length (c .formulas) → asked (Question.Whole f 1) d ≡ Reply.Element (wholeValue (ops c) (modelIn c 1) (formulaIn c f))
-  whole-1 f l = whole-next w f 1 (ranges w (Question.Whole f 1) ∙ rw (lt-ltb f (length (c .formulas)) l))
+  whole-1 f l = whole-next w f 1 (ranges w (Question.Whole f 1) .1 (l, inl refl, tt))
 
   whole-2 : (f : ℕ) → f < length (c .formulas) → asked (Question.Whole f 2) d ≡ Reply.Element (wholeValue (ops c) (modelIn c 2) (formulaIn c f))
-  whole-2 f l = whole-next w f 2 (ranges w (Question.Whole f 2) ∙ rw (lt-ltb f (length (c .formulas)) l))
+  whole-2 f l = whole-next w f 2 (ranges w (Question.Whole f 2) .1 (l, inr refl, tt))
 
   answers-T : Answers c d T (tableBytes c (roundIn c T)) (score (ops c) (model1 c) (model2 c) (roundIn c T)) (λ f. wholeValue (ops c) (modelIn c 1) (formulaIn c f)) (λ f. wholeValue (ops c) (modelIn c 2) (formulaIn c f))
   answers-T = record { round = round-T; show = show-T; score = score-T; whole1 = whole-1; whole2 = whole-2 }
