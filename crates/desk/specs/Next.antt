@@ -230,8 +230,8 @@ module _ {c : Content} {T s : ℕ} {d : Desk} (w : Stands c T s d) where
   same-refusal : (q : Question) → firstRefusal (conditions q) (viewOf c d) ≡ firstRefusal (conditions q) (viewAfter c T s)
   same-refusal q = conditions-cong (viewOf c d) (viewAfter c T s) views-same (conditions q)
 
-  asked-next : (q : Question) (x : Option Refusal) → firstRefusal (conditions q) (viewAfter c T s) ≡ x → examined (Call.Ask q) d ≡ afterRules c x
-  asked-next q x e = in-store (Call.Ask q) d c refl stands-unspoiled ∙ ap (afterRules c) (same-refusal q ∙ e)
+  examined-next : (q : Question) (x : Option Refusal) → firstRefusal (conditions q) (viewAfter c T s) ≡ x → examined (Call.Ask q) d ≡ afterRules c x
+  examined-next q x e = in-store (Call.Ask q) d c refl stands-unspoiled ∙ ap (afterRules c) (same-refusal q ∙ e)
 
   pub answered-from : (q : Question) → AnsweredFrom q d (viewAfter c T s)
   unfolding answer moved lentAfter
@@ -240,6 +240,6 @@ module _ {c : Content} {T s : ℕ} {d : Desk} (w : Stands c T s d) where
       let a : accepted (Call.Ask q) d ≡ noRefusal (firstRefusal (conditions q) v) = ranges-are (Call.Ask q) refl ∙ ap noRefusal (same-refusal q) in
       record {
         accepts = (λ e. range-exactly q v .0 (no-refusal _ (sym a ∙ e)), λ h. a ∙ ap noRefusal (range-exactly q v .1 h));
-        answers = λ h. perform-accepted (Call.Ask q) d c (asked-next q none (range-exactly q v .1 h)) ∙ ap (λ (x : Answered). record { reply = x .reply; desk = d; lent = x .lent }) (answer-cong (viewOf c d) v views-same q);
-        refuses = λ r h. perform-refused (Call.Ask q) d r (asked-next q (some r) (broken-exactly v r (conditions q) .1 h));
+        answers = λ h. perform-accepted (Call.Ask q) d c (examined-next q none (range-exactly q v .1 h)) ∙ ap (λ (x : Answered). record { reply = x .reply; desk = d; lent = x .lent }) (answer-cong (viewOf c d) v views-same q);
+        refuses = λ r h. perform-refused (Call.Ask q) d r (examined-next q (some r) (broken-exactly v r (conditions q) .1 h));
       }

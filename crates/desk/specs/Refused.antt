@@ -3,7 +3,8 @@
 --   Rules: 12, the rules of the standing, the store and the tables; spoiled, by spoiledAs, keptFor and rulesKept: their test
 --   sizesKept, rowKept, settledKept, roundKept, standingKept, tableKept: the test rule by rule
 --   Condition: what a question asks of its arguments after 12; conditionTest, ConditionHolds: as a test and as a statement; refusalOf: its refusal
---   conditions, callConditions: those of a question and of a call, in order; AllHold, InRange: all hold; FirstBroken: one is broken first; refusalsOf, OneOf: their refusals
+--   conditions, callConditions: those of a question and of a call, in order; refusalsOf, OneOf: their refusals
+--   AllHold, InRange: all hold; FirstBroken: which is the first that is broken
 --   firstRefusal: the refusal of the first that is broken, if one is; noRefusal: none is; afterRules: what comes of it
 --   examined: the refusal that a call gets, or the content that it works on, by afterShort and ofStore; accepted, by isContent: it gets none
 --   numberReply, refusedReply: what a refused call answers
@@ -164,7 +165,7 @@ OneOf r (x ∷ xs) = (r ≡ x) ⊎ OneOf r xs
 
 -- ---- 'The first that applies is given, in this order'
 
--- the refusal of the first condition that is broken, if one is; `holding-exactly` and `broken-exactly` (RulesLaws) tie it to AllHold and FirstBroken
+-- the refusal of the first condition that is broken, if one is: `holding-exactly` and `broken-exactly` (RulesLaws)
 abbrev pub firstRefusal : List Condition → View → Option Refusal
 firstRefusal [] v = none
 firstRefusal (x ∷ xs) v = cond (conditionTest x v) (firstRefusal xs v) (some (refusalOf x))

@@ -47,7 +47,9 @@ pub consecutive-replies : (d : Desk) (xs : List CallDone) → Consecutive d xs �
 unfolding replies
 consecutive-replies d [] h = refl
 consecutive-replies d (x ∷ xs) h =
-    ap (λ (a : After). a .reply ∷ replies (callsOf xs) (a .desk)) (h .0) ∙ ap (λ (l : List Reply). x .reply ∷ l) (consecutive-replies (x .desk) xs (h .1))
+    ap (λ (a : After). a .reply ∷ replies (callsOf xs) (a .desk)) (h .0)
+    ∙ ap (λ (l : List Reply). x .reply ∷ l) (consecutive-replies (x .desk) xs (h .1))
 
-pub consecutive-claim : (d : Desk) (xs : List CallDone) → Consecutive d xs → (l : LastOpening (callsOf xs) d) (T : ℕ) → IsT (l .holds) T → Claim (l .holds) T (answersSince l) (deskAfter d xs)
+pub consecutive-claim : (d : Desk) (xs : List CallDone) → Consecutive d xs → (l : LastOpening (callsOf xs) d) (T : ℕ) → IsT (l .holds) T
+    → Claim (l .holds) T (answersSince l) (deskAfter d xs)
 consecutive-claim d xs h l T t = subst (Claim (l .holds) T (answersSince l)) (consecutive-run d xs h) (listed (callsOf xs) d l T t)

@@ -70,10 +70,10 @@ module _ (c : Content) (T : ℕ) (answers : List Reply) (d : Desk) (w : Claim c 
   score-T = rw at-T at (score-next w)
 
   whole-1 : (f : ℕ) → f < length (c .formulas) → asked (Question.Whole f 1) d ≡ Reply.Element (wholeValue (ops c) (modelIn c 1) (formulaIn c f))
-  whole-1 f l = whole-next w f 1 (ranges w (Question.Whole f 1) .1 (l, inl refl, tt))
+  whole-1 f l = whole-next w f 1 (ranges w (Question.Whole f 1) .1 (l, (inl refl, tt)))
 
   whole-2 : (f : ℕ) → f < length (c .formulas) → asked (Question.Whole f 2) d ≡ Reply.Element (wholeValue (ops c) (modelIn c 2) (formulaIn c f))
-  whole-2 f l = whole-next w f 2 (ranges w (Question.Whole f 2) .1 (l, inr refl, tt))
+  whole-2 f l = whole-next w f 2 (ranges w (Question.Whole f 2) .1 (l, (inr refl, tt)))
 
   answers-T : Answers c d T (tableBytes c (roundIn c T)) (score (ops c) (model1 c) (model2 c) (roundIn c T)) (λ f. wholeValue (ops c) (modelIn c 1) (formulaIn c f)) (λ f. wholeValue (ops c) (modelIn c 2) (formulaIn c f))
   answers-T = record { round = round-T; show = show-T; score = score-T; whole1 = whole-1; whole2 = whole-2 }
