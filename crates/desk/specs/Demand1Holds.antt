@@ -4,7 +4,8 @@ use Prim.Native.Nat.{ℕ, _<_}
 use mathlib.Core.Path.{_≡_, refl, sym, ap, ap₂, _∙_}
 use mathlib.Core.Bool.{true, false}
 use mathlib.Core.Logic.{_↔_, _⊎_, inl, inr, ⊎-elim}
-use mathlib.Core.List.{List, []}
+use mathlib.Core.List.{List, [], _∷_}
+use mathlib.Core.Option.{some}
 use native.Mathlib.Omega.{arith}
 use Rattle.theory.specs.TestLaws.{false-true, not-failed}
 use Rattle.refusal.specs.declared.Refusal.{Refusal}
@@ -14,13 +15,13 @@ use Rattle.casefile.specs.Reading.{Content, CaseReading, refused, content, case
 use Rattle.casefile.specs.Accepted.{refused-content}
 use Rattle.casefile.specs.Exactly.{content-exactly}
 use Rattle.casefile.specs.Numbered.{CaseRefused, case-number, refused-as}
-use Rattle.desk.specs.Desk.{Desk, Question, Call, Reply, isOpen, isShow}
+use Rattle.desk.specs.Desk.{Desk, Call, Reply, isOpen, isShow}
 use Rattle.desk.specs.View.{viewOf}
-use Rattle.desk.specs.Refused.{short, Rules, OneOf, fails, callRefusals, refusals, examined, refusedReply}
+use Rattle.desk.specs.Refused.{short, Rules, Condition, refusalOf, callConditions, refusalsOf, OneOf, examined, refusedReply}
 use Rattle.desk.specs.Perform.{perform, answer}
 use Rattle.desk.specs.Demand1.{InStore, Demand1}
 use Rattle.desk.specs.RefusedLaws.{perform-refused, perform-accepted, is-short, open-long, in-store, open-accepted, other-accepted, Outcome, too-short, broken, outside, inside, outcome, opens-or-not, accepted-content, content-accepted}
-use Rattle.desk.specs.RulesLaws.{range-exactly, verdict-one, verdict-late}
+use Rattle.desk.specs.RulesLaws.{range-exactly, refusal-one}
 
 refused-numbered : (k : Call) (r : Refusal) → isShow k ≡ false → refusedReply k r ≡ Reply.Refused (numberOf r) (partOf r)
 refused-numbered (Call.Open b) r e = refl
@@ -60,7 +61,7 @@ module _ (k : Call) (d : Desk) where
   short-other : examined k d ≡ refused ShortDesk → Outcome k d → short d ≡ true
   short-other e (too-short s p) = s
   short-other e (broken s n p) = absurd (omega (arith, same-number SpoiledDesk ShortDesk p e))
-  short-other e (outside c u r i p) = absurd (omega (arith, same-number r ShortDesk p e, verdict-late k (viewOf c d) r i))
+  short-other e (outside c u r i p) = absurd (omega (arith, same-number r ShortDesk p e, refusal-one (viewOf c d) (callConditions k) r i .1))
   short-other e (inside c u i p) = absurd (refused-content (sym e ∙ p))
 
   -- no case is refused with 11
@@ -75,7 +76,7 @@ module _ (k : Call) (d : Desk) where
   spoiled-only : examined k d ≡ refused SpoiledDesk → Outcome k d → (short d ≡ false) × ((c : Content) → ¬ Rules d c)
   spoiled-only e (too-short s p) = absurd (omega (arith, same-number ShortDesk SpoiledDesk p e))
   spoiled-only e (broken s n p) = (s, n)
-  spoiled-only e (outside c u r i p) = absurd (omega (arith, same-number r SpoiledDesk p e, verdict-late k (viewOf c d) r i))
+  spoiled-only e (outside c u r i p) = absurd (omega (arith, same-number r SpoiledDesk p e, refusal-one (viewOf c d) (callConditions k) r i .1))
   spoiled-only e (inside c u i p) = absurd (refused-content (sym e ∙ p))
 
   spoiled-so : short d ≡ false → ((c : Content) → ¬ Rules d c) → Outcome k d → examined k d ≡ refused SpoiledDesk
@@ -84,16 +85,16 @@ module _ (k : Call) (d : Desk) where
   spoiled-so l w (outside c u r i p) = absurd (w c (u .rules))
   spoiled-so l w (inside c u i p) = absurd (w c (u .rules))
 
-  tests-only : (f : Refusal) → 12 < numberOf f → examined k d ≡ refused f → Outcome k d → (short d ≡ false) × InStore k d (fails f)
+  tests-only : (f : Refusal) → 12 < numberOf f → examined k d ≡ refused f → Outcome k d → (short d ≡ false) × InStore k d (some f)
   tests-only f l e (too-short s p) = absurd (omega (arith, same-number ShortDesk f p e))
   tests-only f l e (broken s n p) = absurd (omega (arith, same-number SpoiledDesk f p e))
-  tests-only f l e (outside c u r i p) = let q : r ≡ f = cc in (u .long, (c, u .rules, i ∙ ap fails q))
+  tests-only f l e (outside c u r i p) = let q : r ≡ f = cc in (u .long, (c, u .rules, i ∙ ap some q))
   tests-only f l e (inside c u i p) = absurd (refused-content (sym e ∙ p))
 
-  others : (r : Refusal) → examined k d ≡ refused r → Outcome k d → (r ≡ ShortDesk) ⊎ ((r ≡ SpoiledDesk) ⊎ OneOf r (callRefusals k))
+  others : (r : Refusal) → examined k d ≡ refused r → Outcome k d → (r ≡ ShortDesk) ⊎ ((r ≡ SpoiledDesk) ⊎ OneOf r (refusalsOf (callConditions k)))
   others r e (too-short s p) = inl (cc)
   others r e (broken s n p) = inr (inl (cc))
-  others r e (outside c u f i p) = let q : f ≡ r = cc in inr (inr (verdict-one k (viewOf c d) r (i ∙ ap fails q)))
+  others r e (outside c u f i p) = let q : f ≡ r = cc in inr (inr (refusal-one (viewOf c d) (callConditions k) r (i ∙ ap some q) .0))
   others r e (inside c u i p) = absurd (refused-content (sym e ∙ p))
 
   pub demand1 : Demand1 k d
@@ -125,25 +126,21 @@ module _ (k : Call) (d : Desk) where
 
   -- ---- 13 among the refusals after 12
 
-  pub at-13 : isOpen k ≡ false → (examined k d ≡ refused OutOfRange) ↔ ((short d ≡ false) × InStore k d (fails OutOfRange))
+  pub at-13 : isOpen k ≡ false → (examined k d ≡ refused OutOfRange) ↔ ((short d ≡ false) × InStore k d (some OutOfRange))
   at-13 o = demand1 .after-12 o OutOfRange (omega arith)
 
   -- no call has another after 12
   pub only-13 : isOpen k ≡ false → (r : Refusal) → examined k d ≡ refused r → (r ≡ ShortDesk) ⊎ ((r ≡ SpoiledDesk) ⊎ (r ≡ OutOfRange))
-  only-13 o r e = ⊎-elim (λ p. inl p) (λ q. ⊎-elim (λ p. inr (inl p)) (λ p. inr (inr (call-13 k p))) q) (demand1 .only o r e)
+  only-13 o r e = ⊎-elim (λ p. inl p) (λ q. ⊎-elim (λ p. inr (inl p)) (λ p. inr (inr (one-13 (callConditions k) p))) q) (demand1 .only o r e)
     where
-      one-13 : (r ≡ OutOfRange) ⊎ ⊥ → r ≡ OutOfRange
-      one-13 x = ⊎-elim (λ p. p) (λ p. absurd p) x
+      condition-13 : (x : Condition) → refusalOf x ≡ OutOfRange
+      condition-13 (Condition.Formula f) = refl
+      condition-13 (Condition.Model m) = refl
+      condition-13 (Condition.State m q) = refl
+      condition-13 (Condition.Element l) = refl
+      condition-13 (Condition.TableLength t) = refl
+      condition-13 (Condition.TableBytes t) = refl
 
-      question-13 : (q : Question) → OneOf r (refusals q) → r ≡ OutOfRange
-      question-13 Question.Score x = absurd x
-      question-13 (Question.Value f m q) x = one-13 x
-      question-13 (Question.Whole f m) x = one-13 x
-      question-13 (Question.Share l) x = one-13 x
-      question-13 (Question.Judge t) x = one-13 x
-
-      call-13 : (x : Call) → OneOf r (callRefusals x) → r ≡ OutOfRange
-      call-13 (Call.Open b) x = absurd x
-      call-13 Call.Step x = absurd x
-      call-13 Call.Show x = absurd x
-      call-13 (Call.Ask q) x = question-13 q x
+      one-13 : (xs : List Condition) → OneOf r (refusalsOf xs) → r ≡ OutOfRange
+      one-13 [] p = absurd p
+      one-13 (x ∷ xs) p = ⊎-elim (λ (q : r ≡ refusalOf x). q ∙ condition-13 x) (one-13 xs) p

@@ -13,13 +13,14 @@ pub mod Demand3  -- one claim about every list of calls with an accepted opening
 -- ---- theorems
 pub mod CaseParts  -- formula f and model m of an accepted case, as parts of its bytes
 pub mod RulesLaws  -- the tests of refusals 11, 12 and 13 say what their rules say
-pub mod ViewLaws  -- a question treats views alike that agree at the pairs of states
+pub mod ViewLaws  -- a question is answered alike from views that agree at the pairs of states
 pub mod RefusedLaws  -- which refusal a call gets, and what an accepted call knows
 pub mod Demand1Holds  -- demand 1 holds of every call on every desk
 pub mod Stands  -- the invariant of demand 3, and that an accepted opening starts it
 pub mod Stepping  -- an accepted step moves it on
 pub mod Next  -- what the next call answers where it holds
 pub mod Listed  -- it holds after every list of calls with an accepted opening in it
-pub mod Settling  -- T·N1 accepted steps settle a desk; calls whose effects are known one by one
+pub mod Demand3Holds  -- demand 3 is proved, and what it says of the questions one by one
+pub mod Settling  -- T·N1 accepted steps settle a desk
 pub mod Unwritten  -- table bytes past N1·N2 and store bytes past 24,576 are never written
 pub mod Examples  -- two examples of document 01 by computation

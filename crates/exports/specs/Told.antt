@@ -24,7 +24,7 @@ use Rattle.calls.specs.Answer.{Does}
 use Rattle.desk.specs.Desk.{Desk, Call, Reply, wholeTable}
 use Rattle.desk.specs.Case.{tableSize}
 use Rattle.desk.specs.Refused.{examined, accepted}
-use Rattle.desk.specs.Perform.{After, answer, moved, lentLeft}
+use Rattle.desk.specs.Perform.{After, answer, moved, lentAfter}
 use Rattle.desk.specs.RefusedLaws.{Unspoiled, perform-refused, perform-accepted, other-accepted, accepted-content, refused-refusal}
 use Rattle.desk.specs.RulesLaws.{long-enough}
 use Rattle.exports.specs.declared.Answer.{Answer}
@@ -107,7 +107,7 @@ module _ (d : Desk) (c : Content) (e : examined show d ≡ content c) where
       go false = omega (arith, sound .entries-most, long-enough d (held .long) .first-long)
 
   whole-shown : Does show d (Reply.Shown (take (tableSize c) (wholeTable d))) d
-  unfolding answer moved lentLeft
+  unfolding answer moved lentAfter
   whole-shown = perform-accepted show d c e
 
 -- the length of what show answered says whether it was refused

@@ -9,6 +9,7 @@ pub mod Conditions  -- what a part has to be, and which refusal is given exactly
 pub mod Numbered  -- the refusals 4 to 8 are given so
 pub mod Accepted
 pub mod Caller
+pub mod PanelTable
 pub mod PanelLattice
 pub mod Examples
 -- ---- for the code
