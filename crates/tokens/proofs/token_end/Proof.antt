@@ -1,11 +1,11 @@
--- `reader::token_end` meets its contract: the token's size is added to the place, and a token lies within the part.
+-- `tokens::token_end` meets its contract: the token's size is added to the place, and a token lies within the part.
 use mathlib.Core.Path.{ap, _∙_}
 use native.Mathlib.Omega.{arith}
 use borrow.Author.Needs.{needs}
-use Rattle.reader.specs.Tokens.{tokenSize}
-use Rattle.reader.proofs.Laws.{end-most}
-use Rattle.reader.proofs.token_end.Statement.{statement}
-use Rattle.reader.proofs.token_end.Tie as tie
+use Rattle.tokens.specs.Tokens.{tokenSize}
+use Rattle.tokens.specs.Sizes.{end-most}
+use Rattle.tokens.proofs.token_end.Statement.{statement}
+use Rattle.tokens.proofs.token_end.Tie as tie
 
 add-result : tie.Need-add-result
 add-result c =
