@@ -8,6 +8,8 @@ use second::Reply;
 pub enum Call {
     Open(Vec<u8>),
     Step,
+    /// No call of the list of eight: as many steps as the round has rows left.
+    FinishRound,
     Show,
     Value { formula: u8, model: u8, state: u8 },
     Whole { formula: u8, model: u8 },
@@ -30,6 +32,10 @@ pub fn proved(desk: &mut Desk, call: &Call) -> Reply {
             |()| Reply::Opened,
         ),
         Call::Step => answer(koelchair::step(standing, store, first, second), stepped),
+        Call::FinishRound => answer(
+            koelchair::finish_round(standing, store, first, second),
+            stepped,
+        ),
         Call::Show => {
             let shown = koelchair::show(standing, store, first, second);
             let whole: &[u8] = if standing.second_whole {
@@ -99,6 +105,12 @@ pub fn by_second(desk: &mut Desk, call: &Call) -> Reply {
     let reply = match call {
         Call::Open(case) => second::open(&mut standing, case, store, first, second),
         Call::Step => second::step(&mut standing, store, first, second),
+        Call::FinishRound => loop {
+            let reply = second::step(&mut standing, store, first, second);
+            if reply != Reply::Row {
+                break reply;
+            }
+        },
         Call::Show => second::show(&standing, store, first, second),
         &Call::Value {
             formula,

@@ -117,6 +117,22 @@ pub fn step(
     answer::stepped(moved.answer)
 }
 
+/// Works the rows of the round that are left: as many calls of [`step`] as there are rows from the next one to the last, in one
+/// call that checks the desk once. The answer is that of the last of them, [`StepAnswer::Round`] or [`StepAnswer::Settled`]. A
+/// settled desk is answered as by [`step`] and left unchanged.
+///
+/// Refused with 11 or 12; then nothing is altered.
+pub fn finish_round(
+    standing: &mut Standing,
+    store: &[u8],
+    first: &mut [u8],
+    second: &mut [u8],
+) -> Result<StepAnswer, Refusal> {
+    let moved = raw::finish_round(*standing, store, first, second);
+    *standing = moved.standing;
+    answer::stepped(moved.answer)
+}
+
 /// The first N1·N2 bytes of the whole table, as a part of that table itself. Entry (q1, q2) is byte q1·N2 + q2, and the
 /// round is that of the standing. Where the desk is refused the part is empty.
 pub fn show<'a>(standing: &Standing, store: &[u8], first: &'a [u8], second: &'a [u8]) -> &'a [u8] {

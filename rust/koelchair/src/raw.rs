@@ -15,7 +15,7 @@ pub struct Answer {
     pub value: u32,
 }
 
-/// What open and step give: the standing after the call, and the answer.
+/// What open, step and finish_round give: the standing after the call, and the answer.
 #[repr(C)]
 pub struct Moved {
     pub standing: Standing,
@@ -52,6 +52,16 @@ extern "C" {
     ) -> Moved;
 
     fn koelchair_step(
+        standing: Standing,
+        store: *const u8,
+        store_length: usize,
+        first: *mut u8,
+        first_length: usize,
+        second: *mut u8,
+        second_length: usize,
+    ) -> Moved;
+
+    fn koelchair_finish_round(
         standing: Standing,
         store: *const u8,
         store_length: usize,
@@ -159,6 +169,26 @@ pub fn step(standing: Standing, store: &[u8], first: &mut [u8], second: &mut [u8
     // SAFETY: each pointer and length are those of one slice; the two tables, which are written, are exclusive.
     unsafe {
         koelchair_step(
+            standing,
+            store.as_ptr(),
+            store.len(),
+            first.as_mut_ptr(),
+            first.len(),
+            second.as_mut_ptr(),
+            second.len(),
+        )
+    }
+}
+
+pub fn finish_round(
+    standing: Standing,
+    store: &[u8],
+    first: &mut [u8],
+    second: &mut [u8],
+) -> Moved {
+    // SAFETY: each pointer and length are those of one slice; the two tables, which are written, are exclusive.
+    unsafe {
+        koelchair_finish_round(
             standing,
             store.as_ptr(),
             store.len(),

@@ -105,6 +105,15 @@ impl Lent {
         )
     }
 
+    pub fn finish_round(&mut self) -> Result<StepAnswer, Refusal> {
+        koelchair::finish_round(
+            &mut self.standing,
+            &self.store,
+            &mut self.first,
+            &mut self.second,
+        )
+    }
+
     pub fn show(&self) -> &[u8] {
         koelchair::show(&self.standing, &self.store, &self.first, &self.second)
     }

@@ -2,4 +2,5 @@
 
 mod cases;
 mod examples;
+mod finishing;
 mod refusals;
