@@ -4,11 +4,11 @@ use crate::desks::Desk;
 use koelchair::{Element, Refusal, State, StepAnswer};
 use second::Reply;
 
+/// The eight calls, and `FinishRound`, which is as many steps as the round has rows left.
 #[derive(Clone, Debug)]
 pub enum Call {
     Open(Vec<u8>),
     Step,
-    /// No call of the list of eight: as many steps as the round has rows left.
     FinishRound,
     Show,
     Value { formula: u8, model: u8, state: u8 },

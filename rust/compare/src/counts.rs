@@ -98,8 +98,10 @@ impl Counts {
         if let (Call::Step | Call::FinishRound, &Reply::Settled(round)) = (call, reply) {
             self.add(settled(round, before.settled), 1);
         }
-        if let (Call::FinishRound, Reply::Round(_) | Reply::Settled(_)) = (call, reply) {
-            self.add(if before.row > 0 { FINISHED_HALF } else { FINISHED }, 1);
+        let finished = matches!(reply, Reply::Round(_) | Reply::Settled(_)) && !before.settled;
+        if matches!(call, Call::FinishRound) && finished {
+            let half = before.row > 0;
+            self.add(if half { FINISHED_HALF } else { FINISHED }, 1);
         }
     }
 

@@ -50,7 +50,11 @@ fn rounds_from_the_opening_on() {
 
 #[test]
 fn a_half_worked_round() {
-    for (case, rows) in [(cases::example_4(), 2), (cases::eighths(5), 8), (lines(), 40)] {
+    for (case, rows) in [
+        (cases::example_4(), 2),
+        (cases::eighths(5), 8),
+        (lines(), 40),
+    ] {
         for worked in 1..rows {
             let mut desk = Lent::opened(&case);
             desk.finish_round().unwrap();
