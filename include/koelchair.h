@@ -1,10 +1,10 @@
-/* Koelchair's eight calls, what a desk holds, and the listing, for C, C99 or later, and for C++. They stand in
+/* Koelchair's eight calls, the rest of a round in one call, what a desk holds, and the listing, for C, C99 or later, and for C++. They stand in
    target/staticlib/libexports.a, which `rt staticlib exports` proves and writes. The contracts are in crates/exports/src; how a case is
    laid out byte for byte, and what the words used here mean, is said in docs/SPECIFICATION.md.
 
    A desk is a standing, a store and two tables. The caller keeps all four: the standing as a struct, the others as bytes. A new desk
-   is of any content, for instance zeros, and of KOELCHAIR_STORE_LENGTH and KOELCHAIR_TABLE_LENGTH bytes or more. koelchair_open and
-   koelchair_step give the standing after the call: pass it to the call that comes next, beside the buffers as the call left them.
+   is of any content, for instance zeros, and of KOELCHAIR_STORE_LENGTH and KOELCHAIR_TABLE_LENGTH bytes or more. koelchair_open,
+   koelchair_step and koelchair_finish_round give the standing after the call: pass it to the call that comes next, beside the buffers as the call left them.
    A refused call alters no buffer and gives the standing that it was passed.
 
    What the caller must see to, since no proof can:
@@ -185,6 +185,15 @@ koelchair_moved koelchair_step(koelchair_standing standing,
                                const uint8_t *store, size_t store_length,
                                uint8_t *first, size_t first_length,
                                uint8_t *second, size_t second_length);
+
+/* Works the rows of the round that are left: as many calls of koelchair_step as there are rows from the next one to the last, in one
+   call that checks the desk once, with the answer of the last of them. Writes these rows of the table that is not whole, nothing else.
+   Answers KOELCHAIR_ROUND or KOELCHAIR_SETTLED; a desk that koelchair_step refuses, and a settled one, is answered as by one step and
+   not altered. After koelchair_open, T of these calls settle the desk. */
+koelchair_moved koelchair_finish_round(koelchair_standing standing,
+                                       const uint8_t *store, size_t store_length,
+                                       uint8_t *first, size_t first_length,
+                                       uint8_t *second, size_t second_length);
 
 /* ---- the calls that read: they write nothing. Each reads the store and both tables. */
 

@@ -7,6 +7,7 @@ pub mod Refused  -- which refusal a call gets, or the content that it works on
 pub mod Moved  -- the desk after open and after step
 pub mod Perform  -- what each call answers, and the desk after it
 pub mod Run  -- lists of calls, the last accepted opening, s and r
+pub mod RoundLeft  -- the rest of a round in one call: so many steps
 pub mod Demand1  -- which refusal is given and exactly when; every other input is accepted
 pub mod Demand2  -- the settled table is the greatest simulation, and values are those of the mu-calculus
 pub mod Demand3  -- one claim about every list of calls with an accepted opening in it
@@ -22,5 +23,7 @@ pub mod Next  -- what the next call answers where it holds
 pub mod Listed  -- it holds after every list of calls with an accepted opening in it
 pub mod Demand3Holds  -- demand 3 is proved, and what it says of the questions one by one
 pub mod Settling  -- T·N1 accepted steps settle a desk
+pub mod RoundLeftLaws  -- what the steps left in a round do; demand 3 goes through them
+pub mod RoundLeftRounds  -- after an opening, n such calls give round n, and T of them settle the desk
 pub mod Unwritten  -- table bytes past N1·N2 and store bytes past 24,576 are never written
 pub mod Examples  -- two examples of document 01 by computation

@@ -39,11 +39,11 @@ stands-with w e p z h =
     }
 
 -- where the tables stand when the other one is written, and when they are exchanged after that
-keep-whole : (w : Bool) (f g o : List ℕ) → cond w (cond w g o) (cond w o f) ≡ cond w g f
+pub keep-whole : (w : Bool) (f g o : List ℕ) → cond w (cond w g o) (cond w o f) ≡ cond w g f
 keep-whole true f g o = refl
 keep-whole false f g o = refl
 
-keep-other : (w : Bool) (f g o : List ℕ) → cond w (cond w o f) (cond w g o) ≡ o
+pub keep-other : (w : Bool) (f g o : List ℕ) → cond w (cond w o f) (cond w g o) ≡ o
 keep-other true f g o = refl
 keep-other false f g o = refl
 

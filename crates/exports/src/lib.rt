@@ -1,9 +1,11 @@
-// The eight calls, what a desk holds and the listing for C and Rust: exported functions over the calls by value, with their answers as numbers in structs
-// of C's layout.
+// The eight calls, the rest of a round, what a desk holds and the listing for C and Rust: exported functions over the calls by value, with their answers
+// as numbers in structs of C's layout.
 //   numbers: each call's answer as numbers
 //   moves: koelchair_open and koelchair_step
+//   finishing: koelchair_finish_round
 //   questions: koelchair_show, koelchair_value, koelchair_whole, koelchair_score, koelchair_share and koelchair_judge
 //   held: koelchair_sizes
+mod finishing;
 mod held;
 mod moves;
 mod numbers;
@@ -32,7 +34,7 @@ pub struct Answer {
     pub flag2: bool,
 }
 
-// What open and step give: the standing after the call, and the answer.
+// What open, step and finish_round give: the standing after the call, and the answer.
 #[repr(C)]
 pub struct Moved {
     pub standing: Standing,

@@ -5,10 +5,12 @@ use crate::desks::Desk;
 use koelchair::{Element, State};
 use second::Reply;
 
+/// The eight calls, and `FinishRound`, which is as many steps as the round has rows left.
 #[derive(Clone, Debug)]
 pub enum Call {
     Open(Vec<u8>),
     Step,
+    FinishRound,
     Show,
     Value { formula: u8, model: u8, state: u8 },
     Whole { formula: u8, model: u8 },
@@ -22,6 +24,7 @@ pub fn proved(desk: &mut Desk, call: &Call) -> Reply {
     match call {
         Call::Open(case) => conversions::opened(desk.lent_mut().open(case)),
         Call::Step => conversions::stepped(desk.lent_mut().step()),
+        Call::FinishRound => conversions::stepped(desk.lent_mut().finish_round()),
         Call::Show => {
             let shown = desk.lent().show();
             let itself = shown.is_empty() || shown.as_ptr() == desk.whole().as_ptr();
@@ -52,6 +55,12 @@ pub fn by_second(desk: &mut Desk, call: &Call) -> Reply {
     let reply = match call {
         Call::Open(case) => second::open(&mut standing, case, store, first, second),
         Call::Step => second::step(&mut standing, store, first, second),
+        Call::FinishRound => loop {
+            let reply = second::step(&mut standing, store, first, second);
+            if reply != Reply::Row {
+                break reply;
+            }
+        },
         Call::Show => second::show(&standing, store, first, second),
         &Call::Value {
             formula,

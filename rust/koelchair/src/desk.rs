@@ -45,10 +45,16 @@ impl Desk {
         self.lent_mut().step().expect(KEPT)
     }
 
-    /// Steps until the desk is settled, and gives T, the least t above 0 for which round t equals round t − 1.
+    /// Works the rows of the round that are left, as so many steps do, and answers as the last of them. A settled desk answers
+    /// [`StepAnswer::Settled`] again and is left unchanged.
+    pub fn finish_round(&mut self) -> StepAnswer {
+        self.lent_mut().finish_round().expect(KEPT)
+    }
+
+    /// Works rounds until the desk is settled, and gives T, the least t above 0 for which round t equals round t − 1.
     pub fn settle(&mut self) -> u32 {
         loop {
-            if let StepAnswer::Settled(rounds) = self.step() {
+            if let StepAnswer::Settled(rounds) = self.finish_round() {
                 return rounds;
             }
         }

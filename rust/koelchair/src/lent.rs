@@ -162,6 +162,17 @@ impl DeskMut<'_> {
         answer::stepped(moved.answer)
     }
 
+    /// Works the rows of the round that are left: as many calls of [`DeskMut::step`] as there are rows from the next one to the
+    /// last, in one call that checks the desk once. The answer is that of the last of them, [`StepAnswer::Round`] or
+    /// [`StepAnswer::Settled`]. A settled desk is answered as by [`DeskMut::step`] and left unchanged.
+    ///
+    /// Refused with 11 or 12; then nothing is altered.
+    pub fn finish_round(&mut self) -> Result<StepAnswer, Refusal> {
+        let moved = raw::finish_round(self);
+        *self.standing = moved.standing;
+        answer::stepped(moved.answer)
+    }
+
     /// The desk for the calls that read it.
     pub fn shared(&self) -> DeskRef<'_> {
         DeskRef {

@@ -20,7 +20,7 @@ pub struct Answer {
     pub flag2: bool,
 }
 
-/// What open and step give: the standing after the call, and the answer.
+/// What open, step and finish_round give: the standing after the call, and the answer.
 #[repr(C)]
 pub struct Moved {
     pub standing: Standing,
@@ -62,6 +62,16 @@ extern "C" {
     ) -> Moved;
 
     fn koelchair_step(
+        standing: Standing,
+        store: *const u8,
+        store_length: usize,
+        first: *mut u8,
+        first_length: usize,
+        second: *mut u8,
+        second_length: usize,
+    ) -> Moved;
+
+    fn koelchair_finish_round(
         standing: Standing,
         store: *const u8,
         store_length: usize,
@@ -190,6 +200,21 @@ pub fn step(desk: &mut DeskMut) -> Moved {
     // SAFETY: each pointer and length are those of one slice; the two tables, which are written, are exclusive.
     unsafe {
         koelchair_step(
+            *desk.standing,
+            desk.store.as_ptr(),
+            desk.store.len(),
+            desk.first.as_mut_ptr(),
+            desk.first.len(),
+            desk.second.as_mut_ptr(),
+            desk.second.len(),
+        )
+    }
+}
+
+pub fn finish_round(desk: &mut DeskMut) -> Moved {
+    // SAFETY: each pointer and length are those of one slice; the two tables, which are written, are exclusive.
+    unsafe {
+        koelchair_finish_round(
             *desk.standing,
             desk.store.as_ptr(),
             desk.store.len(),

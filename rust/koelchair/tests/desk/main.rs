@@ -2,5 +2,6 @@
 
 mod cases;
 mod examples;
+mod finishing;
 mod refusals;
 mod sizes;
