@@ -8,11 +8,14 @@ pub mod Reading
 pub mod Answer
 -- a distributive De Morgan lattice
 pub mod DeMorgan
+pub mod Conditions  -- what a part has to be, and which refusal is given exactly when
 -- ---- theorems
+pub mod Numbered  -- the refusals 4 to 8 are given so
 -- exactly the distributive De Morgan lattices are accepted
 pub mod Accepted
 -- what a caller learns from the answer
 pub mod Caller
+pub mod PanelTable
 -- the panel lattice is accepted
 pub mod PanelLattice
 -- the lattices of the worked examples

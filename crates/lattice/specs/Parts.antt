@@ -16,8 +16,9 @@ use Rattle.order.specs.Bounds.{one-test, element-lt}
 use Rattle.order.specs.Ordered.{Formed}
 use Rattle.lattice.specs.Panel.{panelOrder, panelPart}
 use Rattle.lattice.specs.Reading.{isPanel, latticeOf, latticeForm}
-use Rattle.lattice.specs.Accepted.{ExplicitForm}
-use Rattle.lattice.specs.Form.{part-panel, part-explicit, PanelOrder}
+use Rattle.lattice.specs.Conditions.{ExplicitForm}
+use Rattle.lattice.specs.Form.{part-panel, part-explicit}
+use Rattle.lattice.specs.PanelTable.{PanelOrder}
 use Rattle.elements.specs.Bits.{bits-cong}
 use Rattle.lattice.specs.Rows.{Bytes, downIn}
 use Rattle.lattice_codes.specs.Tests.{downOf}

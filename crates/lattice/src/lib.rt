@@ -95,7 +95,7 @@ fn fill_order(part: &[u8], down: &mut [u64; 64])
     ensures { λ _. ⌜ Filled (downOf (latticeOf (now (part .entry)))) (latticeOf (now (part .entry)) .size) (now (down .exit)) ⌝ }
 {
     if is_panel(part) {
-        let order = panel::ORDER;
+        let order = panel::order();
         rows::fill(&order, 0, 27, down);
         return;
     }

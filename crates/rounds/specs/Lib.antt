@@ -7,6 +7,7 @@ pub mod Table
 pub mod Round
 -- share
 pub mod Share
+pub mod Rest
 -- ---- for the code
 pub mod Row
 pub mod Codes

@@ -3,25 +3,19 @@ use Prim.Native.Nat.{ℕ}
 use mathlib.Core.Path.{_≡_, refl, sym, _∙_}
 use mathlib.Core.Bool.{false}
 use native.Mathlib.Omega.{arith}
-use Rattle.theory.specs.Lists.{tab}
-use Rattle.theory.specs.Loop.{tab-at}
-use Rattle.lattice.specs.Panel.{panelOrder}
 use Rattle.lattice.specs.Reading.{isPanel}
-use Rattle.lattice.specs.Accepted.{ExplicitForm}
-use Rattle.lattice.specs.Form.{panelEntry, form-explicit}
+use Rattle.lattice.specs.Conditions.{ExplicitForm}
+use Rattle.lattice.specs.Form.{form-explicit}
 use Rattle.lattice.specs.Parts.{panel-bytes, panel-down, explicit-bytes, explicit-down}
 use borrow.Author.Needs.{needs}
 use Rattle.lattice.proofs.fill_order.Statement.{statement}
 use Rattle.lattice.proofs.fill_order.Tie as tie
 
--- the rule of the constant, computed at all 729 entries
 fill-requires : tie.Need-fill-requires
-unfolding tab panelOrder
-fill-requires c κs = (omega arith, panel-bytes _ refl (record { at = λ k l. tab-at panelEntry 729 k l }))
+fill-requires c κs = (omega arith, panel-bytes _ (search needs) (c .before .before .order .ensures))
 
 returns : tie.Need-returns
-unfolding tab panelOrder
-returns c = panel-down _ (tab panelEntry 729 0) _ (sym (c .before .before .before .before .is-panel .ensures) ∙ c .before .before .before .if1 .taken) (record { at = λ k l. tab-at panelEntry 729 k l }) (c .fill .ensures)
+returns c = panel-down _ _ _ (sym (c .before .before .before .before .before .is-panel .ensures) ∙ c .before .before .before .before .if1 .taken) (c .before .before .before .order .ensures) (c .fill .ensures)
 
 shared-slice-read-index : tie.Need-shared-slice-read-index
 shared-slice-read-index c = omega (arith, form-explicit _ (c .before .before .before .before .pre) (sym (c .before .before .is-panel .ensures) ∙ c .before .if1 .left) .exact)
@@ -36,5 +30,5 @@ returns-2 c = explicit-down _ _ _ (sym (c .before .before .before .before .befor
 
 pub fill-order-spec : {M : Type 1} → statement M
 fill-order-spec =
-    tie.close (tie.spec (λ c κs. search needs) (λ c. search needs) fill-requires returns shared-slice-read-index (λ c κs. search needs)
+    tie.close (tie.spec (λ c κs. search needs) (λ c κs. search needs) (λ c. search needs) fill-requires returns shared-slice-read-index (λ c κs. search needs)
     (λ c. search needs) fill-requires-2 returns-2)

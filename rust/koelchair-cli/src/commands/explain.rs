@@ -57,7 +57,7 @@ impl Explanation {
         let mut text = self.heading(&opened.case, before[place]);
         let mut agrees = true;
         loop {
-            let answer = opened.desk.step();
+            let answer = opened.desk.finish_round();
             let (StepAnswer::Round(round) | StepAnswer::Settled(round)) = answer else {
                 continue;
             };

@@ -180,7 +180,7 @@ fn usage_text(arguments: &[String], message: &str) -> String {
 /// A refusal in words, with its number, its part, and where in the text that part stands.
 pub fn refusal_text(text: &Text, refusal: Refusal) -> String {
     let (number, part) = (refusal.number(), refusal.part());
-    let mut said = format!("refused {number} {part}: {refusal}\n");
+    let mut said = format!("refused {number} {part}: {}\n", refusal.words());
     if let Some(span) = text.place(number, part) {
         let note = match number {
             1 | 2 if !text.byte_places.is_empty() => "the bytes begin here".to_string(),

@@ -22,7 +22,7 @@ pub fn step(arguments: &[String], input: &mut dyn Read) -> Outcome {
             text.push_str("stopped here: not settled, so this table is no result\n");
             return Ok(text.into_bytes());
         }
-        match opened.desk.step() {
+        match opened.desk.finish_round() {
             StepAnswer::Row => {}
             StepAnswer::Round(round) => text.push_str(&shown(&opened, &format!("round {round}"))),
             StepAnswer::Settled(round) => {

@@ -51,10 +51,7 @@ fn rounds(desk: &mut Desk) -> Vec<String> {
     let mut rounds = vec![numbers([desk.score().0])];
     loop {
         let before = desk.show().to_vec();
-        let mut answer = desk.step();
-        while answer == StepAnswer::Row {
-            answer = desk.step();
-        }
+        let answer = desk.finish_round();
         let changes = desk
             .show()
             .iter()
