@@ -7,6 +7,7 @@ pub mod Table
 pub mod Round
 -- share
 pub mod Share
+-- the rows of a round from a given one on
 pub mod Rest
 -- ---- for the code
 pub mod Row

@@ -19,7 +19,7 @@ use Rattle.theory.specs.Part.{modelOf}
 use Rattle.theory.specs.Loop.{tab-length}
 use Rattle.theory.specs.Lists.{tab}
 use Rattle.theory.specs.Written.{written-length}
-use Rattle.operations.specs.declared.Lattice.{Lattice}
+use Rattle.elements.specs.declared.Lattice.{Lattice}
 use Rattle.model.specs.Places.{row-le}
 use Rattle.rounds.specs.Table.{tableOf, rowWritten, rowChanged, FIn}
 use Rattle.rounds.specs.Round.{Worked, RoundSoFar, round-none, round-more}
@@ -37,9 +37,9 @@ module _ (M₁ M₂ : Model ℕ) (G : (ℕ → ℕ → ℕ) → ℕ → ℕ → 
 
 -- the rows of F of the table s from row q to the last are worked into `before`, which gives `out`; `changed` says whether one of them differs
 abbrev pub RestIn : List ℕ → Lattice → List ℕ → List ℕ → List ℕ → ℕ → List ℕ → List ℕ → Bool → Type 0
-RestIn t l m₁ m₂ s q before out changed =
-    (out ≡ rowsFrom (modelOf m₁) (modelOf m₂) (FIn t l m₁ m₂) (tableOf s (getD m₂ 0 0)) (getD m₁ 0 0 - q) q before)
-    × (changed ≡ rowsChanged (modelOf m₁) (modelOf m₂) (FIn t l m₁ m₂) (tableOf s (getD m₂ 0 0)) (getD m₁ 0 0 - q) q)
+RestIn w l m₁ m₂ s q before out changed =
+    (out ≡ rowsFrom (modelOf m₁) (modelOf m₂) (FIn w l m₁ m₂) (tableOf s (getD m₂ 0 0)) (getD m₁ 0 0 - q) q before)
+    × (changed ≡ rowsChanged (modelOf m₁) (modelOf m₂) (FIn w l m₁ m₂) (tableOf s (getD m₂ 0 0)) (getD m₁ 0 0 - q) q)
 
 module _ (M₁ M₂ : Model ℕ) (G : (ℕ → ℕ → ℕ) → ℕ → ℕ → ℕ) (S : ℕ → ℕ → ℕ) where
   pub row-length : (q : ℕ) (out : List ℕ) → q < M₁ .states → M₁ .states * M₂ .states ≤ length out → length (rowWritten M₁ M₂ G S q out) ≡ length out
