@@ -6,9 +6,7 @@ use Prim.Native.Nat.{ℕ, _*_}
 use mathlib.Core.Bool.{Bool, _&&_}
 use mathlib.Core.Path.{_≡_}
 use mathlib.Core.List.{List, []}
-use Rattle.theory.specs.Part.{opsOf}
-use Rattle.operations.specs.Table.{opsIn}
-use Rattle.lattice.specs.Answer.{boundsOf}
+use Rattle.lattice.specs.Answer.{CodesOf}
 use Rattle.casefile.specs.Reading.{Content, CaseReading, refused, content}
 use Rattle.casefile.specs.Answer.{sizesOf}
 use Rattle.casefile.specs.declared.Sizes.{Sizes}
@@ -32,10 +30,10 @@ examinedAnswer (refused r) = Refused r
 examinedAnswer (content c) = Held (sizesOf c)
 
 -- The examination that every call but open makes, before its own arguments: 11, 12, or the sizes of the content. Where the desk is
--- held, the tables t hold the operations of its lattice.
-pub record DeskExamined (d : Desk) (r : Examined) (t : List ℕ) : Type 0 where
+-- held, the words w are the codes of its lattice.
+pub record DeskExamined (d : Desk) (r : Examined) (w : List ℕ) : Type 0 where
   pub answer : r ≡ examinedAnswer (examined Call.Step d)
-  pub tables : (c : Content) → examined Call.Step d ≡ content c → opsIn t (boundsOf (c .lattice)) ≡ opsOf (c .lattice)
+  pub codes : (c : Content) → examined Call.Step d ≡ content c → CodesOf (c .lattice) w
 
 -- the call k on the desk d answers x, leaves the desk e, and leaves `lent` in the buffers that it is lent to write into
 abbrev pub DoesWith : List (List ℕ) → Call → Desk → Reply → Desk → Type 0

@@ -34,29 +34,29 @@ use Rattle.examination.specs.declared.Examined.{Examined}
 use Rattle.examination.specs.declared.Examined.the-variants.{Refused, Held}
 use Rattle.examination.specs.Answer.{examinedAnswer, DeskExamined, Does, DoesWith}
 
--- ---- after the answer that the desk is held with the sizes z, and the tables t
+-- ---- after the answer that the desk is held with the sizes z, and the codes w
 
-pub record HeldDesk (d : Desk) (z : Sizes) (t : List ℕ) : Type 0 where
-  pub case : AcceptedCase (take 24576 (d .store)) z t
+pub record HeldDesk (d : Desk) (z : Sizes) (w : List ℕ) : Type 0 where
+  pub case : AcceptedCase (take 24576 (d .store)) z w
   pub kept : Unspoiled d (case .holds)
   pub lengths : Long d
 
-pub when-held : (d : Desk) (r : Examined) (z : Sizes) (t : List ℕ) → DeskExamined d r t → r ≡ Held z → HeldDesk d z t
+pub when-held : (d : Desk) (r : Examined) (z : Sizes) (w : List ℕ) → DeskExamined d r w → r ≡ Held z → HeldDesk d z w
 unfolding accepted-as
-when-held d r z t w k = go (examined Call.Step d) refl (sym k ∙ w .answer)
+when-held d r z w a k = go (examined Call.Step d) refl (sym k ∙ a .answer)
   where
-    go : (x : CaseReading) → examined Call.Step d ≡ x → Held z ≡ examinedAnswer x → HeldDesk d z t
+    go : (x : CaseReading) → examined Call.Step d ≡ x → Held z ≡ examinedAnswer x → HeldDesk d z w
     go (refused f) e h = absurd (let z : _≡_ {A = ℕ} 0 1 = cc in omega arith)
     go (content c) e h =
         let q : z ≡ sizesOf c = cc in
         let u = other-accepted Call.Step d c refl e .held in
-        record { case = accepted-as (take 24576 (d .store)) c z t (u .rules .reads) q (rw q (w .tables c e)); kept = u; lengths = long-enough d (u .long) }
+        record { case = accepted-as (take 24576 (d .store)) c z w (u .rules .reads) q (a .codes c e); kept = u; lengths = long-enough d (u .long) }
 
 -- a table has at most 4,096 entries
-pub case-few : {b : List ℕ} {z : Sizes} {t : List ℕ} → AcceptedCase b z t → z .states1 * z .states2 ≤ 4096
+pub case-few : {b : List ℕ} {z : Sizes} {w : List ℕ} → AcceptedCase b z w → z .states1 * z .states2 ≤ 4096
 case-few a = rw (a .sizes) (a .sound .entries-most)
 
-pub few : {d : Desk} {z : Sizes} {t : List ℕ} → HeldDesk d z t → z .states1 * z .states2 ≤ 4096
+pub few : {d : Desk} {z : Sizes} {w : List ℕ} → HeldDesk d z w → z .states1 * z .states2 ≤ 4096
 few h = case-few (h .case)
 
 -- a table's bytes are tested from place 0 on
@@ -64,7 +64,7 @@ pub table-kept : (table : List ℕ) (m count n : ℕ) (r : Bool) → r ≡ allBe
 table-kept table m count n r e q = e ∙ all-cong m _ _ (λ i l. ap (λ (j : ℕ). ltb (getD table j 0) n) (zero-add i)) ∙ ap (λ (k : ℕ). tableKept k n table) q
 
 -- show and a question on a desk that is held: answered, or refused for the first of its conditions that is broken
-module _ {d : Desk} {z : Sizes} {t : List ℕ} (h : HeldDesk d z t) where
+module _ {d : Desk} {z : Sizes} {w : List ℕ} (h : HeldDesk d z w) where
   abbrev pub heldView : View
   heldView = viewOf (h .case .holds) d
 
@@ -81,11 +81,11 @@ module _ {d : Desk} {z : Sizes} {t : List ℕ} (h : HeldDesk d z t) where
 
 -- ---- after the answer that it is refused, every call but open is refused so
 
-pub refused-call : (k : Call) (d : Desk) (r : Examined) (f : Refusal) (t : List ℕ) → isOpen k ≡ false → DeskExamined d r t → r ≡ Refused f → DoesWith (callLentBuffers k) k d (refusedReply k f) d
-refused-call k d r f t o w q = perform-refused k d f (go (outcome Call.Step d refl))
+pub refused-call : (k : Call) (d : Desk) (r : Examined) (f : Refusal) (w : List ℕ) → isOpen k ≡ false → DeskExamined d r w → r ≡ Refused f → DoesWith (callLentBuffers k) k d (refusedReply k f) d
+refused-call k d r f w o a q = perform-refused k d f (go (outcome Call.Step d refl))
   where
     is : examinedAnswer (examined Call.Step d) ≡ Refused f
-    is = sym (w .answer) ∙ q
+    is = sym (a .answer) ∙ q
 
     same : (g : Refusal) → examined Call.Step d ≡ refused g → refused g ≡ refused f
     same g e = let u : Refused g ≡ Refused f = sym (ap examinedAnswer e) ∙ is in let v : g ≡ f = cc in ap refused v
@@ -106,33 +106,33 @@ refused-call k d r f t o w q = perform-refused k d f (go (outcome Call.Step d re
 
 -- ---- the answers of the examination
 
-refused-examined : (d : Desk) (f : Refusal) (t : List ℕ) → examined Call.Step d ≡ refused f → DeskExamined d (Refused f) t
-refused-examined d f t e = record { answer = sym (ap examinedAnswer e); tables = λ c g. absurd (refused-content (sym e ∙ g)) }
+refused-examined : (d : Desk) (f : Refusal) (w : List ℕ) → examined Call.Step d ≡ refused f → DeskExamined d (Refused f) w
+refused-examined d f w e = record { answer = sym (ap examinedAnswer e); codes = λ c g. absurd (refused-content (sym e ∙ g)) }
 
-pub short-examined : (d : Desk) (t : List ℕ) → short d ≡ true → DeskExamined d (Refused ShortDesk) t
-short-examined d t s = refused-examined d ShortDesk t (is-short Call.Step d s)
+pub short-examined : (d : Desk) (w : List ℕ) → short d ≡ true → DeskExamined d (Refused ShortDesk) w
+short-examined d w s = refused-examined d ShortDesk w (is-short Call.Step d s)
 
-pub unread-examined : (d : Desk) (f : Refusal) (t : List ℕ) → short d ≡ false → storeReading (d .store) ≡ refused f → DeskExamined d (Refused SpoiledDesk) t
+pub unread-examined : (d : Desk) (f : Refusal) (w : List ℕ) → short d ≡ false → storeReading (d .store) ≡ refused f → DeskExamined d (Refused SpoiledDesk) w
 unfolding spoiled
-unread-examined d f t s e = refused-examined d SpoiledDesk t (is-spoiled Call.Step d refl s (rw e))
+unread-examined d f w s e = refused-examined d SpoiledDesk w (is-spoiled Call.Step d refl s (rw e))
 
-module _ (d : Desk) (z : Sizes) (t : List ℕ) (s : short d ≡ false) (a : AcceptedCase (take 24576 (d .store)) z t) where
+module _ (d : Desk) (z : Sizes) (w : List ℕ) (s : short d ≡ false) (a : AcceptedCase (take 24576 (d .store)) z w) where
   abbrev kept : Bool
   kept = rulesKept (z .states1) (z .states2) (z .lattice .size) d
 
   rules-same : kept ≡ keptFor (a .holds) d
   rules-same = rw (a .sizes)
 
-  pub spoiled-examined : (x : Bool) → x ≡ kept → x ≡ false → DeskExamined d (Refused SpoiledDesk) t
+  pub spoiled-examined : (x : Bool) → x ≡ kept → x ≡ false → DeskExamined d (Refused SpoiledDesk) w
   unfolding spoiled
-  spoiled-examined x q f = refused-examined d SpoiledDesk t (is-spoiled Call.Step d refl s (rw (a .reads, ← rules-same, ← q, f)))
+  spoiled-examined x q f = refused-examined d SpoiledDesk w (is-spoiled Call.Step d refl s (rw (a .reads, ← rules-same, ← q, f)))
 
-  pub held-examined : (x : Bool) → x ≡ kept → x ≡ true → DeskExamined d (Held z) t
+  pub held-examined : (x : Bool) → x ≡ kept → x ≡ true → DeskExamined d (Held z) w
   held-examined x q f =
       let e = in-store Call.Step d (a .holds) refl (record { long = s; rules = rules-out d (a .holds) (a .reads) (sym rules-same ∙ sym q ∙ f) }) in
       record {
         answer = ap Held (a .sizes) ∙ sym (ap examinedAnswer e);
-        tables = λ c g. let q : a .holds ≡ c = cc in rw (← q) (rw (a .sizes) at (a .tables));
+        codes = λ c g. let q : a .holds ≡ c = cc in rw (← q) (a .codes);
       }
 
 -- show has no tests of its own, as step has none

@@ -1,6 +1,7 @@
 // The standing, and the examination that every call but open makes before its own arguments.
 use casefile::CaseCheck;
 use casefile::Sizes;
+use elements::Codes;
 use refusal::Refusal;
 ghost use mathlib.Core.Path.{_≡_};
 ghost use Prim.Native.Nat.{_+_, _*_, _-_, _≤_, _<_};
@@ -49,7 +50,7 @@ pub fn too_short(store: &[u8], first: &[u8], second: &[u8]) -> bool
 pub fn table_size(z: Sizes) -> usize
     ensures { λ r. ⌜ (r ≡ z .states1 * z .states2) × (r < 65536) ⌝ }
 {
-    operations::index(z.states1) * operations::index(z.states2)
+    elements::index(z.states1) * elements::index(z.states2)
 }
 
 // N1·N2·(n − 1).
@@ -59,7 +60,7 @@ fn round_limit(n1: u8, n2: u8, n: u8) -> usize
     if n == 0 {
         return 0;
     }
-    operations::index(n1) * operations::index(n2) * operations::index(n - 1)
+    elements::index(n1) * elements::index(n2) * elements::index(n - 1)
 }
 
 // Next row is below N1; at next row 0 nothing has changed yet.
@@ -121,26 +122,26 @@ fn rules_kept(s: Standing, z: Sizes, first: &[u8], second: &[u8]) -> bool
         return false;
     }
     let count = table_size(z);
-    if !operations::below(first, 0, count, n) {
+    if !elements::below(first, 0, count, n) {
         return false;
     }
-    operations::below(second, 0, count, n)
+    elements::below(second, 0, count, n)
 }
 
-// The examination that every call but open makes: 11, 12, or what the store holds. The tables of the lattice of a held desk are left in t.
+// The examination that every call but open makes: 11, 12, or what the store holds. The codes of the lattice of a held desk are left in w.
 pub fn examine(
     s: Standing,
     store: &[u8],
     first: &[u8],
     second: &[u8],
-    t: &mut [u8; 12352],
+    w: &mut Codes,
 ) -> Examined
-    ensures { λ r. ⌜ DeskExamined (deskOf s (now (store .entry)) (now (first .entry)) (now (second .entry))) r (now (t .exit)) ⌝ }
+    ensures { λ r. ⌜ DeskExamined (deskOf s (now (store .entry)) (now (first .entry)) (now (second .entry))) r (now (w .exit)) ⌝ }
 {
     if too_short(store, first, second) {
         return Examined::Refused(Refusal::ShortDesk);
     }
-    match casefile::check(&store[..24576], t) {
+    match casefile::check(&store[..24576], w) {
         CaseCheck::Refused(_) => Examined::Refused(Refusal::SpoiledDesk),
         CaseCheck::Accepted(z) => {
             if rules_kept(s, z, first, second) {
@@ -156,6 +157,6 @@ pub fn examine(
 pub fn sizes(s: Standing, store: &[u8], first: &[u8], second: &[u8]) -> Examined
     ensures { λ r. ⌜ r ≡ examinedAnswer (examined Call.Show (deskOf s (now (store .entry)) (now (first .entry)) (now (second .entry)))) ⌝ }
 {
-    let mut t = [0u8; 12352];
-    examine(s, store, first, second, &mut t)
+    let mut w = [0u64; 128];
+    examine(s, store, first, second, &mut w)
 }
