@@ -25,20 +25,20 @@ use Rattle.examination.specs.declared.Examined.the-variants.{Refused}
 use Rattle.examination.specs.Answer.{examinedAnswer, DeskExamined}
 use Rattle.examination.specs.Held.{HeldDesk, refused-call}
 
-pub refused-rest : (d : Desk) (r : Examined) (f : Refusal) (t : List ℕ) → DeskExamined d r t → r ≡ Refused f → Finishes d (numberReply f) d
+pub refused-rest : (d : Desk) (r : Examined) (f : Refusal) (w : List ℕ) → DeskExamined d r w → r ≡ Refused f → Finishes d (numberReply f) d
 unfolding stepsLeft
-refused-rest d r f t w q = one-finished d (numberReply f) d (go (examined Call.Step d) (sym (w .answer) ∙ q)) (refused-call Call.Step d r f t refl w q)
+refused-rest d r f w a q = one-finished d (numberReply f) d (go (examined Call.Step d) (sym (a .answer) ∙ q)) (refused-call Call.Step d r f w refl a q)
   where
     go : (x : CaseReading) → examinedAnswer x ≡ Refused f → leftIn d x ≡ 1
     go (refused g) e = refl
     go (content c) e = absurd (let z : _≡_ {A = ℕ} 0 1 = cc in omega arith)
 
-module _ {d : Desk} {z : Sizes} {t : List ℕ} (h : HeldDesk d z t) where
+module _ {d : Desk} {z : Sizes} {w : List ℕ} (h : HeldDesk d z w) where
   -- the rows, in the desk's terms
-  rows-are : (whole other out : List ℕ) (differs : Bool) → RestIn t (z .lattice) (partAt (take 24576 (d .store)) 1) (partAt (take 24576 (d .store)) 2) whole (d .standing .row) other out differs
+  rows-are : (whole other out : List ℕ) (differs : Bool) → RestIn w (z .lattice) (partAt (take 24576 (d .store)) 1) (partAt (take 24576 (d .store)) 2) whole (d .standing .row) other out differs
       → (out ≡ rowsFrom (model1 (h .case .holds)) (model2 (h .case .holds)) (operator (h .case .holds)) (tableOf whole (N2 (h .case .holds))) (N1 (h .case .holds) - d .standing .row) (d .standing .row) other)
       × (differs ≡ rowsChanged (model1 (h .case .holds)) (model2 (h .case .holds)) (operator (h .case .holds)) (tableOf whole (N2 (h .case .holds))) (N1 (h .case .holds) - d .standing .row) (d .standing .row))
-  rows-are whole other out differs e = rw (h .case .parts .model1, h .case .parts .model2, h .case .tables) at e
+  rows-are whole other out differs e = rw (h .case .parts .model1, h .case .parts .model2, h .case .ops) at e
 
   abbrev afterRest : Desk → After
   afterRest e = record { reply = stepAnswer (e .standing); desk = e; lent = [] }
@@ -49,13 +49,13 @@ module _ {d : Desk} {z : Sizes} {t : List ℕ} (h : HeldDesk d z t) where
   -- the rows are worked and the standing is moved on
   module _ (out : List ℕ) (differs : Bool) (next : Standing) (x : Reply) (u : d .standing .settled ≡ false) (n : next ≡ nextRound (d .standing .changed || differs) (d .standing)) (r : x ≡ stepAnswer (nextRound (d .standing .changed || differs) (d .standing))) where
     -- the second table is whole, and the rows are worked into the first
-    pub rest-into-first : d .standing .secondWhole ≡ true → RestIn t (z .lattice) (partAt (take 24576 (d .store)) 1) (partAt (take 24576 (d .store)) 2) (d .second) (d .standing .row) (d .first) out differs → Finishes d x (record { standing = next; store = d .store; first = out; second = d .second })
-    rest-into-first w e =
+    pub rest-into-first : d .standing .secondWhole ≡ true → RestIn w (z .lattice) (partAt (take 24576 (d .store)) 1) (partAt (take 24576 (d .store)) 2) (d .second) (d .standing .row) (d .first) out differs → Finishes d x (record { standing = next; store = d .store; first = out; second = d .second })
+    rest-into-first v e =
         let o = rows-are (d .second) (d .first) out differs e in
-        rw (n, r) (held-rest (record { standing = nextRound (d .standing .changed || differs) (d .standing); store = d .store; first = out; second = d .second }) u (rw (o .0, o .1, w)))
+        rw (n, r) (held-rest (record { standing = nextRound (d .standing .changed || differs) (d .standing); store = d .store; first = out; second = d .second }) u (rw (o .0, o .1, v)))
 
     -- the first table is whole, and the rows are worked into the second
-    pub rest-into-second : d .standing .secondWhole ≡ false → RestIn t (z .lattice) (partAt (take 24576 (d .store)) 1) (partAt (take 24576 (d .store)) 2) (d .first) (d .standing .row) (d .second) out differs → Finishes d x (record { standing = next; store = d .store; first = d .first; second = out })
-    rest-into-second w e =
+    pub rest-into-second : d .standing .secondWhole ≡ false → RestIn w (z .lattice) (partAt (take 24576 (d .store)) 1) (partAt (take 24576 (d .store)) 2) (d .first) (d .standing .row) (d .second) out differs → Finishes d x (record { standing = next; store = d .store; first = d .first; second = out })
+    rest-into-second v e =
         let o = rows-are (d .first) (d .second) out differs e in
-        rw (n, r) (held-rest (record { standing = nextRound (d .standing .changed || differs) (d .standing); store = d .store; first = d .first; second = out }) u (rw (o .0, o .1, w)))
+        rw (n, r) (held-rest (record { standing = nextRound (d .standing .changed || differs) (d .standing); store = d .store; first = d .first; second = out }) u (rw (o .0, o .1, v)))

@@ -55,7 +55,7 @@ freshStanding n1 n2 = record { states1 = n1; states2 = n2; round = 0; row = 0; c
 abbrev openedTo : Desk → After
 openedTo e = record { reply = Reply.Opened; desk = e; lent = [] }
 
-module _ (b : List ℕ) (d : Desk) (z : Sizes) (t : List ℕ) (s : short d ≡ false) (a : AcceptedCase b z t) where
+module _ (b : List ℕ) (d : Desk) (z : Sizes) (w : List ℕ) (s : short d ≡ false) (a : AcceptedCase b z w) where
   pub accepted-open : (n : ℕ) (store first second : List ℕ) → n ≡ z .states1 * z .states2 → store ≡ written 0 (gapless (partsOf b)) (d .store) → first ≡ written 0 (replicate n (z .lattice .top .0)) (d .first) → second ≡ written 0 (replicate n (z .lattice .top .0)) (d .second) → Does (Call.Open b) d Reply.Opened (record { standing = freshStanding (z .states1) (z .states2); store = store; first = first; second = second })
   unfolding answer moved lentAfter opened
   accepted-open n store first second m es e1 e2 =

@@ -11,8 +11,8 @@ use native.Mathlib.Omega.{arith}
 use lib.ListN.{length, getD, take}
 use Rattle.theory.specs.Part.{modelOf}
 use Rattle.theory.specs.Simulation.{F}
-use Rattle.operations.specs.declared.Lattice.{Lattice}
-use Rattle.operations.specs.Table.{opsIn}
+use Rattle.elements.specs.declared.Lattice.{Lattice}
+use Rattle.elements.specs.Words.{opsIn, Coded}
 use Rattle.model.specs.Places.{prod-le}
 use Rattle.casefile.specs.declared.Sizes.{Sizes}
 use Rattle.casefile.specs.Directory.{partCount, partAt}
@@ -27,23 +27,24 @@ use Rattle.desk.specs.RefusedLaws.{in-store, perform-accepted}
 use Rattle.examination.specs.Answer.{Does}
 use Rattle.examination.specs.Held.{HeldDesk}
 
--- row `row` of F of the table whole, in its place in other; and whether it differs from that of whole. For the tables t and the numbers l
+-- row `row` of F of the table whole, in its place in other; and whether it differs from that of whole. For the codes w and the numbers l
 -- of a lattice, and the model parts m1 and m2
 abbrev pub rowOut : List ℕ → Lattice → List ℕ → List ℕ → List ℕ → ℕ → List ℕ → List ℕ
-rowOut t l m1 m2 whole row other = rowWritten (modelOf m1) (modelOf m2) (F (opsIn t l) (modelOf m1) (modelOf m2)) (tableOf whole (getD m2 0 0)) row other
+rowOut w l m1 m2 whole row other = rowWritten (modelOf m1) (modelOf m2) (F (opsIn w l) (modelOf m1) (modelOf m2)) (tableOf whole (getD m2 0 0)) row other
 
 abbrev pub rowDiffers : List ℕ → Lattice → List ℕ → List ℕ → List ℕ → ℕ → Bool
-rowDiffers t l m1 m2 whole row = rowChanged (modelOf m1) (modelOf m2) (F (opsIn t l) (modelOf m1) (modelOf m2)) (tableOf whole (getD m2 0 0)) row
+rowDiffers w l m1 m2 whole row = rowChanged (modelOf m1) (modelOf m2) (F (opsIn w l) (modelOf m1) (modelOf m2)) (tableOf whole (getD m2 0 0)) row
 
 -- the same for the model parts of the case b
 abbrev pub caseRow : List ℕ → Lattice → List ℕ → List ℕ → ℕ → List ℕ → List ℕ
-caseRow t l b whole row other = rowOut t l (partAt b 1) (partAt b 2) whole row other
+caseRow w l b whole row other = rowOut w l (partAt b 1) (partAt b 2) whole row other
 
 abbrev pub caseRowDiffers : List ℕ → Lattice → List ℕ → List ℕ → ℕ → Bool
-caseRowDiffers t l b whole row = rowDiffers t l (partAt b 1) (partAt b 2) whole row
+caseRowDiffers w l b whole row = rowDiffers w l (partAt b 1) (partAt b 2) whole row
 
--- what working a row asks of the case b, of the whole table and of the other
-pub record Workable (b whole other : List ℕ) (row : ℕ) : Type 0 where
+-- what working a row asks of the codes w, of the case b, of the whole table and of the other
+pub record Workable (w : List ℕ) (l : Lattice) (b whole other : List ℕ) (row : ℕ) : Type 0 where
+  pub coded : Coded w l
   pub placed : Placed b
   pub parts : 3 ≤ partCount b
   pub shaped : Shaped (partAt b 1) (partAt b 2) whole
@@ -57,14 +58,15 @@ movedBy differs s = movedOn (s .states1) (s .changed || differs) s
 settled-answer : (s : Standing) → s .settled ≡ true → stepAnswer s ≡ Reply.Settled (s .round)
 settled-answer s u = rw u
 
-module _ {d : Desk} {z : Sizes} {t : List ℕ} (h : HeldDesk d z t) where
+module _ {d : Desk} {z : Sizes} {w : List ℕ} (h : HeldDesk d z w) where
   abbrev bytes : List ℕ
   bytes = take 24576 (d .store)
 
-  pub workable : (whole other : List ℕ) → 4096 ≤ length whole → 4096 ≤ length other → Workable bytes whole other (d .standing .row)
+  pub workable : (whole other : List ℕ) → 4096 ≤ length whole → 4096 ≤ length other → Workable w (z .lattice) bytes whole other (d .standing .row)
   workable whole other p q =
       let few = h .case .sound .entries-most in
       record {
+        coded = h .case .coded;
         placed = h .case .placed;
         parts = h .case .parts .least;
         shaped =
@@ -106,26 +108,26 @@ module _ {d : Desk} {z : Sizes} {t : List ℕ} (h : HeldDesk d z t) where
   standing-moved differs e = rw (e, h .kept .rules .size1)
 
   -- the row, in the desk's terms
-  out-is : (out whole other : List ℕ) → out ≡ caseRow t (z .lattice) bytes whole (d .standing .row) other → out ≡ rowWritten (model1 (h .case .holds)) (model2 (h .case .holds)) (operator (h .case .holds)) (tableOf whole (N2 (h .case .holds))) (d .standing .row) other
-  out-is out whole other e = rw (h .case .parts .model1, h .case .parts .model2, h .case .tables) at e
+  out-is : (out whole other : List ℕ) → out ≡ caseRow w (z .lattice) bytes whole (d .standing .row) other → out ≡ rowWritten (model1 (h .case .holds)) (model2 (h .case .holds)) (operator (h .case .holds)) (tableOf whole (N2 (h .case .holds))) (d .standing .row) other
+  out-is out whole other e = rw (h .case .parts .model1, h .case .parts .model2, h .case .ops) at e
 
-  differs-is : (differs : Bool) (whole : List ℕ) → differs ≡ caseRowDiffers t (z .lattice) bytes whole (d .standing .row) → differs ≡ rowChanged (model1 (h .case .holds)) (model2 (h .case .holds)) (operator (h .case .holds)) (tableOf whole (N2 (h .case .holds))) (d .standing .row)
-  differs-is differs whole e = rw (h .case .parts .model1, h .case .parts .model2, h .case .tables) at e
+  differs-is : (differs : Bool) (whole : List ℕ) → differs ≡ caseRowDiffers w (z .lattice) bytes whole (d .standing .row) → differs ≡ rowChanged (model1 (h .case .holds)) (model2 (h .case .holds)) (operator (h .case .holds)) (tableOf whole (N2 (h .case .holds))) (d .standing .row)
+  differs-is differs whole e = rw (h .case .parts .model1, h .case .parts .model2, h .case .ops) at e
 
   -- the row is worked and the standing moved on
   module _ (out : List ℕ) (differs : Bool) (next : Standing) (x : Reply) (u : d .standing .settled ≡ false) (n : next ≡ movedBy differs (d .standing)) (r : x ≡ stepAnswer (movedBy differs (d .standing))) where
     -- the second table is whole, and the row is worked into the first
-    pub into-first : d .standing .secondWhole ≡ true → out ≡ caseRow t (z .lattice) bytes (d .second) (d .standing .row) (d .first) → differs ≡ caseRowDiffers t (z .lattice) bytes (d .second) (d .standing .row) → Does Call.Step d x (record { standing = next; store = d .store; first = out; second = d .second })
+    pub into-first : d .standing .secondWhole ≡ true → out ≡ caseRow w (z .lattice) bytes (d .second) (d .standing .row) (d .first) → differs ≡ caseRowDiffers w (z .lattice) bytes (d .second) (d .standing .row) → Does Call.Step d x (record { standing = next; store = d .store; first = out; second = d .second })
     unfolding stepped worked
-    into-first w e f =
-        let s = standing-moved differs (rw w (differs-is differs (d .second) f)) in
+    into-first v e f =
+        let s = standing-moved differs (rw v (differs-is differs (d .second) f)) in
         let o = out-is out (d .second) (d .first) e in
-        rw (n, r) (held-step (record { standing = movedBy differs (d .standing); store = d .store; first = out; second = d .second }) (rw (u, s, o, w)))
+        rw (n, r) (held-step (record { standing = movedBy differs (d .standing); store = d .store; first = out; second = d .second }) (rw (u, s, o, v)))
 
     -- the first table is whole, and the row is worked into the second
-    pub into-second : d .standing .secondWhole ≡ false → out ≡ caseRow t (z .lattice) bytes (d .first) (d .standing .row) (d .second) → differs ≡ caseRowDiffers t (z .lattice) bytes (d .first) (d .standing .row) → Does Call.Step d x (record { standing = next; store = d .store; first = d .first; second = out })
+    pub into-second : d .standing .secondWhole ≡ false → out ≡ caseRow w (z .lattice) bytes (d .first) (d .standing .row) (d .second) → differs ≡ caseRowDiffers w (z .lattice) bytes (d .first) (d .standing .row) → Does Call.Step d x (record { standing = next; store = d .store; first = d .first; second = out })
     unfolding stepped worked
-    into-second w e f =
-        let s = standing-moved differs (rw w (differs-is differs (d .first) f)) in
+    into-second v e f =
+        let s = standing-moved differs (rw v (differs-is differs (d .first) f)) in
         let o = out-is out (d .first) (d .second) e in
-        rw (n, r) (held-step (record { standing = movedBy differs (d .standing); store = d .store; first = d .first; second = out }) (rw (u, s, o, w)))
+        rw (n, r) (held-step (record { standing = movedBy differs (d .standing); store = d .store; first = d .first; second = out }) (rw (u, s, o, v)))

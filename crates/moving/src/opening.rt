@@ -2,10 +2,10 @@
 use crate::OpenAnswer;
 use crate::Opened;
 use casefile::CaseCheck;
+use elements::Element;
 use examination::Standing;
 use examination::table_size;
 use examination::too_short;
-use operations::Element;
 use refusal::Refusal;
 ghost use mathlib.Core.Path.{_≡_};
 ghost use Prim.Native.Nat.{_≤_};
@@ -43,8 +43,8 @@ pub fn open(
             answer: OpenAnswer::Refused(Refusal::ShortDesk),
         };
     }
-    let mut t = [0u8; 12352];
-    match casefile::check(case, &mut t) {
+    let mut w = [0u64; 128];
+    match casefile::check(case, &mut w) {
         CaseCheck::Refused(f) => Opened {
             standing: s,
             answer: OpenAnswer::Refused(f),

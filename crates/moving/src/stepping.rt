@@ -1,11 +1,12 @@
 // The call that works the next row.
 use crate::StepAnswer;
 use crate::Stepped;
+use elements::Codes;
+use elements::Lattice;
 use examination::Examined;
 use examination::Standing;
 use examination::examine;
 use model::State;
-use operations::Lattice;
 ghost use mathlib.Core.Path.{_≡_};
 ghost use Prim.Native.Nat.{_<_};
 ghost use mathlib.Core.Bool.{_||_};
@@ -17,21 +18,14 @@ ghost use Rattle.moving.specs.Answer.{stepReply};
 ghost use Rattle.moving.specs.Stepped.{caseRow, caseRowDiffers, Workable, movedBy};
 
 // Works a row of F of the whole table into the other; says whether it differs from the whole table's.
-fn work_row(
-    t: &[u8; 12352],
-    l: Lattice,
-    bytes: &[u8],
-    whole: &[u8],
-    other: &mut [u8],
-    row: State,
-) -> bool
-    requires { ⌜ Workable (now bytes) (now whole) (now other) (row .0) ⌝ }
-    ensures { λ r. ⌜ (now (other .exit) ≡ caseRow (now (t .entry)) l (now (bytes .entry)) (now (whole .entry)) (row .0) (now (other .entry)))
-        × (r ≡ caseRowDiffers (now (t .entry)) l (now (bytes .entry)) (now (whole .entry)) (row .0)) ⌝ }
+fn work_row(w: &Codes, l: Lattice, bytes: &[u8], whole: &[u8], other: &mut [u8], row: State) -> bool
+    requires { ⌜ Workable (now w) l (now bytes) (now whole) (now other) (row .0) ⌝ }
+    ensures { λ r. ⌜ (now (other .exit) ≡ caseRow (now (w .entry)) l (now (bytes .entry)) (now (whole .entry)) (row .0) (now (other .entry)))
+        × (r ≡ caseRowDiffers (now (w .entry)) l (now (bytes .entry)) (now (whole .entry)) (row .0)) ⌝ }
 {
     let m1 = casefile::part(bytes, 1);
     let m2 = casefile::part(bytes, 2);
-    rowcodes::row(t, l, m1, m2, whole, other, row)
+    rounds::row(w, l, m1, m2, whole, other, row)
 }
 
 pub fn either(a: bool, b: bool) -> bool
@@ -109,8 +103,8 @@ pub fn step(s: Standing, store: &[u8], first: &mut [u8], second: &mut [u8]) -> S
     ensures { λ r. ⌜ Does Call.Step (deskOf s (now (store .entry)) (now (first .entry)) (now (second .entry)))
         (stepReply (r .answer)) (deskOf (r .standing) (now (store .entry)) (now (first .exit)) (now (second .exit))) ⌝ }
 {
-    let mut t = [0u8; 12352];
-    match examine(s, store, first, second, &mut t) {
+    let mut w = [0u64; 128];
+    match examine(s, store, first, second, &mut w) {
         Examined::Refused(f) => Stepped {
             standing: s,
             answer: StepAnswer::Refused(f),
@@ -125,9 +119,9 @@ pub fn step(s: Standing, store: &[u8], first: &mut [u8], second: &mut [u8]) -> S
             let l = z.lattice;
             let bytes = &store[..24576];
             if s.second_whole {
-                return answered(s, work_row(&t, l, bytes, second, first, State(s.row)));
+                return answered(s, work_row(&w, l, bytes, second, first, State(s.row)));
             }
-            answered(s, work_row(&t, l, bytes, first, second, State(s.row)))
+            answered(s, work_row(&w, l, bytes, first, second, State(s.row)))
         }
     }
 }

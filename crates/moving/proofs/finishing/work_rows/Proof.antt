@@ -11,14 +11,14 @@ use Rattle.moving.proofs.finishing.work_rows.Statement.{statement}
 use Rattle.moving.proofs.finishing.work_rows.Tie as tie
 
 abbrev Inv-loop : tie.InvT-loop
-Inv-loop t l m1 m2 whole other₀ n1 start changed₀ q₀ other changed q =
-    (q ≤ n1) × (n1 ≡ getD m1 0 0) × RestSoFar (modelOf m1) (modelOf m2) (FIn t l m1 m2) (tableOf whole (getD m2 0 0)) start other₀ q other changed
+Inv-loop w l m1 m2 whole other₀ n1 start changed₀ q₀ other changed q =
+    (q ≤ n1) × (n1 ≡ getD m1 0 0) × RestSoFar (modelOf m1) (modelOf m2) (FIn w l m1 m2) (tableOf whole (getD m2 0 0)) start other₀ q other changed
 
 abbrev μ-loop : tie.MeasureT-loop
-μ-loop t l m1 m2 whole other₀ n1 start changed₀ q₀ other changed q = n1 - q
+μ-loop w l m1 m2 whole other₀ n1 start changed₀ q₀ other changed q = n1 - q
 
 loop-holds : tie.Need-loop-holds Inv-loop μ-loop
-loop-holds c = (omega (arith, c .index .ensures .0, c .before .states .ensures, c .before .before .before .before .before .before .pre .2), c .before .states .ensures, rest-none)
+loop-holds c = (omega (arith, c .index .ensures .0, c .before .states .ensures, c .before .before .before .before .before .before .pre .3), c .before .states .ensures, rest-none)
 
 loop-again : tie.Need-loop-again Inv-loop μ-loop
 loop-again c =
@@ -26,7 +26,7 @@ loop-again c =
     let b = c .before .before .before .before .before .before .before .before .before .before .before .before in (
       omega arith,
       i .1,
-      rest-more (i .2) (omega (arith, i .1)) (b .pre .1) (c .before .before .row .ensures .0) (c .before .before .row .ensures .1),
+      rest-more (i .2) (omega (arith, i .1)) (b .pre .2) (c .before .before .row .ensures .0) (c .before .before .row .ensures .1),
     )
 
 same-length : tie.Need-same-length Inv-loop μ-loop
