@@ -1,42 +1,33 @@
 -- The answer at a place, by the token there: one law for each arm of the valuer, and that its parts stand where it looks for them.
--- Rests on Node, maps' Code, Places.
+-- Rests on Node, valuer_maps' Code and Maps, Places.
 --   here-literal: a proposition's number is below k
 --   here-first, here-inner, here-body: the first part stands at the next place; Second, here-second: the second where the first one's answer says
---   held: the environment that the three lists hold
 --   bottom-arm, top-arm, literal-arm, variable-arm, two-arm, next-arm, fixpoint-arm: what each arm answers; no-arm: no formula is without bytes
---   here-read, part-values, part-whole: a whole part, its values, and its value on the whole model
-use Prim.Native.Nat.{ℕ, _≤_, _<_}
-use mathlib.Core.Path.{_≡_, refl, sym, ap, ap₂, _∙_, subst}
+--   here-read, part-values, part-at, part-whole: a whole part, the codes of its values, a value, and that on the whole model
+use Prim.Native.Nat.{ℕ, _+_, _≤_, _<_}
+use mathlib.Core.Path.{_≡_, sym, ap, _∙_, subst}
 use mathlib.Core.Bool.{Bool, true, false}
 use mathlib.Core.List.{List}
-use native.Mathlib.Nat.{le-refl}
 use native.Mathlib.Omega.{arith}
 use borrow.Author.Tests.{ltb-true}
-use lib.ListN.{getD, replicate, getD-replicate, length-append}
-use Rattle.theory.specs.Lattice.{imp}
-use Rattle.theory.specs.Folds.{bigMeet-cong}
+use lib.ListN.{length, getD, replicate, length-append}
 use Rattle.theory.specs.Formula.{Formula, boundBy, overProps}
-use Rattle.theory.specs.Fixpoint.{allNext-cong, someNext-cong}
-use Rattle.theory.specs.Lists.{Filled}
-use Rattle.theory.specs.Loop.{filled-as}
 use Rattle.theory.specs.Part.{modelOf}
 use Rattle.theory.specs.Value.{eval, valueAt, wholeValue}
-use Rattle.operations.specs.Table.{opsIn, meetIn, joinIn}
-use Rattle.operations.specs.declared.Lattice.{Lattice}
+use Rattle.elements.specs.Folds.{decode-in, bigMeet-lt}
+use Rattle.elements.specs.Words.{decodeIn, opsIn}
+use Rattle.elements.specs.declared.Lattice.{Lattice}
 use Rattle.model.specs.declared.Proposition.{Proposition}
 use Rattle.tokens.specs.declared.Token.{Token}
 use Rattle.tokens.specs.declared.Token.the-variants.{Bottom, Top, Literal, Variable, Two, Next, Fixpoint}
 use Rattle.tokens.specs.Tokens.{tokenSize}
 use Rattle.tokens.specs.Sizes.{Stands}
 use Rattle.formula.specs.Bytes.{bytesOf}
-use Rattle.valuer.specs.Values.{Reads, fromInitial, Values, WholeValue}
-use Rattle.maps.specs.Code.{literal, bound, nextOf, startOf, slotOf, Literals, Combined, NextMap}
-use Rattle.valuer.specs.Node.{Spelled, Here, SlotsHold, roundLimit, Answer, Node, Iterated}
+use Rattle.valuer_maps.specs.Code.{startCode, slotOf, Literals, NextMap}
+use Rattle.valuer_maps.specs.Maps.{MapOf, startOf, map-start, map-literals, map-bound, map-next, implied, map-decoded}
+use Rattle.valuer.specs.Values.{ModelOver, Reads, ValueAt, WholeValue}
+use Rattle.valuer.specs.Node.{Spelled, Here, SlotsHold, roundLimit, Node, Both, Iterated, CodedValues, initialCode}
 use Rattle.valuer.proofs.Places.{build, Parts, some-bytes, by-token, of-or, of-and, of-AX, of-EX, of-mu, of-nu, read-spelled}
-
--- the same value at all 64 places
-everywhere : (n a : ℕ) (f : ℕ → ℕ) → n ≤ 64 → ((q : ℕ) → a ≡ f q) → Filled f n (replicate 64 a)
-everywhere n a f l e = record { at = λ q b. getD-replicate 64 q a 0 (omega arith) ∙ e q }
 
 -- ---- the parts of what stands at a place stand there too
 
@@ -68,129 +59,108 @@ module _ {f : List ℕ} {at i k : ℕ} where
   here-body true s = known s _ (λ d g h u. here (of-mu (s .ends) g u))
   here-body false s = known s _ (λ d g h u. here (of-nu (s .ends) g u))
 
--- the maps that the three lists hold
-pub held : (n : ℕ) (near mid far : List ℕ) (d : ℕ) → SlotsHold n near mid far d (λ v q. getD (slotOf near mid far v) q 0)
-held n near mid far d = record { at = λ v l. record { at = λ q b. refl } }
-
 -- the second part: it begins where the answer of the first, at the place i, says
 pub record Second (f : List ℕ) (i k next : ℕ) : Type 0 where
   pub further : i ≤ next
   pub stands : Here f next k
 
-module _ {t : List ℕ} {l : Lattice} {m f : List ℕ} {i : ℕ} {near mid far : List ℕ} where
-  second : {x : List ℕ} {j d : ℕ} {g h : Formula} → Parts f i d (getD m 1 0) g h → Node t l m f i near mid far x j → Second f i (getD m 1 0) j
-  second {d = d} {g} {h} p n =
-      let a = n .is d g _ (p .first) (held _ near mid far d) in
-      record { further = omega (arith, a .next); stands = subst (λ (i : ℕ). Here f i (getD m 1 0)) (sym (a .next)) (here (p .second)) }
+module _ {w : List ℕ} {l : Lattice} {m f : List ℕ} {i j : ℕ} {near mid far x : List ℕ} (n : Node w l m f i near mid far x j) where
+  -- where it stands
+  right : {d : ℕ} {g h : Formula} → Parts f i d (getD m 1 0) g h → Spelled f j d (getD m 1 0) h
+  right {d} {g} {h} p = subst (λ (q : ℕ). Spelled f q d (getD m 1 0) h) (sym (n .next d g (p .first))) (p .second)
 
-  -- the second part's answer, at the place that the first one's says
-  right : {x y : List ℕ} {j k d : ℕ} {g h : Formula} {e : ℕ → ℕ → ℕ} → Answer t l m f i g e x j → Node t l m f j near mid far y k → Parts f i d (getD m 1 0) g h
-      → SlotsHold (getD m 0 0) near mid far d e → Answer t l m f j h e y k
-  right {d = d} {h = h} {e} a n p w = n .is d h e (subst (λ (q : ℕ). Spelled f q d (getD m 1 0) h) (sym (a .next)) (p .second)) w
+  second : {d : ℕ} {g h : Formula} → Parts f i d (getD m 1 0) g h → Second f i (getD m 1 0) j
+  second {d} {g} p = record { further = omega (arith, n .next d g (p .first)); stands = here (right p) }
 
-module _ {t : List ℕ} {l : Lattice} {m f : List ℕ} {at i : ℕ} {near mid far : List ℕ} where
-  pub here-second : {v : List ℕ} {j : ℕ} (x : Bool) → Stands f at (Two x) i → Here f at (getD m 1 0)
-      → Node t l m f i near mid far v j → Second f i (getD m 1 0) j
+  pub here-second : {at : ℕ} (b : Bool) → Stands f at (Two b) i → Here f at (getD m 1 0) → Second f i (getD m 1 0) j
   unfolding tokenSize
-  here-second true s y n = known s _ (λ d g h u. second (of-or (s .ends) g h u) n) y
-  here-second false s y n = known s _ (λ d g h u. second (of-and (s .ends) g h u) n) y
+  here-second true s = known s _ (λ d g h u. second (of-or (s .ends) g h u))
+  here-second false s = known s _ (λ d g h u. second (of-and (s .ends) g h u))
 
 -- ---- the arms
 
-module _ {t : List ℕ} {l : Lattice} {m f : List ℕ} {at i : ℕ} {near mid far : List ℕ} where
+module _ {w : List ℕ} {l : Lattice} {m : List ℕ} (o : ModelOver w l m) {f : List ℕ} {at i : ℕ} {near mid far : List ℕ} where
   -- the answer for each formula that begins with the token that stands here
-  by-one : {u : Token} {x : List ℕ} {j : ℕ} → Stands f at u i
-      → ((d : ℕ) (e : ℕ → ℕ → ℕ) (g h : Formula) → Spelled f at d (getD m 1 0) (build u g h)
-      → SlotsHold (getD m 0 0) near mid far d e → Answer t l m f at (build u g h) e x j)
-      → Node t l m f at near mid far x j
-  by-one {u} {x} {j} s w = record {
-    is = λ d φ e v h. by-token v u (s .token) (λ ψ. Spelled f at d (getD m 1 0) ψ → SlotsHold (getD m 0 0) near mid far d e → Answer t l m f at ψ e x j) (w d e) v h;
+  by-one : {t : Token} {x : List ℕ} {j : ℕ} → Stands f at t i
+      → ((d : ℕ) (g h : Formula) → Spelled f at d (getD m 1 0) (build t g h) → j ≡ at + length (bytesOf (build t g h)))
+      → ((d : ℕ) (e : ℕ → ℕ → ℕ) (g h : Formula) → Spelled f at d (getD m 1 0) (build t g h) → SlotsHold w l (getD m 0 0) near mid far d e
+      → MapOf w l (eval (opsIn w l) (modelOf m) (roundLimit l m) (build t g h) e) (getD m 0 0) x)
+      → Node w l m f at near mid far x j
+  by-one {t} {x} {j} s a b = record {
+    next = λ d φ v. by-token v t (s .token) (λ ψ. Spelled f at d (getD m 1 0) ψ → j ≡ at + length (bytesOf ψ)) (a d) v;
+    map = λ d φ e v k. by-token v t (s .token)
+        (λ ψ. Spelled f at d (getD m 1 0) ψ → SlotsHold w l (getD m 0 0) near mid far d e → MapOf w l (eval (opsIn w l) (modelOf m) (roundLimit l m) ψ e) (getD m 0 0) x) (b d e) v k;
   }
 
-  pub bottom-arm : Stands f at Bottom i → getD m 0 0 ≤ 64 → Node t l m f at near mid far (replicate 64 (l .bottom .0)) i
+  pub bottom-arm : {x : ℕ} → Stands f at Bottom i → x ≡ startCode w l true → Node w l m f at near mid far (replicate 64 x) i
+  unfolding bytesOf eval startOf tokenSize
+  bottom-arm s z = rw z (by-one s (λ d g h u. s .ends) (λ d e g h u k. map-start (o .coded) true (getD m 0 0) (o .shape .states-most)))
+
+  pub top-arm : {x : ℕ} → Stands f at Top i → x ≡ startCode w l false → Node w l m f at near mid far (replicate 64 x) i
+  unfolding bytesOf eval startOf tokenSize
+  top-arm s z = rw z (by-one s (λ d g h u. s .ends) (λ d e g h u k. map-start (o .coded) false (getD m 0 0) (o .shape .states-most)))
+
+  pub literal-arm : {x : List ℕ} (p : Proposition) (b : Bool) → Stands f at (Literal p b) i → p .0 < getD m 1 0 → Literals w m b (p .0) x → Node w l m f at near mid far x i
   unfolding bytesOf eval tokenSize
-  bottom-arm s b = by-one s (λ d e g h u w. record { next = s .ends; values = everywhere _ _ _ b (λ i. refl) })
+  literal-arm p true s k a = by-one s (λ d g h u. s .ends) (λ d e g h u j. map-literals (o .coded) m true (p .0) k (o .valued) a)
+  literal-arm p false s k a = by-one s (λ d g h u. s .ends) (λ d e g h u j. map-literals (o .coded) m false (p .0) k (o .valued) a)
 
-  pub top-arm : Stands f at Top i → getD m 0 0 ≤ 64 → Node t l m f at near mid far (replicate 64 (l .top .0)) i
-  unfolding bytesOf eval tokenSize
-  top-arm s b = by-one s (λ d e g h u w. record { next = s .ends; values = everywhere _ _ _ b (λ i. refl) })
-
-  pub literal-arm : {v : List ℕ} (p : Proposition) (x : Bool) → Stands f at (Literal p x) i → Literals t m x (p .0) v → Node t l m f at near mid far v i
-  unfolding bytesOf eval literal tokenSize
-  literal-arm p true s a = by-one s (λ d e g h u w. record { next = s .ends; values = filled-as a (le-refl _) (λ j b. refl) })
-  literal-arm p false s a = by-one s (λ d e g h u w. record { next = s .ends; values = filled-as a (le-refl _) (λ j b. refl) })
-
-  pub variable-arm : {x : List ℕ} (v : ℕ) → Stands f at (Variable v) i → x ≡ slotOf near mid far v → Node t l m f at near mid far x i
+  pub variable-arm : {x : List ℕ} (v : ℕ) → Stands f at (Variable v) i → x ≡ slotOf near mid far v → Node w l m f at near mid far x i
   unfolding bytesOf eval boundBy tokenSize
-  variable-arm v s a = by-one s (λ d e g h u w. record { next = s .ends; values = rw a (w .at v (ltb-true v d (u .bound))) })
+  variable-arm v s a = by-one s (λ d g h u. s .ends) (λ d e g h u k. rw a (k .at v (ltb-true v d (u .bound))))
 
-  pub two-arm : {x y v : List ℕ} {j k n : ℕ} (b : Bool) → Stands f at (Two b) i → Node t l m f i near mid far x j → Node t l m f j near mid far y k
-      → getD m 0 0 ≤ n → Combined t b x y n v → Node t l m f at near mid far v k
-  unfolding bytesOf eval bound tokenSize
-  two-arm true s nx ny c o =
-      by-one s (λ d e g h u w.
-      let p = of-or (s .ends) g h u in
-      let a = nx .is d g e (p .first) w in
-      let z = right a ny p w in
-      record {
-        next = omega (arith, s .ends, a .next, z .next, length-append (bytesOf g) (bytesOf h));
-        values = filled-as o c (λ r q. ap₂ (joinIn t) (a .values .at r q) (z .values .at r q));
-      })
-  two-arm false s nx ny c o =
-      by-one s (λ d e g h u w.
-      let p = of-and (s .ends) g h u in
-      let a = nx .is d g e (p .first) w in
-      let z = right a ny p w in
-      record {
-        next = omega (arith, s .ends, a .next, z .next, length-append (bytesOf g) (bytesOf h));
-        values = filled-as o c (λ r q. ap₂ (meetIn t) (a .values .at r q) (z .values .at r q));
-      })
+  pub two-arm : {x v : List ℕ} {j k : ℕ} (b : Bool) → Stands f at (Two b) i → Node w l m f i near mid far x j → Both w l m f j b near mid far x v k
+      → Node w l m f at near mid far v k
+  unfolding bytesOf eval tokenSize
+  two-arm true s n y =
+      by-one s
+      (λ d g h u. let p = of-or (s .ends) g h u in omega (arith, s .ends, n .next d g (p .first), y .node .next d h (right n p), length-append (bytesOf g) (bytesOf h)))
+      (λ d e g h u q. let p = of-or (s .ends) g h u in map-bound (o .coded) true (n .map d g e (p .first) q) (y .node .map d h e (right n p) q) (y .combined))
+  two-arm false s n y =
+      by-one s
+      (λ d g h u. let p = of-and (s .ends) g h u in omega (arith, s .ends, n .next d g (p .first), y .node .next d h (right n p), length-append (bytesOf g) (bytesOf h)))
+      (λ d e g h u q. let p = of-and (s .ends) g h u in map-bound (o .coded) false (n .map d g e (p .first) q) (y .node .map d h e (right n p) q) (y .combined))
 
-  pub next-arm : {x v : List ℕ} {j : ℕ} (b : Bool) → Stands f at (Next b) i → Node t l m f i near mid far x j
-      → NextMap t l m b x v → Node t l m f at near mid far v j
-  unfolding bytesOf eval nextOf tokenSize
-  next-arm true s nx o =
-      by-one s (λ d e g h u w.
-      let a = nx .is d g e (of-AX (s .ends) g u) w in
-      record {
-        next = omega (arith, s .ends, a .next);
-        values = filled-as o (le-refl _) (λ q k. allNext-cong (opsIn t l) (modelOf m) _ _ (a .values .at) q);
-      })
-  next-arm false s nx o =
-      by-one s (λ d e g h u w.
-      let a = nx .is d g e (of-EX (s .ends) g u) w in
-      record {
-        next = omega (arith, s .ends, a .next);
-        values = filled-as o (le-refl _) (λ q k. someNext-cong (opsIn t l) (modelOf m) _ _ (a .values .at) q);
-      })
+  pub next-arm : {x v : List ℕ} {j : ℕ} (b : Bool) → Stands f at (Next b) i → Node w l m f i near mid far x j → NextMap w l m b x v → Node w l m f at near mid far v j
+  unfolding bytesOf eval tokenSize
+  next-arm true s n a =
+      by-one s (λ d g h u. omega (arith, s .ends, n .next d g (of-AX (s .ends) g u)))
+      (λ d e g h u k. map-next (o .coded) m true (n .map d g e (of-AX (s .ends) g u) k) a)
+  next-arm false s n a =
+      by-one s (λ d g h u. omega (arith, s .ends, n .next d g (of-EX (s .ends) g u)))
+      (λ d e g h u k. map-next (o .coded) m false (n .map d g e (of-EX (s .ends) g u) k) a)
 
-  pub fixpoint-arm : {x : List ℕ} {j s₀ : ℕ} (b : Bool) → Stands f at (Fixpoint b) i → s₀ ≡ startOf l b
-      → Iterated t l m f i near mid s₀ x j → Node t l m f at near mid far x j
+  pub fixpoint-arm : {x : List ℕ} {j start : ℕ} (b : Bool) → Stands f at (Fixpoint b) i → start ≡ startCode w l b → Iterated w l m f i near mid start x j
+      → Node w l m f at near mid far x j
   unfolding bytesOf eval startOf tokenSize
   fixpoint-arm true s z n =
-      by-one s (λ d e g h u w.
-      let a = n .is d g e far (of-mu (s .ends) g u) w in
-      record { next = omega (arith, s .ends, a .next); values = rw z at (a .values) })
+      by-one s (λ d g h u. omega (arith, s .ends, n .next _ g (of-mu (s .ends) g u)))
+      (λ d e g h u k. n .map d g e far (startOf l true) (of-mu (s .ends) g u) k (rw z (map-start (o .coded) true (getD m 0 0) (o .shape .states-most))))
   fixpoint-arm false s z n =
-      by-one s (λ d e g h u w.
-      let a = n .is d g e far (of-nu (s .ends) g u) w in
-      record { next = omega (arith, s .ends, a .next); values = rw z at (a .values) })
+      by-one s (λ d g h u. omega (arith, s .ends, n .next _ g (of-nu (s .ends) g u)))
+      (λ d e g h u k. n .map d g e far (startOf l false) (of-nu (s .ends) g u) k (rw z (map-start (o .coded) false (getD m 0 0) (o .shape .states-most))))
 
-  -- no formula begins with the end or a broken place
-  pub no-arm : {x : List ℕ} {j : ℕ} {u : Token} → Stands f at u i → tokenSize u ≡ 0 → Node t l m f at near mid far x j
-  no-arm s z = record { is = λ d φ e v w. absurd (omega (arith, some-bytes v, ap tokenSize (s .token))) }
+-- no formula begins with the end or a broken place
+pub no-arm : {w : List ℕ} {l : Lattice} {m f : List ℕ} {at i : ℕ} {near mid far x : List ℕ} {j : ℕ} {t : Token} → Stands f at t i → tokenSize t ≡ 0 → Node w l m f at near mid far x j
+no-arm s z = record {
+  next = λ d φ v. absurd (omega (arith, some-bytes v, ap tokenSize (s .token)));
+  map = λ d φ e v k. absurd (omega (arith, some-bytes v, ap tokenSize (s .token)));
+}
 
 -- ---- a whole part
 
 pub here-read : (m f : List ℕ) → Reads m f → Here f 0 (getD m 1 0)
 here-read m f w = here (read-spelled (getD m 1 0) f (w .0) (w .1))
 
-pub part-values : {t : List ℕ} {l : Lattice} {m f near mid far x : List ℕ} {i : ℕ} → Node t l m f 0 near mid far x i → Values t l m f x
+pub part-values : {w : List ℕ} {l : Lattice} {m f near mid far x : List ℕ} {i : ℕ} → Node w l m f 0 near mid far x i → CodedValues w l m f x
 unfolding valueAt roundLimit
-part-values {l = l} {m} {f} n =
-    record { are = λ φ e. n .is 0 φ (λ v q. l .bottom .0) (read-spelled (getD m 1 0) f φ e) (record { at = λ v b. absurd (omega arith) }) .values }
+part-values {l = l} {m} {f} n = record { are = λ φ e. n .map 0 φ (λ v q. l .bottom .0) (read-spelled (getD m 1 0) f φ e) (record { at = λ v b. absurd (omega arith) }) }
 
-pub part-whole : {t : List ℕ} {l : Lattice} {m f : List ℕ} {x : List ℕ} {r : ℕ} → Values t l m f x → r ≡ fromInitial (opsIn t l) (modelOf m) (λ q. getD x q 0) → WholeValue t l m f r
-unfolding wholeValue
-part-whole {t} {l} {m} v e =
-    record { is = λ φ w. e ∙ bigMeet-cong (opsIn t l) (getD m 0 0) _ _ (λ q b. ap (imp (opsIn t l) (modelOf m .initial q)) (v .are φ w .at q b)) }
+module _ {w : List ℕ} {l : Lattice} {m f x : List ℕ} (o : ModelOver w l m) (v : CodedValues w l m f x) where
+  -- a value, decoded
+  pub part-at : (q r : ℕ) → q < getD m 0 0 → r ≡ decodeIn w (getD x q 0) → ValueAt w l m f q r
+  part-at q r k e = record { is = λ φ h. e ∙ map-decoded (o .coded) (v .are φ h) q k }
+
+  pub part-whole : (r : ℕ) → r ≡ decodeIn w (initialCode w l m x) → WholeValue w l m f r
+  unfolding wholeValue
+  part-whole r e = record { is = λ φ h. e ∙ decode-in (o .coded) (implied (o .coded) (modelOf m .initial) (v .are φ h)) (bigMeet-lt (o .coded) (getD m 0 0) _) }

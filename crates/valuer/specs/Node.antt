@@ -1,24 +1,27 @@
--- What stands at a place of a formula part, and what the valuer of that place answers. Rests on theory's Value, operations' Table,
--- formula's Bytes, maps' Code.
+-- What stands at a place of a formula part, and what the valuer of that place answers. Rests on theory's Value, elements' Words,
+-- formula's Bytes, valuer_maps' Code and Maps.
 --   Spelled, Here: a formula stands at a place
---   SlotsHold: three lists hold an environment
+--   SlotsHold: three lists hold an environment, in codes
 --   rounds, roundLimit: a body applied n times, and how often at most
---   Answer, Node: what the valuer of a place answers; Fixed, Iterated: what the iteration of a body answers
+--   Node: what the valuer of a place answers; Both: or or and with the second formula; Iterated: what the iteration of a body answers
+--   CodedValues, initialCode: the codes of a part's values, and that of the value on the whole model
 use Prim.Native.Nat.{ℕ, suc, _+_, _*_, _-_, _≤_, _<_}
 use mathlib.Core.Path.{_≡_}
-use mathlib.Core.Bool.{true}
+use mathlib.Core.Bool.{Bool, true}
 use mathlib.Core.List.{List, _++_}
-use lib.ListN.{length, getD, drop}
+use lib.Bits.{bitAnd, bitOr}
+use lib.ListN.{length, getD, drop, replicate}
 use Rattle.theory.specs.Lattice.{Ops}
+use Rattle.theory.specs.Loop.{fold}
 use Rattle.theory.specs.Model.{Model}
 use Rattle.theory.specs.Formula.{Formula, boundBy, overProps, nestedBinders}
-use Rattle.theory.specs.Value.{iterate, bind, eval}
-use Rattle.theory.specs.Lists.{Filled}
+use Rattle.theory.specs.Value.{iterate, bind, eval, valueAt}
 use Rattle.theory.specs.Part.{modelOf}
-use Rattle.operations.specs.Table.{opsIn}
-use Rattle.operations.specs.declared.Lattice.{Lattice}
-use Rattle.formula.specs.Bytes.{bytesOf}
-use Rattle.maps.specs.Code.{slotOf}
+use Rattle.elements.specs.Words.{codeIn, negatedCodeIn, opsIn}
+use Rattle.elements.specs.declared.Lattice.{Lattice}
+use Rattle.formula.specs.Bytes.{bytesOf, read, formulaReading}
+use Rattle.valuer_maps.specs.Code.{slotOf, Combined}
+use Rattle.valuer_maps.specs.Maps.{MapOf}
 
 -- At place `at` of f stands φ, under d binders and over the propositions below k: 'At most 3 binders are nested. Every variable is bound.'
 pub record Spelled (f : List ℕ) (at d k : ℕ) (φ : Formula) : Type 0 where
@@ -34,11 +37,6 @@ pub record Here (f : List ℕ) (at k : ℕ) : Type 0 where
   pub formula : Formula
   pub spelled : Spelled f at depth k formula
 
--- The environment is three lists, the nearest binder's map first (maps' slotOf).
--- They hold the environment e at the variables below d and at the first n states
-pub record SlotsHold (n : ℕ) (near mid far : List ℕ) (d : ℕ) (e : ℕ → ℕ → ℕ) : Type 0 where
-  pub at : (v : ℕ) → v < d → Filled (e v) n (slotOf near mid far v)
-
 -- the body φ applied n times, under one more binder, from `start` at all states
 abbrev pub rounds : Ops ℕ → Model ℕ → ℕ → ℕ → Formula → (ℕ → ℕ → ℕ) → ℕ → ℕ → ℕ
 rounds O M n K φ e start = iterate n (λ x. eval O M K φ (bind x e)) (λ q. start)
@@ -47,21 +45,36 @@ rounds O M n K φ e start = iterate n (λ x. eval O M K φ (bind x e)) (λ q. st
 unfoldable pub roundLimit : Lattice → List ℕ → ℕ
 roundLimit l m = getD m 0 0 * (l .size - 1)
 
-module _ (t : List ℕ) (l : Lattice) (m f : List ℕ) where
-  -- the answer at place `at`: x is φ's values at all states, each fixpoint being its body applied that often, and i is the place after φ
-  pub record Answer (at : ℕ) (φ : Formula) (e : ℕ → ℕ → ℕ) (x : List ℕ) (i : ℕ) : Type 0 where
-    pub next : i ≡ at + length (bytesOf φ)
-    pub values : Filled (eval (opsIn t l) (modelOf m) (roundLimit l m) φ e) (getD m 0 0) x
+-- The environment is three lists, the nearest binder's map first (valuer_maps' slotOf).
+-- They hold the environment e, in codes, at the variables below d and at the first n states
+pub record SlotsHold (w : List ℕ) (l : Lattice) (n : ℕ) (near mid far : List ℕ) (d : ℕ) (e : ℕ → ℕ → ℕ) : Type 0 where
+  pub at : (v : ℕ) → v < d → MapOf w l (e v) n (slotOf near mid far v)
 
-  -- whatever stands there, x and i are its answer
+module _ (w : List ℕ) (l : Lattice) (m f : List ℕ) where
+  -- whatever formula stands at place `at`, i is the place after it, and x is its values at all states, each fixpoint being its body applied
+  -- that often
   pub record Node (at : ℕ) (near mid far x : List ℕ) (i : ℕ) : Type 0 where
-    pub is : (d : ℕ) (φ : Formula) (e : ℕ → ℕ → ℕ) → Spelled f at d (getD m 1 0) φ → SlotsHold (getD m 0 0) near mid far d e → Answer at φ e x i
+    pub next : (d : ℕ) (φ : Formula) → Spelled f at d (getD m 1 0) φ → i ≡ at + length (bytesOf φ)
+    pub map : (d : ℕ) (φ : Formula) (e : ℕ → ℕ → ℕ) → Spelled f at d (getD m 1 0) φ → SlotsHold w l (getD m 0 0) near mid far d e
+        → MapOf w l (eval (opsIn w l) (modelOf m) (roundLimit l m) φ e) (getD m 0 0) x
 
-  -- the answer of a fixpoint whose body φ stands at place `at`
-  pub record Fixed (at : ℕ) (φ : Formula) (e : ℕ → ℕ → ℕ) (start : ℕ) (x : List ℕ) (i : ℕ) : Type 0 where
-    pub next : i ≡ at + length (bytesOf φ)
-    pub values : Filled (rounds (opsIn t l) (modelOf m) (roundLimit l m) (roundLimit l m) φ e start) (getD m 0 0) x
+  -- v is x combined with the map of what stands at place `at`, and i is the place after it
+  pub record Both (at : ℕ) (or : Bool) (near mid far x v : List ℕ) (i : ℕ) : Type 0 where
+    pub second : List ℕ
+    pub node : Node at near mid far second i
+    pub combined : Combined or x second (getD m 0 0) v
 
-  -- whatever body stands there, x and i are the fixpoint's answer
+  -- whatever body stands at place `at`, i is the place after it, and x is the fixpoint, from the element whose code is `start`
   pub record Iterated (at : ℕ) (near mid : List ℕ) (start : ℕ) (x : List ℕ) (i : ℕ) : Type 0 where
-    pub is : (d : ℕ) (φ : Formula) (e : ℕ → ℕ → ℕ) (far : List ℕ) → Spelled f at (suc d) (getD m 1 0) φ → SlotsHold (getD m 0 0) near mid far d e → Fixed at φ e start x i
+    pub next : (d : ℕ) (φ : Formula) → Spelled f at d (getD m 1 0) φ → i ≡ at + length (bytesOf φ)
+    pub map : (d : ℕ) (φ : Formula) (e : ℕ → ℕ → ℕ) (far : List ℕ) (a : ℕ) → Spelled f at (suc d) (getD m 1 0) φ
+        → SlotsHold w l (getD m 0 0) near mid far d e → MapOf w l (λ q. a) (getD m 0 0) (replicate 64 start)
+        → MapOf w l (rounds (opsIn w l) (modelOf m) (roundLimit l m) (roundLimit l m) φ e a) (getD m 0 0) x
+
+  -- x is the values of the formula that f is read as
+  pub record CodedValues (x : List ℕ) : Type 0 where
+    pub are : (φ : Formula) → formulaReading (getD m 1 0) f ≡ read φ → MapOf w l (valueAt (opsIn w l) (modelOf m) φ) (getD m 0 0) x
+
+-- the meet over q of Q0(q) → x at q
+abbrev pub initialCode : List ℕ → Lattice → List ℕ → List ℕ → ℕ
+initialCode w l m x = fold bitAnd (codeIn w (l .top .0)) (λ q. bitOr (negatedCodeIn w (modelOf m .initial q)) (getD x q 0)) (getD m 0 0)

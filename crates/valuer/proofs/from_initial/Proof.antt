@@ -1,29 +1,39 @@
--- `valuer::from_initial` meets its contract: the sum over the initial values.
-use mathlib.Core.Path.{_≡_, refl, _∙_}
-use Prim.Native.Nat.{ℕ}
-use mathlib.Core.Bool.{true}
-use mathlib.Core.List.{List}
-use lib.ListN.{getD}
-use Rattle.theory.specs.Part.{modelOf}
-use Rattle.operations.specs.Table.{opsIn}
-use Rattle.operations.specs.declared.Lattice.{Lattice}
-use Rattle.maps.specs.Code.{gather, startOf}
-use Rattle.maps.specs.Sums.{sumOf, sum-gather}
-use Rattle.valuer.specs.Values.{fromInitial}
-use borrow.Author.Needs.{needs}
+-- `valuer::from_initial` meets its contract: the meet so far.
+use mathlib.Core.Path.{refl, ap, _∙_}
+use Prim.Native.Nat.{ℕ, _≤_, _-_}
 use native.Mathlib.Omega.{arith}
+use lib.Bits.{bitAnd, bitOr}
+use lib.ListN.{getD}
+use borrow.Author.Needs.{needs}
+use Rattle.theory.specs.Loop.{Folded, folded-none, folded-more, folded-all}
+use Rattle.theory.specs.Part.{modelOf}
+use Rattle.elements.specs.Words.{codeIn, negatedCodeIn}
 use Rattle.valuer.proofs.from_initial.Statement.{statement}
 use Rattle.valuer.proofs.from_initial.Tie as tie
 
-sum-initial : (t : List ℕ) (l : Lattice) (m x : List ℕ) {n : ℕ} → n ≡ getD m 0 0 → sumOf t true (l .top .0) m 2 x n ≡ fromInitial (opsIn t l) (modelOf m) (λ s. getD x s 0)
-unfolding gather startOf
-sum-initial t l m x {n} e = sum-gather t l true n _ _ refl ∙ rw e
+abbrev Inv-loop : tie.InvT-loop
+Inv-loop w m x n y₀ q₀ y q = (q ≤ n) × Folded bitAnd y₀ (λ s. bitOr (negatedCodeIn w (modelOf m .initial s)) (getD x s 0)) q y
 
-gathered-requires : tie.Need-gathered-requires
-gathered-requires c κs = omega (arith, c .before .before .pre .states-most, c .before .before .pre .exact)
+abbrev μ-loop : tie.MeasureT-loop
+μ-loop w m x n y₀ q₀ y q = n - q
 
-returns : tie.Need-returns
-returns c = let a = c .before .before .before .args in rw (sum-initial (a .t .now) (a .l) (a .m .now) (a .x .now) (c .before .states .ensures)) at (c .gathered .ensures)
+loop-holds : tie.Need-loop-holds Inv-loop μ-loop
+loop-holds c = (omega arith, folded-none)
+
+loop-again : tie.Need-loop-again Inv-loop μ-loop
+loop-again c =
+    let a = c .before .before .before .before .before .before .before .before .args in
+    let i = c .before .before .before .before .loop in
+    (omega arith, folded-more (i .inv .1) (c .all-step .ensures ∙ ap (λ (e : ℕ). bitOr (negatedCodeIn (a .w .now) e) (getD (a .x .now) (i .q) 0)) (c .before .before .initial .ensures)) refl)
+
+returns : tie.Need-returns Inv-loop μ-loop
+returns c =
+    let e = c .before .before .before .states .ensures in
+    let l = c .before .loop .inv in
+    let n = getD (c .before .before .before .before .before .args .m .now) 0 0 in
+    rw (c .before .before .code .ensures) at (folded-all {n = n} (l .1) (omega (arith, e)) (omega (arith, e)))
 
 pub from-initial-spec : {M : Type 1} → statement M
-from-initial-spec = tie.close (tie.spec (λ c κs. search needs) gathered-requires returns)
+from-initial-spec =
+    tie.close (tie.spec Inv-loop μ-loop (λ c κs. search needs) (λ c κs. search needs) loop-holds (λ c. search needs) (λ c κs. search needs)
+    (λ c. search needs) (λ c. search needs) (λ c κs. search needs) (λ c. search needs) (λ c. search needs) loop-again returns)

@@ -4,7 +4,7 @@ use Rattle.valuer.proofs.valued.Statement.{statement}
 use Rattle.valuer.proofs.valued.Tie as tie
 
 value-node-requires : tie.Need-value-node-requires
-value-node-requires c κs = let p = c .before .before .before .before .before .before .before .before .pre in (p .0, here-read (c .before .before .before .before .before .before .before .before .args .m .now) _ (p .1), p .2)
+value-node-requires c κs = let p = c .before .before .before .before .before .before .before .pre in (p .0, here-read (c .before .before .before .before .before .before .before .args .m .now) _ (p .1))
 
 returns : tie.Need-returns
 returns c = part-values (c .value-node .ensures)

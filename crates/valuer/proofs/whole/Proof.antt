@@ -1,16 +1,15 @@
--- `valuer::whole` meets its contract: the meet over the initial values, either way.
+-- `valuer::whole` meets its contract: the meet over the initial values, decoded.
+use mathlib.Core.Path.{ap, _∙_}
 use borrow.Author.Needs.{needs}
+use Rattle.elements.specs.Words.{decodeIn}
 use Rattle.valuer.proofs.Arms.{part-whole}
 use Rattle.valuer.proofs.whole.Statement.{statement}
 use Rattle.valuer.proofs.whole.Tie as tie
 
 returns : tie.Need-returns
-returns c = part-whole (c .before .before .values-by-codes .ensures) (c .from-initial .ensures)
-
-returns-2 : tie.Need-returns-2
-returns-2 c = part-whole (c .before .before .values-by-tables .ensures) (c .from-initial2 .ensures)
+returns c =
+    let b = c .before .before .before .before .before .before in
+    part-whole (b .pre .0) (c .before .before .before .valued .ensures) _ (c .decode .ensures ∙ ap (decodeIn (b .args .w .now)) (c .before .from-initial .ensures))
 
 pub whole-spec : {M : Type 1} → statement M
-whole-spec =
-    tie.close (tie.spec (λ c κs. search needs) (λ c κs. search needs) (λ c κs. search needs) returns
-    (λ c κs. search needs) (λ c κs. search needs) returns-2)
+whole-spec = tie.close (tie.spec (λ c κs. search needs) (λ c κs. search needs) (λ c κs. search needs) returns)

@@ -1,4 +1,0 @@
--- Definitions of `maps`.
-pub mod Code
--- ---- theorems
-pub mod Sums

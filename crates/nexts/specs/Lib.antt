@@ -1,2 +1,0 @@
--- Definitions of `nexts`, and the theorems on them.
-pub mod Words

@@ -1,0 +1,4 @@
+-- Definitions of `valuer_maps`.
+pub mod Code
+-- ---- theorems
+pub mod Maps

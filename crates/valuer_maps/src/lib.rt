@@ -1,0 +1,189 @@
+// The maps of single nodes of a formula. A map from states to elements is 64 words, of which the first N count: the codes of its values
+// (elements). w and l are a lattice's codes and numbers, m is a model part (model). A map is written into the lent array `out`.
+use elements::Codes;
+use elements::Element;
+use elements::Lattice;
+use model::Proposition;
+use model::State;
+ghost use mathlib.Core.Path.{_≡_};
+ghost use Prim.Native.Nat.{_≤_, _<_};
+ghost use lib.Bits.{bitAnd, bitOr};
+ghost use lib.Dec.{eqb};
+ghost use lib.ListN.{length, getD, replicate};
+ghost use Rattle.theory.specs.Part.{ModelShape};
+ghost use Rattle.theory.specs.Test.{allBelow};
+ghost use Rattle.elements.specs.Words.{codeIn, negatedCodeIn};
+ghost use Rattle.valuer_maps.specs.Code.{boundCode, startCode, slotOf, allNextCode, someNextCode, nextCode, Literals, Combined, NextMap};
+
+// Where a least fixpoint starts, the bottom's code, or a greatest one, the top's.
+pub fn start_of(w: &Codes, l: Lattice, least: bool) -> u64
+    ensures { λ r. ⌜ r ≡ startCode (now (w .entry)) l least ⌝ }
+{
+    if least {
+        return 0;
+    }
+    elements::code(w, l.top)
+}
+
+// The first n words are the same.
+pub fn same(n: usize, x: &[u64; 64], y: &[u64; 64]) -> bool
+    requires { ⌜ n ≤ 64 ⌝ }
+    ensures { λ r. ⌜ r ≡ allBelow n (λ q. eqb (getD (now (x .entry)) q 0) (getD (now (y .entry)) q 0)) ⌝ }
+{
+    for q in 0..n {
+        if x[q] != y[q] {
+            return false;
+        }
+    }
+    true
+}
+
+// ---- the maps of nodes
+
+// The same value at all states. This and the next two answer the place after their node, which they are given.
+pub fn constant(x: u64, next: usize, out: &mut [u64; 64]) -> usize
+    ensures { λ r. ⌜ (r ≡ next) × (now (out .exit) ≡ replicate 64 x) ⌝ }
+{
+    *out = [x; 64];
+    next
+}
+
+// The map of variable v: the nearest binder's, or one or two binders further out.
+pub fn variable(
+    near: &[u64; 64],
+    mid: &[u64; 64],
+    far: &[u64; 64],
+    v: u8,
+    next: usize,
+    out: &mut [u64; 64],
+) -> usize
+    ensures { λ r. ⌜ (r ≡ next) × (now (out .exit) ≡ slotOf (now (near .entry)) (now (mid .entry)) (now (far .entry)) v) ⌝ }
+{
+    if v == 0 {
+        *out = *near;
+        return next;
+    }
+    if v == 1 {
+        *out = *mid;
+        return next;
+    }
+    *out = *far;
+    next
+}
+
+// A proposition, negated or not.
+pub fn literals(
+    w: &Codes,
+    m: &[u8],
+    negated: bool,
+    p: Proposition,
+    next: usize,
+    out: &mut [u64; 64],
+) -> usize
+    requires { ⌜ ModelShape (now m) × (p .0 < getD (now m) 1 0) ⌝ }
+    ensures { λ r. ⌜ (r ≡ next) × Literals (now (w .entry)) (now (m .entry)) negated (p .0) (now (out .exit)) ⌝ }
+{
+    let n = model::states(m);
+    *out = [0u64; 64];
+    for q in 0..n {
+        let e = model::label(m, State(q as u8), p);
+        out[q] = elements::value_code(w, negated, e);
+    }
+    next
+}
+
+// The | of two codes where `up`, else their &.
+fn bound(up: bool, x: u64, y: u64) -> u64
+    ensures { λ r. ⌜ r ≡ boundCode up x y ⌝ }
+{
+    if up {
+        return x | y;
+    }
+    x & y
+}
+
+// The joins (up) or the meets of two maps, the first of which is in `out`.
+pub fn combined(up: bool, n: usize, y: &[u64; 64], out: &mut [u64])
+    requires { ⌜ (n ≤ 64) × (length (now out) ≡ 64) ⌝ }
+    ensures { λ _. ⌜ Combined up (now (out .entry)) (now (y .entry)) n (now (out .exit)) ⌝ }
+{
+    for q in 0..n {
+        out[q] = bound(up, out[q], y[q]);
+    }
+}
+
+// ---- AX and EX
+
+// What a transition of value r to a state whose value has the code x gives to AX: not-r | x, the code of r → x.
+pub fn all_step(w: &Codes, r: Element, x: u64) -> u64
+    ensures { λ y. ⌜ y ≡ bitOr (negatedCodeIn (now (w .entry)) (r .0)) x ⌝ }
+{
+    elements::negated_code(w, r) | x
+}
+
+// What it gives to EX: r & x.
+fn some_step(w: &Codes, r: Element, x: u64) -> u64
+    ensures { λ y. ⌜ y ≡ bitAnd (codeIn (now (w .entry)) (r .0)) x ⌝ }
+{
+    elements::code(w, r) & x
+}
+
+// AX of a map at q; `top` is the code of the top.
+fn all_next(w: &Codes, top: u64, m: &[u8], x: &[u64; 64], q: State) -> u64
+    requires { ⌜ ModelShape (now m) × (q .0 < getD (now m) 0 0) ⌝ }
+    ensures { λ r. ⌜ r ≡ allNextCode (now (w .entry)) top (now (m .entry)) (now (x .entry)) (q .0) ⌝ }
+{
+    let n = model::states(m);
+    let mut y = top;
+    for r in 0..n {
+        let e = model::transition(m, q, State(r as u8));
+        y = y & all_step(w, e, x[r]);
+    }
+    y
+}
+
+// EX of a map at q.
+fn some_next(w: &Codes, m: &[u8], x: &[u64; 64], q: State) -> u64
+    requires { ⌜ ModelShape (now m) × (q .0 < getD (now m) 0 0) ⌝ }
+    ensures { λ r. ⌜ r ≡ someNextCode (now (w .entry)) (now (m .entry)) (now (x .entry)) (q .0) ⌝ }
+{
+    let n = model::states(m);
+    let mut y: u64 = 0;
+    for r in 0..n {
+        let e = model::transition(m, q, State(r as u8));
+        y = y | some_step(w, e, x[r]);
+    }
+    y
+}
+
+// The one (all) or the other.
+fn next_at(w: &Codes, top: u64, m: &[u8], all: bool, x: &[u64; 64], q: State) -> u64
+    requires { ⌜ ModelShape (now m) × (q .0 < getD (now m) 0 0) ⌝ }
+    ensures { λ r. ⌜ r ≡ nextCode (now (w .entry)) top (now (m .entry)) all (now (x .entry)) (q .0) ⌝ }
+{
+    if all {
+        return all_next(w, top, m, x, q);
+    }
+    some_next(w, m, x, q)
+}
+
+// AX (all) or EX of the map in `out`, which is copied to `x` first: an array here would be one more for each level of nesting.
+pub fn next_values(
+    w: &Codes,
+    l: Lattice,
+    m: &[u8],
+    all: bool,
+    x: &mut [u64; 64],
+    out: &mut [u64; 64],
+)
+    requires { ⌜ ModelShape (now m) ⌝ }
+    ensures { λ _. ⌜ NextMap (now (w .entry)) l (now (m .entry)) all (now (out .entry)) (now (out .exit)) ⌝ }
+{
+    let n = model::states(m);
+    let top = elements::code(w, l.top);
+    *x = *out;
+    *out = [0u64; 64];
+    for q in 0..n {
+        out[q] = next_at(w, top, m, all, x, State(q as u8));
+    }
+}
