@@ -129,13 +129,7 @@ fn rules_kept(s: Standing, z: Sizes, first: &[u8], second: &[u8]) -> bool
 }
 
 // The examination that every call but open makes: 11, 12, or what the store holds. The codes of the lattice of a held desk are left in w.
-pub fn examine(
-    s: Standing,
-    store: &[u8],
-    first: &[u8],
-    second: &[u8],
-    w: &mut Codes,
-) -> Examined
+pub fn examine(s: Standing, store: &[u8], first: &[u8], second: &[u8], w: &mut Codes) -> Examined
     ensures { λ r. ⌜ DeskExamined (deskOf s (now (store .entry)) (now (first .entry)) (now (second .entry))) r (now (w .exit)) ⌝ }
 {
     if too_short(store, first, second) {
