@@ -1,18 +1,19 @@
 // The calls that value a formula.
 use crate::ElementAnswer;
+use elements::Codes;
+use elements::Element;
+use elements::Lattice;
 use examination::Examined;
 use examination::Standing;
 use examination::examine;
 use model::State;
-use operations::Element;
-use operations::Lattice;
 use refusal::Refusal;
 ghost use mathlib.Core.Path.{_≡_};
 ghost use Prim.Native.Nat.{_+_, _<_};
 ghost use lib.Dec.{ltb};
 ghost use lib.ListN.{getD};
 ghost use Rattle.casefile.specs.Directory.{partAt};
-ghost use Rattle.valuer.specs.Values.{ValueAt, WholeValue};
+ghost use Rattle.valuer.specs.Values.{ModelOver, ValueAt, WholeValue};
 ghost use Rattle.desk.specs.Desk.{Question};
 ghost use Rattle.desk.specs.CaseParts.{Valuable};
 ghost use Rattle.asking.specs.Answer.{Asks, elementReply};
@@ -31,21 +32,21 @@ fn in_range(f: u8, m: u8, formulas: u8) -> bool
     m == 2
 }
 
-fn whole_of(t: &[u8; 12352], l: Lattice, bytes: &[u8], f: u8, m: u8) -> Element
-    requires { ⌜ Valuable (now bytes) f m ⌝ }
-    ensures { λ r. ⌜ WholeValue (now (t .entry)) l (partAt (now (bytes .entry)) m) (partAt (now (bytes .entry)) (3 + f)) (r .0) ⌝ }
+fn whole_of(w: &Codes, l: Lattice, bytes: &[u8], f: u8, m: u8) -> Element
+    requires { ⌜ ModelOver (now w) l (partAt (now bytes) m) × Valuable (now bytes) f m ⌝ }
+    ensures { λ r. ⌜ WholeValue (now (w .entry)) l (partAt (now (bytes .entry)) m) (partAt (now (bytes .entry)) (3 + f)) (r .0) ⌝ }
 {
     let model = casefile::part(bytes, m);
     let formula = casefile::part(bytes, 3 + f);
-    valuer::whole(t, l, model, formula)
+    valuer::whole(w, l, model, formula)
 }
 
 // A formula's value on model 1 or 2.
 pub fn whole(s: Standing, store: &[u8], first: &[u8], second: &[u8], f: u8, m: u8) -> ElementAnswer
     ensures { λ r. ⌜ Asks (Question.Whole f m) s (now (store .entry)) (now (first .entry)) (now (second .entry)) (elementReply r) ⌝ }
 {
-    let mut t = [0u8; 12352];
-    match examine(s, store, first, second, &mut t) {
+    let mut w = [0u64; 128];
+    match examine(s, store, first, second, &mut w) {
         Examined::Refused(x) => ElementAnswer::Refused(x),
         Examined::Held(z) => {
             let l = z.lattice;
@@ -53,7 +54,7 @@ pub fn whole(s: Standing, store: &[u8], first: &[u8], second: &[u8], f: u8, m: u
                 return ElementAnswer::Refused(Refusal::OutOfRange);
             }
             let bytes = &store[..24576];
-            ElementAnswer::Is(whole_of(&t, l, bytes, f, m))
+            ElementAnswer::Is(whole_of(&w, l, bytes, f, m))
         }
     }
 }
@@ -67,13 +68,13 @@ fn has_state(bytes: &[u8], f: u8, m: u8, q: State) -> bool
     q.0 < model[0]
 }
 
-fn value_of(t: &[u8; 12352], l: Lattice, bytes: &[u8], f: u8, m: u8, q: State) -> Element
-    requires { ⌜ Valuable (now bytes) f m × (q .0 < getD (partAt (now bytes) m) 0 0) ⌝ }
-    ensures { λ r. ⌜ ValueAt (now (t .entry)) l (partAt (now (bytes .entry)) m) (partAt (now (bytes .entry)) (3 + f)) (q .0) (r .0) ⌝ }
+fn value_of(w: &Codes, l: Lattice, bytes: &[u8], f: u8, m: u8, q: State) -> Element
+    requires { ⌜ ModelOver (now w) l (partAt (now bytes) m) × Valuable (now bytes) f m × (q .0 < getD (partAt (now bytes) m) 0 0) ⌝ }
+    ensures { λ r. ⌜ ValueAt (now (w .entry)) l (partAt (now (bytes .entry)) m) (partAt (now (bytes .entry)) (3 + f)) (q .0) (r .0) ⌝ }
 {
     let model = casefile::part(bytes, m);
     let formula = casefile::part(bytes, 3 + f);
-    valuer::value(t, l, model, formula, q)
+    valuer::value(w, l, model, formula, q)
 }
 
 // A formula's element at a state of model 1 or 2.
@@ -88,8 +89,8 @@ pub fn value(
 ) -> ElementAnswer
     ensures { λ r. ⌜ Asks (Question.Value f m (q .0)) s (now (store .entry)) (now (first .entry)) (now (second .entry)) (elementReply r) ⌝ }
 {
-    let mut t = [0u8; 12352];
-    match examine(s, store, first, second, &mut t) {
+    let mut w = [0u64; 128];
+    match examine(s, store, first, second, &mut w) {
         Examined::Refused(x) => ElementAnswer::Refused(x),
         Examined::Held(z) => {
             let l = z.lattice;
@@ -100,7 +101,7 @@ pub fn value(
             if !has_state(bytes, f, m, q) {
                 return ElementAnswer::Refused(Refusal::OutOfRange);
             }
-            ElementAnswer::Is(value_of(&t, l, bytes, f, m, q))
+            ElementAnswer::Is(value_of(&w, l, bytes, f, m, q))
         }
     }
 }

@@ -4,9 +4,9 @@
 mod formulas;
 mod tables;
 
+use elements::Element;
 pub use formulas::value;
 pub use formulas::whole;
-use operations::Element;
 use refusal::Refusal;
 pub use tables::judge;
 pub use tables::score;

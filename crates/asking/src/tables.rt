@@ -2,12 +2,13 @@
 use crate::ElementAnswer;
 use crate::JudgeAnswer;
 use crate::ShareAnswer;
+use elements::Codes;
+use elements::Element;
+use elements::Lattice;
 use examination::Examined;
 use examination::Standing;
 use examination::examine;
 use examination::table_size;
-use operations::Element;
-use operations::Lattice;
 use refusal::Refusal;
 ghost use mathlib.Core.Path.{_≡_};
 ghost use mathlib.Core.Bool.{cond};
@@ -32,8 +33,8 @@ pub fn show<'a>(s: Standing, store: &[u8], first: &'a [u8], second: &'a [u8]) ->
     ensures { λ r. ⌜ Reads Call.Show s (now (store .entry)) (now (first .entry)) (now (second .entry)) (Reply.Shown (now r)) ⌝ }
 {
     let whole = whole_table(s.second_whole, first, second);
-    let mut t = [0u8; 12352];
-    match examine(s, store, first, second, &mut t) {
+    let mut w = [0u64; 128];
+    match examine(s, store, first, second, &mut w) {
         Examined::Refused(_) => &whole[..0],
         Examined::Held(z) => {
             let n = table_size(z);
@@ -44,27 +45,27 @@ pub fn show<'a>(s: Standing, store: &[u8], first: &'a [u8], second: &'a [u8]) ->
 
 // ---- score, share, judge
 
-fn score_of(t: &[u8; 12352], l: Lattice, bytes: &[u8], whole: &[u8]) -> Element
-    requires { ⌜ Readable (now bytes) (now whole) ⌝ }
-    ensures { λ r. ⌜ r .0 ≡ caseScore (now (t .entry)) l (now (bytes .entry)) (now (whole .entry)) ⌝ }
+fn score_of(w: &Codes, l: Lattice, bytes: &[u8], whole: &[u8]) -> Element
+    requires { ⌜ Readable (now w) l (now bytes) (now whole) ⌝ }
+    ensures { λ r. ⌜ r .0 ≡ caseScore (now (w .entry)) l (now (bytes .entry)) (now (whole .entry)) ⌝ }
 {
     let m1 = casefile::part(bytes, 1);
     let m2 = casefile::part(bytes, 2);
-    rounds::score(t, l, m1, m2, whole)
+    rounds::score(w, l, m1, m2, whole)
 }
 
 // The score of the shown table.
 pub fn score<'a>(s: Standing, store: &[u8], first: &'a [u8], second: &'a [u8]) -> ElementAnswer
     ensures { λ r. ⌜ Asks Question.Score s (now (store .entry)) (now (first .entry)) (now (second .entry)) (elementReply r) ⌝ }
 {
-    let mut t = [0u8; 12352];
-    match examine(s, store, first, second, &mut t) {
+    let mut w = [0u64; 128];
+    match examine(s, store, first, second, &mut w) {
         Examined::Refused(f) => ElementAnswer::Refused(f),
         Examined::Held(z) => {
             let l = z.lattice;
             let bytes = &store[..24576];
             let whole = whole_table(s.second_whole, first, second);
-            ElementAnswer::Is(score_of(&t, l, bytes, whole))
+            ElementAnswer::Is(score_of(&w, l, bytes, whole))
         }
     }
 }
@@ -79,8 +80,8 @@ pub fn share<'a>(
 ) -> ShareAnswer
     ensures { λ r. ⌜ Asks (Question.Share (e .0)) s (now (store .entry)) (now (first .entry)) (now (second .entry)) (shareReply r) ⌝ }
 {
-    let mut t = [0u8; 12352];
-    match examine(s, store, first, second, &mut t) {
+    let mut w = [0u64; 128];
+    match examine(s, store, first, second, &mut w) {
         Examined::Refused(f) => ShareAnswer::Refused(f),
         Examined::Held(z) => {
             let l = z.lattice;
@@ -89,26 +90,26 @@ pub fn share<'a>(
             }
             let n = table_size(z);
             let whole = whole_table(s.second_whole, first, second);
-            ShareAnswer::PerCent(rounds::share(&t, e, whole, n))
+            ShareAnswer::PerCent(rounds::share(&w, e, whole, n))
         }
     }
 }
 
-fn simulation_of(t: &[u8; 12352], l: Lattice, bytes: &[u8], table: &[u8]) -> bool
-    requires { ⌜ Readable (now bytes) (now table) ⌝ }
-    ensures { λ r. ⌜ r ≡ caseSimulation (now (t .entry)) l (now (bytes .entry)) (now (table .entry)) ⌝ }
+fn simulation_of(w: &Codes, l: Lattice, bytes: &[u8], table: &[u8]) -> bool
+    requires { ⌜ Readable (now w) l (now bytes) (now table) ⌝ }
+    ensures { λ r. ⌜ r ≡ caseSimulation (now (w .entry)) l (now (bytes .entry)) (now (table .entry)) ⌝ }
 {
     let m1 = casefile::part(bytes, 1);
     let m2 = casefile::part(bytes, 2);
-    rowcodes::is_simulation(t, l, m1, m2, table)
+    rounds::is_simulation(w, l, m1, m2, table)
 }
 
 // Whether a table is a simulation.
 pub fn judge(s: Standing, store: &[u8], first: &[u8], second: &[u8], table: &[u8]) -> JudgeAnswer
     ensures { λ r. ⌜ Asks (Question.Judge (now (table .entry))) s (now (store .entry)) (now (first .entry)) (now (second .entry)) (judgeReply r) ⌝ }
 {
-    let mut t = [0u8; 12352];
-    match examine(s, store, first, second, &mut t) {
+    let mut w = [0u64; 128];
+    match examine(s, store, first, second, &mut w) {
         Examined::Refused(f) => JudgeAnswer::Refused(f),
         Examined::Held(z) => {
             let l = z.lattice;
@@ -116,11 +117,11 @@ pub fn judge(s: Standing, store: &[u8], first: &[u8], second: &[u8], table: &[u8
             if table.len() != n {
                 return JudgeAnswer::Refused(Refusal::OutOfRange);
             }
-            if !operations::below(table, 0, n, l.size) {
+            if !elements::below(table, 0, n, l.size) {
                 return JudgeAnswer::Refused(Refusal::OutOfRange);
             }
             let bytes = &store[..24576];
-            JudgeAnswer::Says(simulation_of(&t, l, bytes, table))
+            JudgeAnswer::Says(simulation_of(&w, l, bytes, table))
         }
     }
 }

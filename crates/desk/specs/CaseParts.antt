@@ -1,7 +1,7 @@
 -- Formula f and model m of an accepted case, as parts of its bytes: for the proofs of the code that values them. Rests on Case, Refused and
 -- casefile's Caller.
 --   Valuable: what valuing formula f on model m asks of a case; parts-valuable: an accepted case fulfils it
---   ModelPart, model-part: part m of an accepted case is model m of its content; formula-part: part 3 + f is read as formula f
+--   ModelPart, model-part: part m of an accepted case is model m of its content; model-valued: its values are elements; formula-part: part 3 + f is read as formula f
 use Prim.Native.Nat.{ℕ, _+_, _≤_, _<_}
 use mathlib.Core.Path.{_≡_, refl, sym, ap}
 use mathlib.Core.Bool.{Bool, true, false, _||_}
@@ -11,7 +11,9 @@ use borrow.Author.Tests.{eqb-true}
 use lib.Dec.{eqb}
 use lib.ListN.{length, getD}
 use Rattle.theory.specs.Formula.{Formula}
-use Rattle.theory.specs.Part.{modelOf, ModelShape}
+use Rattle.theory.specs.Model.{Valued}
+use Rattle.theory.specs.Part.{opsOf, modelOf, ModelShape}
+use Rattle.elements.specs.Words.{opsIn}
 use Rattle.formula.specs.Bytes.{read, formulaReading}
 use Rattle.casefile.specs.declared.Sizes.{Sizes}
 use Rattle.casefile.specs.Directory.{partCount, partAt}
@@ -33,17 +35,21 @@ pub record Valuable (b : List ℕ) (f m : ℕ) : Type 0 where
 -- part m of the case b is model m of its content c
 pub record ModelPart (b : List ℕ) (c : Content) (m : ℕ) : Type 0 where
   pub shape : ModelShape (partAt b m)
+  pub valued : Valued (opsOf (c .lattice)) (modelOf (partAt b m))
   pub is : modelOf (partAt b m) ≡ modelIn c m
   pub propositions : getD (partAt b m) 1 0 ≡ getD (c .model1Bytes) 1 0
   pub low : m < 3
 
-module _ {b : List ℕ} {z : Sizes} {t : List ℕ} (a : AcceptedCase b z t) where
+module _ {b : List ℕ} {z : Sizes} {w : List ℕ} (a : AcceptedCase b z w) where
   pub model-part : (m : ℕ) → isModel m ≡ true → ModelPart b (a .holds) m
   model-part m r = go (eqb m 1) refl r
     where
       go : (x : Bool) → eqb m 1 ≡ x → (x || eqb m 2) ≡ true → ModelPart b (a .holds) m
-      go true e r = let q : m ≡ 1 = eqb-true m 1 e in rw q (record { shape = rw (a .parts .model1) (a .sound .shape1); is = ap modelOf (a .parts .model1); propositions = rw (a .parts .model1); low = omega arith })
-      go false e r = let q : m ≡ 2 = eqb-true m 2 r in rw q (record { shape = rw (a .parts .model2) (a .sound .shape2); is = ap modelOf (a .parts .model2); propositions = rw (a .parts .model2) (sym (a .sound .same-propositions)); low = omega arith })
+      go true e r = let q : m ≡ 1 = eqb-true m 1 e in rw q (record { shape = rw (a .parts .model1) (a .sound .shape1); valued = rw (a .parts .model1) (a .sound .valued1); is = ap modelOf (a .parts .model1); propositions = rw (a .parts .model1); low = omega arith })
+      go false e r = let q : m ≡ 2 = eqb-true m 2 r in rw q (record { shape = rw (a .parts .model2) (a .sound .shape2); valued = rw (a .parts .model2) (a .sound .valued2); is = ap modelOf (a .parts .model2); propositions = rw (a .parts .model2) (sym (a .sound .same-propositions)); low = omega arith })
+
+  pub model-valued : (m : ℕ) → isModel m ≡ true → Valued (opsIn w (z .lattice)) (modelOf (partAt b m))
+  model-valued m r = rw (a .ops) (model-part m r .valued)
 
   module _ (f m : ℕ) (formula : f < z .formulas) (model : isModel m ≡ true) where
     formula-below : f < length (a .holds .formulas)
@@ -54,12 +60,12 @@ module _ {b : List ℕ} {z : Sizes} {t : List ℕ} (a : AcceptedCase b z t) wher
 
     pub parts-valuable : Valuable b f m
     parts-valuable =
-        let w = model-part m model in
+        let p = model-part m model in
         record {
           placed = a .placed;
-          model-below = omega (arith, w .low, a .parts .least);
+          model-below = omega (arith, p .low, a .parts .least);
           formula-in = omega (arith, formula-below, a .parts .count);
           few = a .placed .directory .count-most;
-          shape = w .shape;
+          shape = p .shape;
           reads = (formulaIn (a .holds) f, formula-part);
         }

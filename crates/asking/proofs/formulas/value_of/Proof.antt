@@ -4,7 +4,7 @@ use Rattle.asking.proofs.formulas.value_of.Statement.{statement}
 use Rattle.asking.proofs.formulas.value_of.Tie as tie
 
 value-requires : tie.Need-value-requires
-value-requires c κs = rw (c .before .part .ensures, c .part2 .ensures) (c .before .before .before .pre .0 .shape, c .before .before .before .pre .0 .reads, c .before .before .before .pre .1)
+value-requires c κs = rw (c .before .part .ensures, c .part2 .ensures) (c .before .before .before .pre .0, c .before .before .before .pre .1 .reads, c .before .before .before .pre .2)
 
 returns : tie.Need-returns
 returns c = rw (c .before .before .part .ensures, c .before .part2 .ensures) at (c .value .ensures)

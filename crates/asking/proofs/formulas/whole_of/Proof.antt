@@ -4,7 +4,7 @@ use Rattle.asking.proofs.formulas.whole_of.Statement.{statement}
 use Rattle.asking.proofs.formulas.whole_of.Tie as tie
 
 whole-requires : tie.Need-whole-requires
-whole-requires c κs = rw (c .before .part .ensures, c .part2 .ensures) (c .before .before .before .pre .shape, c .before .before .before .pre .reads)
+whole-requires c κs = rw (c .before .part .ensures, c .part2 .ensures) (c .before .before .before .pre .0, c .before .before .before .pre .1 .reads)
 
 returns : tie.Need-returns
 returns c = rw (c .before .before .part .ensures, c .before .part2 .ensures) at (c .whole .ensures)

@@ -4,7 +4,7 @@ use Rattle.asking.proofs.tables.score_of.Statement.{statement}
 use Rattle.asking.proofs.tables.score_of.Tie as tie
 
 score-requires : tie.Need-score-requires
-score-requires c κs = rw (c .before .part .ensures, c .part2 .ensures) (c .before .before .before .before .pre .shaped)
+score-requires c κs = rw (c .before .part .ensures, c .part2 .ensures) (c .before .before .before .before .pre .coded, c .before .before .before .before .pre .shaped)
 
 returns : tie.Need-returns
 returns c = rw (c .before .before .part .ensures, c .before .part2 .ensures) at (c .score .ensures)
