@@ -21,8 +21,8 @@ use Rattle.theory.specs.Fixpoint.{chain-size}
 use Rattle.theory.specs.Rounds.{F-mono, F-element, exists-T, T-unique}
 use Rattle.theory.specs.Sharp.{T-sharp}
 use Rattle.theory.specs.TestLaws.{false-true}
-use Rattle.operations.specs.declared.Lattice.{Lattice}
-use Rattle.operations.specs.Table.{opsIn}
+use Rattle.elements.specs.declared.Lattice.{Lattice}
+use Rattle.elements.specs.Words.{opsIn, Coded}
 use Rattle.model.specs.Places.{prod-le}
 use Rattle.rounds.specs.Table.{tableOf, Shaped}
 use Rattle.rounds.specs.Round.{F-reads, top-round, RoundSoFar, RoundDone, round-done}
@@ -31,11 +31,12 @@ use Rattle.listing.specs.Entries.{table-cong}
 use Rattle.listing.specs.Writing.{Wrote}
 
 -- two model parts with a lattice, a table s for their states that holds round 0, and room in another
-pub record Startable (t : List ℕ) (l : Lattice) (m₁ m₂ s other : List ℕ) : Type 0 where
+pub record Startable (w : List ℕ) (l : Lattice) (m₁ m₂ s other : List ℕ) : Type 0 where
+  pub coded : Coded w l
   pub shaped : Shaped m₁ m₂ s
   pub room : getD m₁ 0 0 * getD m₂ 0 0 ≤ length other
-  pub laws : Laws (opsIn t l)
-  pub start : SameTable (opsIn t l) (modelOf m₁) (modelOf m₂) (tableOf s (getD m₂ 0 0)) (round (opsIn t l) (modelOf m₁) (modelOf m₂) 0)
+  pub laws : Laws (opsIn w l)
+  pub start : SameTable (opsIn w l) (modelOf m₁) (modelOf m₂) (tableOf s (getD m₂ 0 0)) (round (opsIn w l) (modelOf m₁) (modelOf m₂) 0)
 
 module _ (O : Ops ℕ) (M₁ M₂ : Model ℕ) (s : List ℕ) where
   -- s holds round r, and every round up to r differs from the one before
@@ -102,15 +103,16 @@ module _ {O : Ops ℕ} {M₁ M₂ : Model ℕ} {s : List ℕ} {r : ℕ} where
     settled-read e = rw add-one (record { isT = first-unchanged e; holds = λ q₁ l q₂ m. h .holds q₁ l q₂ m ∙ sym (done .unchanged .0 e q₁ l q₂ m) })
 
 -- two tables of 4,096 bytes, all top
-pub tops-start : (t : List ℕ) (l : Lattice) (m₁ m₂ : List ℕ) → ModelShape m₁ → ModelShape m₂ → getD m₁ 1 0 ≡ getD m₂ 1 0 → Laws (opsIn t l) → Startable t l m₁ m₂ (replicate 4096 (l .top .0)) (replicate 4096 (l .top .0))
-tops-start t l m₁ m₂ a b k L =
+pub tops-start : (w : List ℕ) (l : Lattice) (m₁ m₂ : List ℕ) → Coded w l → ModelShape m₁ → ModelShape m₂ → getD m₁ 1 0 ≡ getD m₂ 1 0 → Laws (opsIn w l) → Startable w l m₁ m₂ (replicate 4096 (l .top .0)) (replicate 4096 (l .top .0))
+tops-start w l m₁ m₂ o a b k L =
     let n = prod-le _ _ 64 64 (a .states-most) (b .states-most) in
     let f : getD m₁ 0 0 * getD m₂ 0 0 ≤ length (replicate 4096 (l .top .0)) = rw length-replicate n in
     record {
+      coded = o;
       shaped = record { first = a; second = b; same-propositions = k; held = f };
       room = f;
       laws = L;
-      start = top-start (opsIn t l) (modelOf m₁) (modelOf m₂) 4096 n;
+      start = top-start (opsIn w l) (modelOf m₁) (modelOf m₂) 4096 n;
     }
 
 -- the text of a settled table is that of round T
@@ -123,9 +125,9 @@ settled-text {O} {M₁} {M₂} {s} {r} h T f =
 
 -- the text of round r with the bytes of its table, for the model parts m₁ and m₂
 abbrev pub textOfTable : List ℕ → Lattice → List ℕ → List ℕ → ℕ → List ℕ → List ℕ
-textOfTable t l m₁ m₂ r table = tableText (opsIn t l) (modelOf m₁) (modelOf m₂) r (tableOf table (getD m₂ 0 0))
+textOfTable w l m₁ m₂ r table = tableText (opsIn w l) (modelOf m₁) (modelOf m₂) r (tableOf table (getD m₂ 0 0))
 
 -- for T, the first round that equals the one before, the text of round T is written at place 0: d before, e after, n the place after it
 abbrev pub WroteSettled : List ℕ → Lattice → List ℕ → List ℕ → List ℕ → List ℕ → ℕ → Type 0
-WroteSettled t l m₁ m₂ d e n =
-    (T : ℕ) → FirstUnchanged (opsIn t l) (modelOf m₁) (modelOf m₂) T → Wrote d 0 (tableText (opsIn t l) (modelOf m₁) (modelOf m₂) T (round (opsIn t l) (modelOf m₁) (modelOf m₂) T)) e n
+WroteSettled w l m₁ m₂ d e n =
+    (T : ℕ) → FirstUnchanged (opsIn w l) (modelOf m₁) (modelOf m₂) T → Wrote d 0 (tableText (opsIn w l) (modelOf m₁) (modelOf m₂) T (round (opsIn w l) (modelOf m₁) (modelOf m₂) T)) e n

@@ -72,7 +72,7 @@ pub fn put_entry(e: u8, text: &mut [u8], at: usize) -> usize
     requires { ⌜ at + length (item blank e) ≤ length (now text) ⌝ }
     ensures { λ r. ⌜ Wrote (now (text .entry)) at (item blank e) (now (text .exit)) r ⌝ }
 {
-    put_item(b" ", operations::index(e), text, at)
+    put_item(b" ", elements::index(e), text, at)
 }
 
 // The n entries from `from` on.

@@ -10,10 +10,10 @@ use Rattle.listing.proofs.put_formulas.Statement.{statement}
 use Rattle.listing.proofs.put_formulas.Tie as tie
 
 abbrev Inv-loop : tie.InvT-loop
-Inv-loop case t z text₀ at count next₀ f₀ text next f = (f ≤ z .formulas) × (count ≡ z .formulas) × ((c : Content) → caseReading case ≡ content c → Wrote text₀ at (each f (formulaLine c)) text next)
+Inv-loop case w z text₀ at count next₀ f₀ text next f = (f ≤ z .formulas) × (count ≡ z .formulas) × ((c : Content) → caseReading case ≡ content c → Wrote text₀ at (each f (formulaLine c)) text next)
 
 abbrev μ-loop : tie.MeasureT-loop
-μ-loop case t z text₀ at count next₀ f₀ text next f = z .formulas - f
+μ-loop case w z text₀ at count next₀ f₀ text next f = z .formulas - f
 
 loop-holds : tie.Need-loop-holds Inv-loop μ-loop
 loop-holds c =

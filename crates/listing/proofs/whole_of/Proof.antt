@@ -1,6 +1,6 @@
 -- `listing::whole_of` meets its contract: by that of `valuer::whole`.
 use native.Mathlib.Omega.{arith}
-use Rattle.listing.specs.Accepting.{valuable, whole-is}
+use Rattle.listing.specs.Accepting.{model-over, valuable, whole-is}
 use Rattle.listing.proofs.whole_of.Statement.{statement}
 use Rattle.listing.proofs.whole_of.Tie as tie
 
@@ -16,7 +16,7 @@ part-requires-2 c κs = let v = valuable (c .before .before .before .pre) in (v 
 whole-requires : tie.Need-whole-requires
 whole-requires c κs =
     let v = valuable (c .before .before .before .before .pre) in
-    rw (c .before .part .ensures, c .part2 .ensures) (v .shape, v .reads)
+    rw (c .before .part .ensures, c .part2 .ensures) (model-over (c .before .before .before .before .pre), v .reads)
 
 returns : tie.Need-returns
 returns c = whole-is (c .before .before .before .before .before .pre) _ (rw (c .before .before .part .ensures, c .before .part2 .ensures) at (c .whole .ensures))

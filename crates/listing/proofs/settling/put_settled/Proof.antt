@@ -9,12 +9,13 @@ use Rattle.listing.proofs.settling.put_settled.Tie as tie
 settle-requires : tie.Need-settle-requires
 settle-requires c κs =
     let s = c .before .before .before .before .before in
-    tops-start (s .args .t .now) (s .args .l) (s .args .m1 .now) (s .args .m2 .now) (s .pre .first) (s .pre .second) (s .pre .same-propositions) (s .pre .laws)
+    tops-start (s .args .w .now) (s .args .l) (s .args .m1 .now) (s .args .m2 .now) (s .pre .coded) (s .pre .first) (s .pre .second) (s .pre .same-propositions) (s .pre .laws)
 
 put-table-requires : tie.Need-put-table-requires
 put-table-requires c κs =
     let s = c .before .before .before .before .before .before .before .before .before .before in
     let w = c .before .before .before .before .settle in (
+      s .pre .coded,
       record {
         first = s .pre .first;
         second = s .pre .second;

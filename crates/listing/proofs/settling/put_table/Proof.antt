@@ -5,7 +5,7 @@ use native.Mathlib.Omega.{arith}
 use lib.ListN.{getD}
 use Rattle.theory.specs.Part.{modelOf}
 use Rattle.theory.specs.Simulation.{score}
-use Rattle.operations.specs.Table.{opsIn}
+use Rattle.elements.specs.Words.{opsIn}
 use Rattle.rounds.specs.Table.{tableOf}
 use Rattle.listing.specs.Text.{roundsWord, scoreWord, lastItem, rowsText, tableText}
 use Rattle.listing.specs.Writing.{wrote-then, fits-then, fits-first}
@@ -24,27 +24,27 @@ abbrev rows : tie.Start → List ℕ
 rows s = rowsText (entry s) (getD (s .args .m1 .now) 0 0) (getD (s .args .m2 .now) 0 0)
 
 abbrev mark : tie.Start → List ℕ
-mark s = lastItem scoreWord (score (opsIn (s .args .t .now) (s .args .l)) (modelOf (s .args .m1 .now)) (modelOf (s .args .m2 .now)) (entry s))
+mark s = lastItem scoreWord (score (opsIn (s .args .w .now) (s .args .l)) (modelOf (s .args .m1 .now)) (modelOf (s .args .m2 .now)) (entry s))
 
 put-last-requires : tie.Need-put-last-requires
 unfolding tableText
 put-last-requires c κs =
     let s = c .before .before .before .before .before .before .before .before .before .before in
-    fits-first (s .args .text .now) 0 (rounds s) (rows s) (fits-first (s .args .text .now) 0 (rounds s ++ rows s) (mark s) (s .pre .1))
+    fits-first (s .args .text .now) 0 (rounds s) (rows s) (fits-first (s .args .text .now) 0 (rounds s ++ rows s) (mark s) (s .pre .2))
 
 put-rows-requires : tie.Need-put-rows-requires
 unfolding tableText
 put-rows-requires c κs =
     let s = c .before .before .before .before .before .before .before .before .before .before .before .before .before .before in
     rw (c .before .before .before .before .before .before .before .before .before .states .ensures, c .before .before .before .before .before .before .before .before .states2 .ensures)
-    (s .pre .0 .held, fits-then (rows s) (fits-first (s .args .text .now) 0 (rounds s ++ rows s) (mark s) (s .pre .1)) (c .before .before .before .put-last .ensures))
+    (s .pre .1 .held, fits-then (rows s) (fits-first (s .args .text .now) 0 (rounds s ++ rows s) (mark s) (s .pre .2)) (c .before .before .before .put-last .ensures))
 
 put-last-requires-2 : tie.Need-put-last-requires-2
 unfolding tableText
 put-last-requires-2 c κs =
     let s = c .before .before .before .before .before .before .before .before .before .before .before .before .before .before .before .before .before .before .before in
     rw (c .before .before .before .before .before .before .before .before .before .before .before .index .ensures .0, c .before .before .before .before .before .before .before .before .before .before .before .before .score .ensures)
-    (fits-then (mark s) (s .pre .1) (wrote-then (rows s) (omega arith) (c .before .before .before .before .before .before .before .before .put-last .ensures) (rw (c .before .before .before .before .before .before .before .before .before .before .before .before .before .before .states .ensures, c .before .before .before .before .before .before .before .before .before .before .before .before .before .states2 .ensures) at (c .before .before .before .before .put-rows .ensures))))
+    (fits-then (mark s) (s .pre .2) (wrote-then (rows s) (omega arith) (c .before .before .before .before .before .before .before .before .put-last .ensures) (rw (c .before .before .before .before .before .before .before .before .before .before .before .before .before .before .states .ensures, c .before .before .before .before .before .before .before .before .before .before .before .before .before .states2 .ensures) at (c .before .before .before .before .put-rows .ensures))))
 
 returns : tie.Need-returns
 unfolding tableText

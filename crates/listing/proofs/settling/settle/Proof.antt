@@ -7,16 +7,16 @@ use Rattle.model.specs.Places.{prod-le}
 use native.Mathlib.Omega.{arith}
 use lib.ListN.{length}
 use Rattle.theory.specs.Part.{modelOf}
-use Rattle.operations.specs.Table.{opsIn}
+use Rattle.elements.specs.Words.{opsIn}
 use Rattle.listing.specs.Settling.{AtRound, at-start, rounds-few, next-round, settled-done, settled-read}
 use Rattle.listing.proofs.settling.settle.Statement.{statement}
 use Rattle.listing.proofs.settling.settle.Tie as tie
 
 abbrev Inv-loop : tie.InvT-loop
-Inv-loop t l m1 m2 first₀ second₀ r₀ first second r = AtRound (opsIn t l) (modelOf m1) (modelOf m2) first r × (length first ≡ length first₀) × (length second ≡ length second₀)
+Inv-loop w l m1 m2 first₀ second₀ r₀ first second r = AtRound (opsIn w l) (modelOf m1) (modelOf m2) first r × (length first ≡ length first₀) × (length second ≡ length second₀)
 
 abbrev μ-loop : tie.MeasureT-loop
-μ-loop t l m1 m2 first₀ second₀ r₀ first second r = 4098 - r
+μ-loop w l m1 m2 first₀ second₀ r₀ first second r = 4098 - r
 
 loop-holds : tie.Need-loop-holds Inv-loop μ-loop
 loop-holds c =
@@ -27,7 +27,7 @@ round-requires : tie.Need-round-requires Inv-loop μ-loop
 round-requires c κs =
     let p = c .before .before .before .before .before .before .before .pre in
     let l = c .before .before .loop in
-    (record { first = p .shaped .first; second = p .shaped .second; same-propositions = p .shaped .same-propositions; held = omega (arith, p .shaped .held) }, omega (arith, p .room))
+    (p .coded, record { first = p .shaped .first; second = p .shaped .second; same-propositions = p .shaped .same-propositions; held = omega (arith, p .shaped .held) }, omega (arith, p .room))
 
 -- the number of rounds is small
 few : (c : tie.At-loop Inv-loop μ-loop) → c .loop .r ≤ 4096
@@ -36,7 +36,7 @@ few c =
     omega (arith, rounds-few (p .laws) (c .loop .inv .0), prod-le _ _ 64 64 (p .shaped .first .states-most) (p .shaped .second .states-most))
 
 -- after a round that changed something the second table holds the next round
-next-held : (c : tie.Else1 Inv-loop μ-loop) → AtRound (opsIn (c .before .before .before .before .before .before .before .before .before .before .before .args .t .now) (c .before .before .before .before .before .before .before .before .before .before .before .args .l)) (modelOf (c .before .before .before .before .before .before .before .before .before .before .before .args .m1 .now)) (modelOf (c .before .before .before .before .before .before .before .before .before .before .before .args .m2 .now)) (c .before .before .before .round .last .1 .1 .1 .1 .1 .0) (c .before .before .before .before .before .before .loop .r + 1)
+next-held : (c : tie.Else1 Inv-loop μ-loop) → AtRound (opsIn (c .before .before .before .before .before .before .before .before .before .before .before .args .w .now) (c .before .before .before .before .before .before .before .before .before .before .before .args .l)) (modelOf (c .before .before .before .before .before .before .before .before .before .before .before .args .m1 .now)) (modelOf (c .before .before .before .before .before .before .before .before .before .before .before .args .m2 .now)) (c .before .before .before .round .last .1 .1 .1 .1 .1 .0) (c .before .before .before .before .before .before .loop .r + 1)
 next-held c = next-round (c .before .before .before .before .before .before .loop .inv .0) (c .before .before .before .round .ensures) (not-false _ (c .if1 .left))
 
 add-result : tie.Need-add-result Inv-loop μ-loop
@@ -56,7 +56,7 @@ round-requires-2 c κs =
     let p = c .before .before .before .before .before .before .before .before .before .before .before .before .before .pre in
     let l = c .before .before .before .before .before .before .before .before .loop in
     let k = c .before .before .before .before .before .round .ensures .worked .same-length in
-    (record { first = p .shaped .first; second = p .shaped .second; same-propositions = p .shaped .same-propositions; held = omega (arith, p .room, k, l .inv .2) }, omega (arith, p .shaped .held, l .inv .1))
+    (p .coded, record { first = p .shaped .first; second = p .shaped .second; same-propositions = p .shaped .same-propositions; held = omega (arith, p .room, k, l .inv .2) }, omega (arith, p .shaped .held, l .inv .1))
 
 add-result-2 : tie.Need-add-result-2 Inv-loop μ-loop
 add-result-2 c = omega (arith, few (c .before .before .before .before .before .before .before .before .before .before .before .before))
