@@ -1,14 +1,14 @@
 // The calls by value on the worked examples of document 01. Each line of the input is a call: its word, and the bytes that it takes, in
 // hexadecimal. The table is shown after each step. A line that begins with # is printed as it is.
-use calls::ElementAnswer;
-use calls::JudgeAnswer;
-use calls::OpenAnswer;
-use calls::ShareAnswer;
-use calls::Standing;
-use calls::StepAnswer;
+use asking::ElementAnswer;
+use asking::JudgeAnswer;
+use asking::ShareAnswer;
+use elements::Element;
+use examination::Standing;
 use libc::STDIN_FILENO;
 use model::State;
-use operations::Element;
+use moving::OpenAnswer;
+use moving::StepAnswer;
 use printing::at;
 use printing::say;
 ghost use Rattle.io.specs.Counts.{Counts};
@@ -60,7 +60,7 @@ fn open(
     first: &mut [u8],
     second: &mut [u8],
 ) -> Standing {
-    let o = calls::open(s, case, store, first, second);
+    let o = moving::open(s, case, store, first, second);
     let a = o.answer;
     match a {
         OpenAnswer::Refused(r) => printing::refused(r),
@@ -71,11 +71,11 @@ fn open(
 
 fn show<'a>(s: Standing, store: &[u8], first: &'a [u8], second: &'a [u8]) {
     say(b", shown");
-    printing::bytes(calls::show(s, store, first, second));
+    printing::bytes(asking::show(s, store, first, second));
 }
 
 fn step(s: Standing, store: &[u8], first: &mut [u8], second: &mut [u8]) -> Standing {
-    let o = calls::step(s, store, first, second);
+    let o = moving::step(s, store, first, second);
     let a = o.answer;
     say_step(a);
     show(o.standing, store, first, second);
@@ -84,7 +84,7 @@ fn step(s: Standing, store: &[u8], first: &mut [u8], second: &mut [u8]) -> Stand
 
 // The value of formula f at state q of model m.
 fn value(s: Standing, f: u8, m: u8, q: u8, store: &[u8], first: &[u8], second: &[u8]) {
-    say_element(calls::value(s, store, first, second, f, m, State(q)));
+    say_element(asking::value(s, store, first, second, f, m, State(q)));
 }
 
 // The calls that only read, by the word's letter.
@@ -92,10 +92,10 @@ fn ask<'a>(s: Standing, letter: u8, bytes: &[u8], store: &[u8], first: &'a [u8],
     let a = at(bytes, 0);
     let b = at(bytes, 1);
     match letter {
-        b'c' => say_element(calls::score(s, store, first, second)),
-        b'h' => say_share(calls::share(s, store, first, second, Element(a))),
-        b'j' => say_judge(calls::judge(s, store, first, second, bytes)),
-        b'w' => say_element(calls::whole(s, store, first, second, a, b)),
+        b'c' => say_element(asking::score(s, store, first, second)),
+        b'h' => say_share(asking::share(s, store, first, second, Element(a))),
+        b'j' => say_judge(asking::judge(s, store, first, second, bytes)),
+        b'w' => say_element(asking::whole(s, store, first, second, a, b)),
         b'v' => value(s, a, b, at(bytes, 2), store, first, second),
         _ => {}
     }

@@ -5,8 +5,8 @@ use libc::STDIN_FILENO;
 use printing::say;
 
 fn show(case: &[u8]) {
-    let mut t = [0u8; 12352];
-    let answer = casefile::check(case, &mut t);
+    let mut w = [0u64; 128];
+    let answer = casefile::check(case, &mut w);
     match answer {
         CaseCheck::Accepted(_) => say(b" accepted"),
         CaseCheck::Refused(r) => printing::refused(r),
@@ -15,8 +15,8 @@ fn show(case: &[u8]) {
 
 // Writes the gapless form of an accepted case into a store, and shows how many bytes and formulas it has.
 fn keep(bytes: &[u8], store: &mut [u8; 24576]) {
-    let mut t = [0u8; 12352];
-    let answer = casefile::check(bytes, &mut t);
+    let mut w = [0u64; 128];
+    let answer = casefile::check(bytes, &mut w);
     match answer {
         CaseCheck::Accepted(held) => {
             let n = casefile::write(bytes, store);

@@ -17,10 +17,9 @@ use Rattle.refusal.specs.declared.Refusal.{Refusal}
 use Rattle.casefile.specs.declared.Sizes.{Sizes}
 use Rattle.casefile.specs.Answer.{sizesOf}
 use Rattle.examination.specs.declared.Examined.the-variants.{Refused, Held}
-use Rattle.examination.specs.Answer.{examinedAnswer}
+use Rattle.examination.specs.Answer.{examinedAnswer, Does}
 use Rattle.casefile.specs.Reading.{Content, CaseReading, refused, content}
 use Rattle.casefile.specs.Content.{ContentSound, content-sound}
-use Rattle.calls.specs.Answer.{Does}
 use Rattle.desk.specs.Desk.{Desk, Call, Reply, wholeTable}
 use Rattle.desk.specs.Case.{tableSize}
 use Rattle.desk.specs.Refused.{examined, accepted}

@@ -1,7 +1,7 @@
 // The rest of a round in one call.
 use crate::Moved;
 use crate::numbers::stepped;
-use calls::Standing;
+use examination::Standing;
 ghost use Rattle.examination.specs.Read.{deskOf};
 ghost use Rattle.exports.specs.Finished.{TellsFinished};
 
@@ -16,7 +16,7 @@ pub extern "C" fn koelchair_finish_round(
     ensures { λ r. ⌜ TellsFinished (deskOf s (now (store .entry)) (now (first .entry)) (now (second .entry)))
         (r .answer) (deskOf (r .standing) (now (store .entry)) (now (first .exit)) (now (second .exit))) ⌝ }
 {
-    let o = calls::finish_round(s, store, first, second);
+    let o = moving::finish_round(s, store, first, second);
     let next = o.standing;
     let a = o.answer;
     Moved {

@@ -1,7 +1,7 @@
 // What a desk holds.
 use crate::DeskSizes;
-use calls::Standing;
 use examination::Examined;
+use examination::Standing;
 ghost use mathlib.Core.Path.{_≡_};
 ghost use Rattle.desk.specs.Desk.{Call};
 ghost use Rattle.desk.specs.Refused.{examined};

@@ -1,14 +1,15 @@
 // The calls' answers as numbers.
 use crate::Answer;
-use calls::ElementAnswer;
-use calls::JudgeAnswer;
-use calls::OpenAnswer;
-use calls::ShareAnswer;
-use calls::StepAnswer;
+use asking::ElementAnswer;
+use asking::JudgeAnswer;
+use asking::ShareAnswer;
+use moving::OpenAnswer;
+use moving::StepAnswer;
 use refusal::Refusal;
 ghost use mathlib.Core.Path.{_≡_};
 ghost use Rattle.desk.specs.Refused.{numberReply};
-ghost use Rattle.calls.specs.Answer.{stepReply, openReply, elementReply, shareReply, judgeReply};
+ghost use Rattle.moving.specs.Answer.{stepReply, openReply};
+ghost use Rattle.asking.specs.Answer.{elementReply, shareReply, judgeReply};
 ghost use Rattle.exports.specs.Numbers.{given, numbers};
 
 pub fn refused(f: Refusal) -> Answer

@@ -4,9 +4,9 @@ use crate::Shown;
 use crate::numbers::element;
 use crate::numbers::judged;
 use crate::numbers::per_cent;
-use calls::Standing;
+use elements::Element;
+use examination::Standing;
 use model::State;
-use operations::Element;
 ghost use Rattle.desk.specs.Desk.{Question};
 ghost use Rattle.examination.specs.Read.{deskOf};
 ghost use Rattle.exports.specs.Numbers.{TellsAsked, Names};
@@ -21,7 +21,7 @@ pub extern "C" fn koelchair_show<'a>(
 ) -> Shown
     ensures { λ r. ⌜ Names (deskOf s (now (store .entry)) (now (first .entry)) (now (second .entry))) r ⌝ }
 {
-    let shown = calls::show(s, store, first, second);
+    let shown = asking::show(s, store, first, second);
     let n = shown.len();
     if n == 0 {
         return Shown {
@@ -54,7 +54,7 @@ pub extern "C" fn koelchair_value(
 ) -> Answer
     ensures { λ r. ⌜ TellsAsked (Question.Value formula model state) s (now (store .entry)) (now (first .entry)) (now (second .entry)) r ⌝ }
 {
-    element(calls::value(s, store, first, second, formula, model, State(state)))
+    element(asking::value(s, store, first, second, formula, model, State(state)))
 }
 
 // A formula's value on model 1 or 2.
@@ -69,7 +69,7 @@ pub extern "C" fn koelchair_whole(
 ) -> Answer
     ensures { λ r. ⌜ TellsAsked (Question.Whole formula model) s (now (store .entry)) (now (first .entry)) (now (second .entry)) r ⌝ }
 {
-    element(calls::whole(s, store, first, second, formula, model))
+    element(asking::whole(s, store, first, second, formula, model))
 }
 
 // The score of the shown table.
@@ -82,7 +82,7 @@ pub extern "C" fn koelchair_score<'a>(
 ) -> Answer
     ensures { λ r. ⌜ TellsAsked Question.Score s (now (store .entry)) (now (first .entry)) (now (second .entry)) r ⌝ }
 {
-    element(calls::score(s, store, first, second))
+    element(asking::score(s, store, first, second))
 }
 
 // The per cent of shown entries at or above an element.
@@ -96,7 +96,7 @@ pub extern "C" fn koelchair_share<'a>(
 ) -> Answer
     ensures { λ r. ⌜ TellsAsked (Question.Share e) s (now (store .entry)) (now (first .entry)) (now (second .entry)) r ⌝ }
 {
-    per_cent(calls::share(s, store, first, second, Element(e)))
+    per_cent(asking::share(s, store, first, second, Element(e)))
 }
 
 // Whether a table is a simulation.
@@ -110,5 +110,5 @@ pub extern "C" fn koelchair_judge(
 ) -> Answer
     ensures { λ r. ⌜ TellsAsked (Question.Judge (now (table .entry))) s (now (store .entry)) (now (first .entry)) (now (second .entry)) r ⌝ }
 {
-    judged(calls::judge(s, store, first, second, table))
+    judged(asking::judge(s, store, first, second, table))
 }

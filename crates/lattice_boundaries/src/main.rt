@@ -1,5 +1,4 @@
-// The boundary examples of lattice parts: each part's name with its refusal, or that it is accepted and its n. Each is checked by codes and by
-// search, and a line says so where the two differ.
+// The boundary examples of lattice parts: each part's name with its refusal, or that it is accepted and its n.
 use lattice::LatticeCheck;
 use libc::STDOUT_FILENO;
 ghost use Prim.Native.Nat.{_+_, _*_, _≤_};
@@ -20,40 +19,9 @@ fn show(name: &[u8], r: LatticeCheck) {
     io::write_all(STDOUT_FILENO, b"\n");
 }
 
-// A number for each answer.
-fn number(r: LatticeCheck) -> u64 {
-    match r {
-        LatticeCheck::Refused(f) => refusal::number(f) as u64,
-        LatticeCheck::Accepted(l) => 256
-            + l.size as u64 * 65536
-            + l.top.0 as u64 * 256
-            + l.bottom.0 as u64,
-    }
-}
-
-fn same_tables(t: &[u8; 12352], u: &[u8; 12352]) -> bool {
-    for k in 0..12352usize {
-        if t[k] != u[k] {
-            return false;
-        }
-    }
-    true
-}
-
-// Both ways give one answer, and where they accept, one set of tables.
-fn compare(r: LatticeCheck, t: &[u8; 12352], s: LatticeCheck, u: &[u8; 12352]) {
-    if number(r) != number(s) || (255 < number(r) && !same_tables(t, u)) {
-        io::write_all(STDOUT_FILENO, b"  by search it differs\n");
-    }
-}
-
 fn run(name: &[u8], part: &[u8]) {
-    let mut t = [0u8; 12352];
-    let mut u = [0u8; 12352];
-    let r = lattice::check(part, &mut t);
-    let s = lattice::check_by_search(part, &mut u);
-    show(name, r);
-    compare(r, &t, s, &u);
+    let mut w = [0u64; 128];
+    show(name, lattice::check(part, &mut w));
 }
 
 fn at_most(i: usize, j: usize) -> u8 {

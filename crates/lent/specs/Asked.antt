@@ -4,7 +4,7 @@ use mathlib.Core.Path.{_≡_}
 use mathlib.Core.List.{List}
 use Rattle.examination.specs.declared.Standing.{Standing}
 use Rattle.examination.specs.Read.{deskOf}
-use Rattle.calls.specs.Answer.{Does}
+use Rattle.examination.specs.Answer.{Does}
 use Rattle.desk.specs.Desk.{Call, Question, Reply}
 
 -- the call k on the desk of these four answers x and leaves that desk, and the standing is unchanged by it; so the question q

@@ -1,15 +1,17 @@
 // The calls, with the standing lent.
-use calls::ElementAnswer;
-use calls::JudgeAnswer;
-use calls::OpenAnswer;
-use calls::ShareAnswer;
-use calls::Standing;
-use calls::StepAnswer;
+use asking::ElementAnswer;
+use asking::JudgeAnswer;
+use asking::ShareAnswer;
+use elements::Element;
+use examination::Standing;
 use model::State;
-use operations::Element;
+use moving::OpenAnswer;
+use moving::StepAnswer;
 ghost use Rattle.desk.specs.Desk.{Call, Question, Reply};
 ghost use Rattle.examination.specs.Read.{deskOf};
-ghost use Rattle.calls.specs.Answer.{Does, stepReply, openReply, elementReply, shareReply, judgeReply};
+ghost use Rattle.examination.specs.Answer.{Does};
+ghost use Rattle.moving.specs.Answer.{stepReply, openReply};
+ghost use Rattle.asking.specs.Answer.{elementReply, shareReply, judgeReply};
 ghost use Rattle.lent.specs.Asked.{ReadsOnly, AsksOnly};
 
 // ---- the calls that move the standing on
@@ -25,7 +27,7 @@ pub fn open(
     ensures { λ r. ⌜ Does (Call.Open (now (case .entry))) (deskOf (now (s .entry)) (now (store .entry)) (now (first .entry)) (now (second .entry)))
         (openReply r) (deskOf (now (s .exit)) (now (store .exit)) (now (first .exit)) (now (second .exit))) ⌝ }
 {
-    let o = calls::open(*s, case, store, first, second);
+    let o = moving::open(*s, case, store, first, second);
     *s = o.standing;
     o.answer
 }
@@ -35,7 +37,7 @@ pub fn step(s: &mut Standing, store: &[u8], first: &mut [u8], second: &mut [u8])
     ensures { λ r. ⌜ Does Call.Step (deskOf (now (s .entry)) (now (store .entry)) (now (first .entry)) (now (second .entry)))
         (stepReply r) (deskOf (now (s .exit)) (now (store .entry)) (now (first .exit)) (now (second .exit))) ⌝ }
 {
-    let o = calls::step(*s, store, first, second);
+    let o = moving::step(*s, store, first, second);
     *s = o.standing;
     o.answer
 }
@@ -47,7 +49,7 @@ pub fn show<'a>(s: &mut Standing, store: &[u8], first: &'a [u8], second: &'a [u8
     ensures { λ r. ⌜ ReadsOnly Call.Show
         (now (s .entry)) (now (store .entry)) (now (first .entry)) (now (second .entry)) (Reply.Shown (now r)) (now (s .exit)) ⌝ }
 {
-    calls::show(*s, store, first, second)
+    asking::show(*s, store, first, second)
 }
 
 // The score of the shown table.
@@ -55,7 +57,7 @@ pub fn score<'a>(s: &mut Standing, store: &[u8], first: &'a [u8], second: &'a [u
     ensures { λ r. ⌜ AsksOnly Question.Score
         (now (s .entry)) (now (store .entry)) (now (first .entry)) (now (second .entry)) (elementReply r) (now (s .exit)) ⌝ }
 {
-    calls::score(*s, store, first, second)
+    asking::score(*s, store, first, second)
 }
 
 // The per cent of shown entries at or above e.
@@ -69,7 +71,7 @@ pub fn share<'a>(
     ensures { λ r. ⌜ AsksOnly (Question.Share (e .0))
         (now (s .entry)) (now (store .entry)) (now (first .entry)) (now (second .entry)) (shareReply r) (now (s .exit)) ⌝ }
 {
-    calls::share(*s, store, first, second, e)
+    asking::share(*s, store, first, second, e)
 }
 
 // Whether a table is a simulation.
@@ -83,7 +85,7 @@ pub fn judge(
     ensures { λ r. ⌜ AsksOnly (Question.Judge (now (table .entry)))
         (now (s .entry)) (now (store .entry)) (now (first .entry)) (now (second .entry)) (judgeReply r) (now (s .exit)) ⌝ }
 {
-    calls::judge(*s, store, first, second, table)
+    asking::judge(*s, store, first, second, table)
 }
 
 // A formula's value on model 1 or 2.
@@ -98,7 +100,7 @@ pub fn whole(
     ensures { λ r. ⌜ AsksOnly (Question.Whole f m)
         (now (s .entry)) (now (store .entry)) (now (first .entry)) (now (second .entry)) (elementReply r) (now (s .exit)) ⌝ }
 {
-    calls::whole(*s, store, first, second, f, m)
+    asking::whole(*s, store, first, second, f, m)
 }
 
 // A formula's element at a state of model 1 or 2.
@@ -114,5 +116,5 @@ pub fn value(
     ensures { λ r. ⌜ AsksOnly (Question.Value f m (q .0))
         (now (s .entry)) (now (store .entry)) (now (first .entry)) (now (second .entry)) (elementReply r) (now (s .exit)) ⌝ }
 {
-    calls::value(*s, store, first, second, f, m, q)
+    asking::value(*s, store, first, second, f, m, q)
 }

@@ -1,9 +1,9 @@
 // The calls' answers as they are printed.
-use calls::ElementAnswer;
-use calls::JudgeAnswer;
-use calls::OpenAnswer;
-use calls::ShareAnswer;
-use calls::StepAnswer;
+use asking::ElementAnswer;
+use asking::JudgeAnswer;
+use asking::ShareAnswer;
+use moving::OpenAnswer;
+use moving::StepAnswer;
 use printing::say;
 
 pub fn say_open(a: OpenAnswer) {

@@ -8,15 +8,15 @@ use answers::say_judge;
 use answers::say_open;
 use answers::say_share;
 use answers::say_step;
-use calls::ElementAnswer;
-use calls::JudgeAnswer;
-use calls::Opened;
-use calls::ShareAnswer;
-use calls::Standing;
-use calls::Stepped;
+use asking::ElementAnswer;
+use asking::JudgeAnswer;
+use asking::ShareAnswer;
+use elements::Element;
+use examination::Standing;
 use libc::STDIN_FILENO;
 use model::State;
-use operations::Element;
+use moving::Opened;
+use moving::Stepped;
 use printing::say;
 
 // ---- each call, with a standing that is lent to it

@@ -40,7 +40,8 @@ fn put_table(
     r: usize,
     text: &mut [u8],
 ) -> usize
-    requires { ⌜ Coded (now w) l × Shaped (now m1) (now m2) (now table) × (0 + length (textOfTable (now w) l (now m1) (now m2) r (now table)) ≤ length (now text)) ⌝ }
+    requires { ⌜ Coded (now w) l × Shaped (now m1) (now m2) (now table)
+        × (0 + length (textOfTable (now w) l (now m1) (now m2) r (now table)) ≤ length (now text)) ⌝ }
     ensures { λ next. ⌜ Wrote (now (text .entry)) 0
         (textOfTable (now (w .entry)) l (now (m1 .entry)) (now (m2 .entry)) r (now (table .entry))) (now (text .exit)) next ⌝ }
 {

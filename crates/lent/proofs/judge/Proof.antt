@@ -1,5 +1,5 @@
 -- `lent::judge` meets its contract: a walk of its MIR. The standing's borrow is opened, the standing is copied out, and the borrow is closed as it was;
--- then `calls::judge` is called, of which the proof knows only that it meets its contract. Assumes nothing.
+-- then `asking::judge` is called, of which the proof knows only that it meets its contract. Assumes nothing.
 use Rattle.lent.proofs.Walk.{refl, [], _∷_, List, ℕ, Holds, URA, fullShare, named, Val, WT, hasTy, SProp, ent, emp, via, fst∗, snd∗, exE, id⊢, Lft, Share, ftrue, flft, Memory, Routine, Heap, Calls, Loops, WpFn, Tables, Atoms, sem, Fun, fact, Lfts, Shares, givenOf, tables, tablesOf, FmC, fmOf, WpFn-mono}
 use Rattle.lent.proofs.Walk.{Given, Item, ‵, raw, some, later, _⊛_, ⋆, _$_, _∵_, !, qed, by, move, keep, drop, use1, use2, split, join, pick, fsplit, fsplit3, fjoin, fjoin3, feqI, suffices, frame, await, done}
 use Rattle.lent.proofs.Walk.{look, look-raw, init, forget, stop, hop, from, load, of-opd, and-then, no-more, assigns, land, returns, enter, alloc1, alloc0, params1, pass1, pass0, free1, free0}
@@ -8,7 +8,8 @@ use Rattle.lent.proofs.Walk.{RattleType, owns, Is, shows, u8, RefT, Mut
 use denote.Enum.Laws as LE
 use Rattle.desk.specs.Desk.{Call, Question}
 use Rattle.examination.specs.Read.{deskOf}
-use Rattle.calls.specs.Answer.{Does, judgeReply}
+use Rattle.examination.specs.Answer.{Does}
+use Rattle.asking.specs.Answer.{judgeReply}
 use Rattle.examination.specs.declared.Standing.{Standing}
 use Rattle.asking.specs.declared.JudgeAnswer.{JudgeAnswer}
 use Rattle.asking.proofs.JudgeAnswer as R-type
@@ -71,7 +72,7 @@ module _ {M : Type 1} (𝓤 : URA M) (H : Heap 𝓤) (A : Atoms 𝓤) (W : Given
   abbrev to : Core 𝓤 H A at-mem run .Ghost
   to = ((κs′, (q1, (q2, (q3, (q4, tt)))), tt, given′, passed), tt)
 
-  -- what `calls::judge` says of its result
+  -- what `asking::judge` says of its result
   abbrev Says : JudgeAnswer → Type 0
   Says r = Does (Call.Ask (Question.Judge (x4 .now))) (deskOf h (x1 .now) (x2 .now) (x3 .now)) (judgeReply r) (deskOf h (x1 .now) (x2 .now) (x3 .now))
 
@@ -152,4 +153,4 @@ judge-spec 𝓤 H 𝓜 𝓖 𝓡 =
     entered 𝓤 H (tripleOf 𝓤 H (𝓖 .A) here.signature (here.spec 𝓤 H (𝓖 .A) (𝓜 .mem) (𝓡 .run)))
     (tables 𝓤 H 𝓜 𝓡 code.env .C) (tables 𝓤 H 𝓜 𝓡 code.env .Λ) #here code.function (code.unfolded 𝓤 H 𝓜 𝓡)
     (meets 𝓤 H (𝓖 .A) (givenOf 𝓤 H 𝓜 𝓖) (𝓜 .mem) (𝓡 .run) (tablesOf 𝓤 H 𝓜 (tables 𝓤 H 𝓜 𝓡 code.env))
-    (cited 𝓤 H (Core 𝓤 H (𝓖 .A) (𝓜 .mem) (𝓡 .run)) 𝓜 𝓡 code.env #core core-def.routine code.calls-calls·judge (core-thm.met 𝓤 H 𝓜 𝓖 𝓡)))
+    (cited 𝓤 H (Core 𝓤 H (𝓖 .A) (𝓜 .mem) (𝓡 .run)) 𝓜 𝓡 code.env #core core-def.routine code.calls-asking·judge (core-thm.met 𝓤 H 𝓜 𝓖 𝓡)))

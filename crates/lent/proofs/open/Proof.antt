@@ -1,5 +1,5 @@
--- `lent::open` meets its contract: a walk of its MIR. The standing's borrow is opened and the standing copied out, the slices go to `calls::open` at
--- their own lifetimes, and the borrow is closed at the standing that it gives. All that the proof knows of `calls::open` is that it meets its
+-- `lent::open` meets its contract: a walk of its MIR. The standing's borrow is opened and the standing copied out, the slices go to `moving::open` at
+-- their own lifetimes, and the borrow is closed at the standing that it gives. All that the proof knows of `moving::open` is that it meets its
 -- contract. Assumes nothing.
 use Rattle.lent.proofs.Walk.{_≡_, refl, ap, [], _∷_, List, ℕ, Holds, length, URA, fullShare, named, Val, WT, hasTy, SProp, ent, emp, via, fst∗, id⊢, Lft, Share, ftrue, fat, flft, Memory, Routine, Heap, Calls, Loops, WpFn, Tables, Atoms, Fun, fact, Lfts, Shares, givenOf, tables, tablesOf, FmC, fmOf, WpFn-mono}
 use Rattle.lent.proofs.Walk.{Given, Item, ‵, raw, some, later, _⊛_, ⋆, _$_, _∵_, !, qed, by, move, keep, drop, use1, use2, split, join, pick, rewrite, fsplit, fsplit3, fjoin, fjoin3, feqL, feqI, suffices, frame, await, done}
@@ -10,7 +10,8 @@ use denote.Struct.Laws as LL
 use denote.Enum.Laws as LE
 use Rattle.desk.specs.Desk.{Call}
 use Rattle.examination.specs.Read.{deskOf}
-use Rattle.calls.specs.Answer.{Does, openReply}
+use Rattle.examination.specs.Answer.{Does}
+use Rattle.moving.specs.Answer.{openReply}
 use Rattle.examination.specs.declared.Standing.{Standing}
 use Rattle.moving.specs.declared.Opened.{Opened}
 use Rattle.moving.proofs.Opened as U
@@ -79,7 +80,7 @@ module _ {M : Type 1} (𝓤 : URA M) (H : Heap 𝓤) (A : Atoms 𝓤) (W : Given
   abbrev Within : Type 0
   Within = Unit {0}
 
-  -- what `calls::open` says of what it gives and of the last lists
+  -- what `moving::open` says of what it gives and of the last lists
   abbrev Says : Opened → List ℕ → List ℕ → List ℕ → Type 0
   Says r z2 z3 z4 = Does (Call.Open (x1 .now)) (deskOf (x0 .now) (x2 .now) (x3 .now) (x4 .now)) (openReply (r .answer)) (deskOf (r .standing) z2 z3 z4)
 
@@ -172,4 +173,4 @@ open-spec 𝓤 H 𝓜 𝓖 𝓡 =
     entered 𝓤 H (tripleOf 𝓤 H (𝓖 .A) here.signature (here.spec 𝓤 H (𝓖 .A) (𝓜 .mem) (𝓡 .run)))
     (tables 𝓤 H 𝓜 𝓡 code.env .C) (tables 𝓤 H 𝓜 𝓡 code.env .Λ) #here code.function (code.unfolded 𝓤 H 𝓜 𝓡)
     (meets 𝓤 H (𝓖 .A) (givenOf 𝓤 H 𝓜 𝓖) (𝓜 .mem) (𝓡 .run) (tablesOf 𝓤 H 𝓜 (tables 𝓤 H 𝓜 𝓡 code.env))
-    (cited 𝓤 H (Core 𝓤 H (𝓖 .A) (𝓜 .mem) (𝓡 .run)) 𝓜 𝓡 code.env #core core-def.routine code.calls-calls·open (core-thm.met 𝓤 H 𝓜 𝓖 𝓡)))
+    (cited 𝓤 H (Core 𝓤 H (𝓖 .A) (𝓜 .mem) (𝓡 .run)) 𝓜 𝓡 code.env #core core-def.routine code.calls-moving·open (core-thm.met 𝓤 H 𝓜 𝓖 𝓡)))

@@ -1,5 +1,5 @@
 -- `lent::show` meets its contract: a walk of its MIR. The standing's borrow is opened, the standing is copied out, and the borrow is closed as it was;
--- then `calls::show` is called, of which the proof knows only that it meets its contract. Assumes nothing.
+-- then `asking::show` is called, of which the proof knows only that it meets its contract. Assumes nothing.
 use Rattle.lent.proofs.Walk.{refl, [], _∷_, List, ℕ, URA, fullShare, named, Val, SProp, ent, emp, via, fst∗, snd∗, exE, id⊢, Lft, Share, ftrue, flft, Memory, Routine, Heap, Calls, Loops, WpFn, Tables, Atoms, sem, Fun, fact, Lfts, Shares, givenOf, tables, tablesOf, FmC, fmOf, WpFn-mono}
 use Rattle.lent.proofs.Walk.{Given, Item, ‵, raw, some, later, _⊛_, ⋆, _$_, _∵_, !, qed, by, move, keep, drop, use1, use2, split, join, pick, fsplit, fsplit3, fjoin, fjoin3, feqI, suffices, frame, await, done}
 use Rattle.lent.proofs.Walk.{look, look-raw, init, forget, stop, hop, from, load, of-opd, and-then, no-more, assigns, land, returns, enter, alloc1, alloc0, params1, pass1, pass0, free1, free0}
@@ -7,7 +7,7 @@ use Rattle.lent.proofs.Walk.{St, sv, Bytes, Rec, at, ref, Slice, slice,
 use Rattle.lent.proofs.Walk.{RattleType, owns, Is, shows, u8, RefT, MutRef, ptr-vals, mut-tells, slice-vals, shr-slice-tells, opens, closes, owned, facts, peeks, heard, nothing, spelt, onEntry, Args, Vals, Meets, tripleOf, Contract, Triple, calls-at, ensured, lasts, entered, cited, says, Stays, stay-none-slice, stay-ref, walkOf, goes-none-slice, goes-ref, Walks, ends-at, walked, walk-meets, yes}
 use Rattle.desk.specs.Desk.{Call, Reply}
 use Rattle.examination.specs.Read.{deskOf}
-use Rattle.calls.specs.Answer.{Does}
+use Rattle.examination.specs.Answer.{Does}
 use Rattle.examination.specs.declared.Standing.{Standing}
 use Rattle.asking.proofs.show as core
 use Rattle.asking.proofs.show.Symbol as core-def
@@ -67,7 +67,7 @@ module _ {M : Type 1} (𝓤 : URA M) (H : Heap 𝓤) (A : Atoms 𝓤) (W : Given
   abbrev to : Core 𝓤 H A at-mem run .Ghost
   to = ((κs′, (q1, (q2, tt)), tt, given′, passed), tt)
 
-  -- what `calls::show` says of its result
+  -- what `asking::show` says of its result
   abbrev Says : RefT (List ℕ) → Type 0
   Says r = Does Call.Show (deskOf h (x1 .now) (x2 .now) (x3 .now)) (Reply.Shown (r .now)) (deskOf h (x1 .now) (x2 .now) (x3 .now))
 
@@ -142,4 +142,4 @@ show-spec 𝓤 H 𝓜 𝓖 𝓡 =
     entered 𝓤 H (tripleOf 𝓤 H (𝓖 .A) here.signature (here.spec 𝓤 H (𝓖 .A) (𝓜 .mem) (𝓡 .run)))
     (tables 𝓤 H 𝓜 𝓡 code.env .C) (tables 𝓤 H 𝓜 𝓡 code.env .Λ) #here code.function (code.unfolded 𝓤 H 𝓜 𝓡)
     (meets 𝓤 H (𝓖 .A) (givenOf 𝓤 H 𝓜 𝓖) (𝓜 .mem) (𝓡 .run) (tablesOf 𝓤 H 𝓜 (tables 𝓤 H 𝓜 𝓡 code.env))
-    (cited 𝓤 H (Core 𝓤 H (𝓖 .A) (𝓜 .mem) (𝓡 .run)) 𝓜 𝓡 code.env #core core-def.routine code.calls-calls·show (core-thm.met 𝓤 H 𝓜 𝓖 𝓡)))
+    (cited 𝓤 H (Core 𝓤 H (𝓖 .A) (𝓜 .mem) (𝓡 .run)) 𝓜 𝓡 code.env #core core-def.routine code.calls-asking·show (core-thm.met 𝓤 H 𝓜 𝓖 𝓡)))

@@ -1,5 +1,5 @@
--- `lent::step` meets its contract: a walk of its MIR. The standing's borrow is opened and the standing copied out, the slices go to `calls::step` at
--- their own lifetimes, and the borrow is closed at the standing that it gives. All that the proof knows of `calls::step` is that it meets its
+-- `lent::step` meets its contract: a walk of its MIR. The standing's borrow is opened and the standing copied out, the slices go to `moving::step` at
+-- their own lifetimes, and the borrow is closed at the standing that it gives. All that the proof knows of `moving::step` is that it meets its
 -- contract. Assumes nothing.
 use Rattle.lent.proofs.Walk.{_≡_, refl, ap, [], _∷_, List, ℕ, Holds, length, URA, fullShare, named, Val, WT, hasTy, SProp, ent, emp, via, fst∗, id⊢, Lft, Share, ftrue, fat, flft, Memory, Routine, Heap, Calls, Loops, WpFn, Tables, Atoms, Fun, fact, Lfts, Shares, givenOf, tables, tablesOf, FmC, fmOf, WpFn-mono}
 use Rattle.lent.proofs.Walk.{Given, Item, ‵, raw, some, later, _⊛_, ⋆, _$_, _∵_, !, qed, by, move, keep, drop, use1, use2, split, join, pick, rewrite, fsplit, fsplit3, fjoin, fjoin3, feqL, feqI, suffices, frame, await, done}
@@ -10,7 +10,8 @@ use denote.Struct.Laws as LL
 use denote.Enum.Laws as LE
 use Rattle.desk.specs.Desk.{Call}
 use Rattle.examination.specs.Read.{deskOf}
-use Rattle.calls.specs.Answer.{Does, stepReply}
+use Rattle.examination.specs.Answer.{Does}
+use Rattle.moving.specs.Answer.{stepReply}
 use Rattle.examination.specs.declared.Standing.{Standing}
 use Rattle.moving.specs.declared.Stepped.{Stepped}
 use Rattle.moving.proofs.Stepped as U
@@ -79,7 +80,7 @@ module _ {M : Type 1} (𝓤 : URA M) (H : Heap 𝓤) (A : Atoms 𝓤) (W : Given
   abbrev Within : Type 0
   Within = Unit {0}
 
-  -- what `calls::step` says of what it gives and of the last lists
+  -- what `moving::step` says of what it gives and of the last lists
   abbrev Says : Stepped → List ℕ → List ℕ → Type 0
   Says r z2 z3 = Does Call.Step (deskOf (x0 .now) (x1 .now) (x2 .now) (x3 .now)) (stepReply (r .answer)) (deskOf (r .standing) (x1 .now) z2 z3)
 
@@ -169,4 +170,4 @@ step-spec 𝓤 H 𝓜 𝓖 𝓡 =
     entered 𝓤 H (tripleOf 𝓤 H (𝓖 .A) here.signature (here.spec 𝓤 H (𝓖 .A) (𝓜 .mem) (𝓡 .run)))
     (tables 𝓤 H 𝓜 𝓡 code.env .C) (tables 𝓤 H 𝓜 𝓡 code.env .Λ) #here code.function (code.unfolded 𝓤 H 𝓜 𝓡)
     (meets 𝓤 H (𝓖 .A) (givenOf 𝓤 H 𝓜 𝓖) (𝓜 .mem) (𝓡 .run) (tablesOf 𝓤 H 𝓜 (tables 𝓤 H 𝓜 𝓡 code.env))
-    (cited 𝓤 H (Core 𝓤 H (𝓖 .A) (𝓜 .mem) (𝓡 .run)) 𝓜 𝓡 code.env #core core-def.routine code.calls-calls·step (core-thm.met 𝓤 H 𝓜 𝓖 𝓡)))
+    (cited 𝓤 H (Core 𝓤 H (𝓖 .A) (𝓜 .mem) (𝓡 .run)) 𝓜 𝓡 code.env #core core-def.routine code.calls-moving·step (core-thm.met 𝓤 H 𝓜 𝓖 𝓡)))

@@ -11,9 +11,9 @@ use Rattle.examination.specs.declared.Standing.{Standing}
 use Rattle.asking.specs.declared.ShareAnswer.{ShareAnswer}
 use Rattle.asking.proofs.ShareAnswer as R-type
 use Rattle.asking.proofs.ShareAnswer.Laws as R-laws
-use Rattle.operations.specs.declared.Element.{Element}
-use Rattle.operations.proofs.Element as Element-type
-use Rattle.operations.proofs.Element.Laws as Element-laws
+use Rattle.elements.specs.declared.Element.{Element}
+use Rattle.elements.proofs.Element as Element-type
+use Rattle.elements.proofs.Element.Laws as Element-laws
 use Rattle.lent.proofs.share as core
 use Rattle.lent.proofs.share.Symbol as core-def
 use Rattle.lent.proofs.share.Symbol.{name as #core}

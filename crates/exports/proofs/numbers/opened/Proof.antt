@@ -1,5 +1,5 @@
 -- `exports::opened` meets its contract: by the case of the call's answer.
-use Rattle.calls.specs.Answer.{openReply}
+use Rattle.moving.specs.Answer.{openReply}
 use Rattle.exports.specs.Told.{by-case}
 use borrow.Author.Needs.{needs}
 use Rattle.exports.proofs.numbers.opened.Statement.{statement}
