@@ -4,7 +4,7 @@ use crate::errors::{Span, TextError};
 use crate::lattice::{Lattice, OrderTable, PANEL_LETTERS};
 use crate::lexer::{Cursor, Statement};
 use crate::names::{self, declare, lookup, Name, MOST_NAMES};
-use crate::parse::no_part;
+use crate::sections::no_part;
 
 const FORMS: &str = "`chain`, `power`, `product`, `panel`, `order` or `order exactly`";
 

@@ -31,6 +31,29 @@ const SIGNS: [&str; 14] = [
     "->", "<=", "..", ":", ",", "=", "|", "&", "!", ".", "(", ")", "{", "}",
 ];
 
+/// Signs of other languages, each with what is meant; longer ones before their beginnings.
+const MISTAKEN: [(&str, &str); 19] = [
+    ("<=>", "`(p & q) | (!p & !q)`"),
+    ("<->", "`(p & q) | (!p & !q)`"),
+    ("-->", "`->`"),
+    ("->>", "`->`"),
+    ("=>", "`->` for a transition, or in a formula `!p | q`"),
+    ("==", "`=`"),
+    (":=", "`=`"),
+    ("&&", "`&`"),
+    ("||", "`|`"),
+    ("!=", "`!p`"),
+    ("/\\", "`&`"),
+    ("\\/", "`|`"),
+    ("~", "`!`"),
+    ("¬", "`!`"),
+    ("∧", "`&`"),
+    ("∨", "`|`"),
+    ("→", "`->`"),
+    ("≤", "`<=`"),
+    ("//", "`#` for a comment"),
+];
+
 /// The statements of a text, and the comment lines at its head without their `#`.
 #[derive(Clone, Debug, Default)]
 pub struct Lexed {
@@ -152,12 +175,26 @@ fn token_at(chars: &[char], at: usize, line: usize) -> Result<(Kind, usize), Tex
     if chars[at] == '"' {
         return quoted_at(chars, at, line);
     }
-    let sign = SIGNS.iter().find(|s| {
+    let stands_here = |s: &str| {
         s.chars()
             .enumerate()
             .all(|(i, c)| chars.get(at + i) == Some(&c))
-    });
-    match sign {
+    };
+    if let Some((sign, meant)) = MISTAKEN.iter().find(|(s, _)| stands_here(s)) {
+        let end = at + sign.chars().count();
+        let span = Span {
+            line,
+            start: at,
+            end,
+        };
+        let message = format!("`{sign}` is no sign of the text form");
+        return Err(TextError::new(
+            span,
+            message,
+            format!("did you mean {meant}?"),
+        ));
+    }
+    match SIGNS.iter().find(|s| stands_here(s)) {
         Some(sign) => Ok((Kind::Sign(sign), at + sign.len())),
         None => Err(no_token(
             chars[at],

@@ -1,0 +1,125 @@
+//! The class page, and a page for each student that it links to.
+
+use super::{Class, Marks, Student};
+use crate::commands::Failure;
+use crate::json::text;
+use crate::page;
+use std::path::Path;
+
+/// Writes `index.html` and a page for each marked student into a folder, which is made if it is not there.
+pub fn write(class: &Class, folder: &str) -> Result<(), Failure> {
+    let cannot =
+        |path: &Path, e: std::io::Error| Failure::Other(format!("{}: {e}", path.display()));
+    let folder = Path::new(folder);
+    std::fs::create_dir_all(folder).map_err(|e| cannot(folder, e))?;
+    let put = |name: &str, html: String| {
+        let path = folder.join(name);
+        std::fs::write(&path, html).map_err(|e| cannot(&path, e))
+    };
+    for student in &class.students {
+        if let Ok(marked) = &student.result {
+            let surroundings = page::Surroundings {
+                class: true,
+                student: Some(&student.name),
+                warnings: &marked.warnings,
+            };
+            let html = page::html(&mut marked.again()?, &surroundings)?;
+            put(&file_name(&student.name), html)?;
+        }
+    }
+    put("index.html", index(class))
+}
+
+/// The file of a student's page.
+fn file_name(name: &str) -> String {
+    let safe = |c: char| {
+        if c.is_alphanumeric() || "-_.".contains(c) {
+            c
+        } else {
+            '_'
+        }
+    };
+    format!("{}.html", name.chars().map(safe).collect::<String>())
+}
+
+fn index(class: &Class) -> String {
+    let case = &class.course.opened.case;
+    let title = case.title.as_deref().unwrap_or("The class");
+    let ceiling = text(&case.element(class.course.ceiling.score));
+    let shared = text(&case.element(class.course.shared));
+    let formulas: String = case
+        .formulas
+        .iter()
+        .map(|named| format!("<th scope=\"col\">{}</th>", text(&named.name)))
+        .collect();
+    let rows: String = class.students.iter().map(|s| row(class, s)).collect();
+    let own = format!(
+        "<tr class=\"course\"><th scope=\"row\">The course's own</th>{}<td>the ceiling</td><td></td></tr>\n",
+        cells(class, &class.course.ceiling)
+    );
+    let body = format!(
+        "<header><h1>{}</h1></header>\n<main>\n\
+         <p class=\"note\">The ceiling is <strong>{ceiling}</strong>: what the course's model scores against itself. A drawing that \
+         reaches it is as good as the course's own. A name leads to the student's page.</p>\n{}\
+         <div class=\"scroll\" tabindex=\"0\" role=\"region\" aria-label=\"Marks\"><table>\n<thead><tr><th scope=\"col\">Student</th><th scope=\"col\">Score</th>\
+         {formulas}<th scope=\"col\">Share {shared}</th><th scope=\"col\">Ceiling</th><th scope=\"col\">Why, and warnings</th></tr></thead>\n\
+         <tbody>\n{own}{rows}</tbody>\n</table></div>\n</main>\n\
+         <footer><p>Scores, formulas' values and shares are the proved library's; the reasons and the warnings are worked out by the tool.</p></footer>\n",
+        text(title),
+        page::warning_list(&class.course.warnings),
+    );
+    page::document(title, &body)
+}
+
+fn cells(class: &Class, marks: &Marks) -> String {
+    let case = &class.course.opened.case;
+    let cell = |e: &u8| format!("<td>{}</td>", text(&case.element(*e)));
+    let formulas: String = marks.formulas.iter().map(cell).collect();
+    let score = format!(
+        "<td><strong>{}</strong></td>",
+        text(&case.element(marks.score))
+    );
+    format!("{score}{formulas}<td>{} %</td>", marks.share)
+}
+
+fn row(class: &Class, student: &Student) -> String {
+    let name = text(&student.name);
+    let marked = match &student.result {
+        Ok(marked) => marked,
+        Err(failure) => {
+            let empty = class.course.ceiling.formulas.len() + 2;
+            let said = text(&failure.words(&[]));
+            return format!(
+                "<tr class=\"broken\"><th scope=\"row\">{name}</th>{}<td>not marked</td><td><pre>{said}</pre></td></tr>\n",
+                "<td>-</td>".repeat(empty)
+            );
+        }
+    };
+    let ceiling = match marked.stands(&class.course) {
+        stands @ ("reached" | "above") => format!("<td class=\"reached\">{stands}</td>"),
+        stands => format!("<td>{stands}</td>"),
+    };
+    let warning = |w: &crate::warnings::Warning| {
+        format!("<p class=\"warning\">Warning: {}.</p>", text(&w.message))
+    };
+    let warnings: String = marked.warnings.iter().map(warning).collect();
+    let why: String = marked
+        .why
+        .iter()
+        .map(|w| format!("<p>{}</p>", text(w)))
+        .collect();
+    format!(
+        "<tr><th scope=\"row\"><a href=\"{}\">{name}</a></th>{}{ceiling}<td>{warnings}{why}</td></tr>\n",
+        href(&file_name(&student.name)),
+        cells(class, &marked.marks)
+    )
+}
+
+/// A file's name as an address.
+fn href(name: &str) -> String {
+    let coded = |b: u8| match b {
+        b'A'..=b'Z' | b'a'..=b'z' | b'0'..=b'9' | b'-' | b'_' | b'.' => char::from(b).to_string(),
+        b => format!("%{b:02X}"),
+    };
+    name.bytes().map(coded).collect()
+}
