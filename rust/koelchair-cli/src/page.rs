@@ -80,7 +80,7 @@ pub fn html(opened: &mut Opened, surroundings: &Surroundings) -> Result<String, 
 
 /// Warnings as a list; nothing where there is none.
 pub fn warning_list(list: &[Warning]) -> String {
-    let item = |w: &Warning| format!("<li>Warning: {}.</li>\n", json::text(&w.message));
+    let item = |w: &Warning| format!("<li>Warning: {}.</li>\n", json::text_with_code(&w.message));
     match list.is_empty() {
         true => String::new(),
         false => format!(

@@ -33,8 +33,8 @@ pub struct Step {
 /// What makes an entry fail a question.
 #[derive(Clone, Debug, PartialEq, Eq)]
 pub enum Cause {
-    /// These propositions, each with its values for the student and for the course.
-    Propositions(Vec<(usize, [u8; 2])>),
+    /// These propositions.
+    Propositions(Vec<Difference>),
     /// A transition of the student's that no transition of the course's answers.
     Transition {
         /// Where it goes.
@@ -44,6 +44,17 @@ pub enum Cause {
         /// The course's transitions from the pair's state, the best first.
         answers: Vec<Tried>,
     },
+}
+
+/// A proposition on which two states do not agree to the degree that is asked.
+#[derive(Clone, Copy, Debug, PartialEq, Eq)]
+pub struct Difference {
+    /// The proposition.
+    pub proposition: usize,
+    /// Its values for the student and for the course.
+    pub values: [u8; 2],
+    /// How far these agree.
+    pub gives: u8,
 }
 
 /// A transition of the course's, or an initial state, that does not answer.
@@ -149,8 +160,12 @@ impl Reasoning<'_> {
                 Part::Proposition {
                     proposition,
                     values,
-                    ..
-                } => propositions.push((*proposition, *values)),
+                    gives,
+                } => propositions.push(Difference {
+                    proposition: *proposition,
+                    values: *values,
+                    gives: *gives,
+                }),
                 Part::Transition { to, value, .. } => {
                     transition = transition.or(Some((*to, *value)));
                 }

@@ -184,9 +184,9 @@ fn reached(model: &Model, bottom: u8) -> Vec<bool> {
     let mut reached: Vec<bool> = model.initial.iter().map(|v| *v != bottom).collect();
     let mut next: Vec<usize> = (0..model.size()).filter(|q| reached[*q]).collect();
     while let Some(q) = next.pop() {
-        for r in 0..model.size() {
-            if model.transition(q, r) != bottom && !reached[r] {
-                reached[r] = true;
+        let new = (0..model.size()).filter(|r| model.transition(q, *r) != bottom);
+        for r in new {
+            if !std::mem::replace(&mut reached[r], true) {
                 next.push(r);
             }
         }

@@ -142,14 +142,14 @@ fn why(text: &str) -> String {
 fn the_score_is_followed_to_its_cause() {
     assert!(why(CLEAN).ends_with("It is top in every round: nothing holds it down.\n"));
     let differs = altered(&[], &[("a b: p", "a: p")]);
-    let said = "In short: the student can go a -> b; there with the course at c, `p` is no for the student and yes for the course.\n";
+    let said = "In short: the student can go a -> b; there (the course at c) `p` is no for the student and yes for the course.\n";
     assert!(why(&differs).ends_with(said), "{}", why(&differs));
     let unanswered = altered(&["c -> c"], &[]);
-    let said = "In short: at a it goes on to b, and the course at c does not go on.\n";
+    let said = "In short: the student can go a -> b, and the course at c does not go on.\n";
     assert!(why(&unanswered).ends_with(said), "{}", why(&unanswered));
     let weak = altered(&[], &[("c -> c", "c -> c: unsure")]);
     let said =
-        "In short: at a it goes on to b, and the course at c goes on to c only with unsure.\n";
+        "In short: the student can go a -> b, and the course at c goes on to c only with unsure.\n";
     assert!(why(&weak).ends_with(said), "{}", why(&weak));
     let nowhere = altered(&["initial c"], &[]);
     assert!(

@@ -1,9 +1,11 @@
 //! The class page, and a page for each student that it links to.
 
+use super::student::Marked;
 use super::{Class, Marks, Student};
 use crate::commands::Failure;
-use crate::json::text;
+use crate::json::{text, text_with_code};
 use crate::page;
+use crate::warnings::Warning;
 use std::path::Path;
 
 /// Writes `index.html` and a page for each marked student into a folder, which is made if it is not there.
@@ -54,15 +56,16 @@ fn index(class: &Class) -> String {
         .collect();
     let rows: String = class.students.iter().map(|s| row(class, s)).collect();
     let own = format!(
-        "<tr class=\"course\"><th scope=\"row\">The course's own</th>{}<td>the ceiling</td><td></td></tr>\n",
-        cells(class, &class.course.ceiling)
+        "<tr class=\"course\"><th scope=\"row\">The course's own</th>{}<td></td></tr>\n",
+        cells(class, &class.course.ceiling, "<td>the ceiling</td>")
     );
     let body = format!(
-        "<header><h1>{}</h1></header>\n<main>\n\
+        "<header><h1>{}</h1></header>\n<main class=\"class\">\n\
          <p class=\"note\">The ceiling is <strong>{ceiling}</strong>: what the course's model scores against itself. A drawing that \
          reaches it is as good as the course's own. A name leads to the student's page.</p>\n{}\
-         <div class=\"scroll\" tabindex=\"0\" role=\"region\" aria-label=\"Marks\"><table>\n<thead><tr><th scope=\"col\">Student</th><th scope=\"col\">Score</th>\
-         {formulas}<th scope=\"col\">Share {shared}</th><th scope=\"col\">Ceiling</th><th scope=\"col\">Why, and warnings</th></tr></thead>\n\
+         <div class=\"scroll\" tabindex=\"0\" role=\"region\" aria-label=\"Marks\"><table>\n\
+         <thead><tr><th scope=\"col\">Student</th><th scope=\"col\">Score</th><th scope=\"col\">Ceiling</th>{formulas}\
+         <th scope=\"col\">Share {shared}</th><th scope=\"col\">Warnings, and why it is not higher</th></tr></thead>\n\
          <tbody>\n{own}{rows}</tbody>\n</table></div>\n</main>\n\
          <footer><p>Scores, formulas' values and shares are the proved library's; the reasons and the warnings are worked out by the tool.</p></footer>\n",
         text(title),
@@ -71,15 +74,14 @@ fn index(class: &Class) -> String {
     page::document(title, &body)
 }
 
-fn cells(class: &Class, marks: &Marks) -> String {
+/// Score, ceiling, formulas and share.
+fn cells(class: &Class, marks: &Marks, ceiling: &str) -> String {
     let case = &class.course.opened.case;
     let cell = |e: &u8| format!("<td>{}</td>", text(&case.element(*e)));
     let formulas: String = marks.formulas.iter().map(cell).collect();
-    let score = format!(
-        "<td><strong>{}</strong></td>",
-        text(&case.element(marks.score))
-    );
-    format!("{score}{formulas}<td>{} %</td>", marks.share)
+    let score = text(&case.element(marks.score));
+    let share = marks.share;
+    format!("<td><strong>{score}</strong></td>{ceiling}{formulas}<td>{share} %</td>")
 }
 
 fn row(class: &Class, student: &Student) -> String {
@@ -87,32 +89,40 @@ fn row(class: &Class, student: &Student) -> String {
     let marked = match &student.result {
         Ok(marked) => marked,
         Err(failure) => {
-            let empty = class.course.ceiling.formulas.len() + 2;
+            let empty = "<td>-</td>".repeat(class.course.ceiling.formulas.len() + 1);
             let said = text(&failure.words(&[]));
             return format!(
-                "<tr class=\"broken\"><th scope=\"row\">{name}</th>{}<td>not marked</td><td><pre>{said}</pre></td></tr>\n",
-                "<td>-</td>".repeat(empty)
+                "<tr class=\"broken\"><th scope=\"row\">{name}</th><td>-</td><td>not marked</td>{empty}<td><pre>{said}</pre></td></tr>\n"
             );
         }
     };
-    let ceiling = match marked.stands(&class.course) {
-        stands @ ("reached" | "above") => format!("<td class=\"reached\">{stands}</td>"),
-        stands => format!("<td>{stands}</td>"),
+    let stands = marked.stands(&class.course);
+    let good = matches!(stands, "reached" | "above");
+    let ceiling = match good {
+        true => format!("<td class=\"reached\">{stands}</td>"),
+        false => format!("<td>{stands}</td>"),
     };
-    let warning = |w: &crate::warnings::Warning| {
-        format!("<p class=\"warning\">Warning: {}.</p>", text(&w.message))
+    format!(
+        "<tr><th scope=\"row\"><a href=\"{}\">{name}</a></th>{}<td>{}</td></tr>\n",
+        href(&file_name(&student.name)),
+        cells(class, &marked.marks, &ceiling),
+        remarks(marked, good)
+    )
+}
+
+/// Warnings, and why the score is not higher; folded where the drawing is good.
+fn remarks(marked: &Marked, good: bool) -> String {
+    let warning = |w: &Warning| {
+        let said = text_with_code(&w.message);
+        format!("<p class=\"warning\">Warning: {said}.</p>")
     };
     let warnings: String = marked.warnings.iter().map(warning).collect();
-    let why: String = marked
-        .why
-        .iter()
-        .map(|w| format!("<p>{}</p>", text(w)))
-        .collect();
-    format!(
-        "<tr><th scope=\"row\"><a href=\"{}\">{name}</a></th>{}{ceiling}<td>{warnings}{why}</td></tr>\n",
-        href(&file_name(&student.name)),
-        cells(class, &marked.marks)
-    )
+    let sentence = |w: &String| format!("<p>{}</p>", text_with_code(w));
+    let why: String = marked.why.iter().map(sentence).collect();
+    match why.is_empty() || !good {
+        true => format!("{warnings}{why}"),
+        false => format!("{warnings}<details><summary>Why it is not top</summary>{why}</details>"),
+    }
 }
 
 /// A file's name as an address.

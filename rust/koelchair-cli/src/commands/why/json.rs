@@ -41,8 +41,9 @@ fn element(case: &Case, element: u8) -> String {
 }
 
 fn reason(case: &Case, reason: &Reason) -> String {
+    let labels = reason.views.iter().map(|v| &v.label);
     object(&[
-        ("views", strings(reason.views.iter().map(|v| &v.label))),
+        ("views", strings(labels.filter(|label| !label.is_empty()))),
         (
             "initial",
             or_null(reason.initial.as_ref().map(|i| initial(case, i))),
@@ -72,11 +73,12 @@ fn step(case: &Case, step: &Step) -> String {
     ];
     match &step.cause {
         Cause::Propositions(list) => {
-            let said = list.iter().map(|(p, [student, course])| {
+            let said = list.iter().map(|d| {
                 object(&[
-                    ("name", string(&case.propositions[*p])),
-                    ("student", element(case, *student)),
-                    ("course", element(case, *course)),
+                    ("name", string(&case.propositions[d.proposition])),
+                    ("student", element(case, d.values[0])),
+                    ("course", element(case, d.values[1])),
+                    ("gives", element(case, d.gives)),
                 ])
             });
             fields.push(("propositions", array(said)));

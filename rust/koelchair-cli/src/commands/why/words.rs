@@ -2,7 +2,7 @@
 
 use super::{Answer, Reason};
 use crate::case::Case;
-use crate::reasons::{Cause, Initial, Step, Tried};
+use crate::reasons::{Cause, Difference, Initial, Step, Tried};
 use crate::views::View;
 use std::fmt::Write;
 
@@ -161,8 +161,8 @@ impl Words<'_> {
         );
         match &step.cause {
             Cause::Propositions(list) => {
-                for (p, values) in list {
-                    let _ = writeln!(text, "   {}.", self.proposition(*p, *values));
+                for difference in list {
+                    let _ = writeln!(text, "   {}.", self.proposition(difference));
                 }
             }
             Cause::Transition { to, value, answers } => {
@@ -219,14 +219,15 @@ impl Words<'_> {
         }
     }
 
-    fn proposition(&self, p: usize, [student, course]: [u8; 2]) -> String {
-        let name = format!("`{}`", self.case.propositions[p]);
-        let [first, second] = [student, course].map(|v| self.element(v));
-        match first == second {
+    fn proposition(&self, difference: &Difference) -> String {
+        let name = format!("`{}`", self.case.propositions[difference.proposition]);
+        let [student, course] = difference.values.map(|v| self.element(v));
+        match student == course {
             true => {
-                format!("{name} is {first} for both, and {first} compared with itself is not top")
+                let gives = self.element(difference.gives);
+                format!("{name} is {student} for both, and compared with itself that gives {gives}")
             }
-            false => format!("{name} is {first} for the student and {second} for the course"),
+            false => format!("{name} is {student} for the student and {course} for the course"),
         }
     }
 
@@ -242,39 +243,42 @@ impl Words<'_> {
         let Some(last) = way.last() else {
             return String::new();
         };
-        let states: Vec<&str> = way.iter().map(|s| self.state(0, s.pair.0)).collect();
-        let goes = match &states[..] {
-            [one] => format!("at {one}"),
-            list if list.len() <= 3 * ENDS => {
-                format!("the student can go {}; there", list.join(" -> "))
-            }
-            list => format!(
-                "the student can go {} -> ... -> {} in {} steps; there",
-                list[0],
-                list[list.len() - 1],
-                list.len() - 1
-            ),
-        };
-        let cause = match &last.cause {
+        let (path, course) = (self.path(way), self.state(1, last.pair.1));
+        match &last.cause {
             Cause::Propositions(list) => {
-                let said: Vec<String> =
-                    list.iter().map(|(p, v)| self.proposition(*p, *v)).collect();
-                let course = self.state(1, last.pair.1);
-                format!("with the course at {course}, {}", said.join(", "))
+                let said: Vec<String> = list.iter().map(|d| self.proposition(d)).collect();
+                let said = said.join(", ");
+                match way.len() {
+                    1 => format!("at {path} (the course at {course}) {said}."),
+                    _ => {
+                        format!("the student can go {path}; there (the course at {course}) {said}.")
+                    }
+                }
             }
             Cause::Transition { to, answers, .. } => {
                 let target = self.state(0, *to);
-                let course = self.state(1, last.pair.1);
-                match answers.first() {
-                    None => format!("it goes on to {target}, and the course at {course} does not go on"),
-                    Some(best) => format!(
-                        "it goes on to {target}, and the course at {course} goes on to {} only with {}",
-                        self.state(1, best.to),
-                        self.element(best.value)
-                    ),
-                }
+                let goes_on = match answers.first() {
+                    None => "does not go on".to_string(),
+                    Some(best) => {
+                        let (to, value) = (self.state(1, best.to), self.element(best.value));
+                        format!("goes on to {to} only with {value}")
+                    }
+                };
+                format!(
+                    "the student can go {path} -> {target}, and the course at {course} {goes_on}."
+                )
             }
-        };
-        format!("{goes} {cause}.")
+        }
+    }
+
+    /// The student's states on the way; of a long way the first and the last.
+    fn path(&self, way: &[Step]) -> String {
+        let states: Vec<&str> = way.iter().map(|s| self.state(0, s.pair.0)).collect();
+        match &states[..] {
+            [first, .., last] if states.len() > 3 * ENDS => {
+                format!("{first} -> ... -> {last} in {} steps", states.len() - 1)
+            }
+            list => list.join(" -> "),
+        }
     }
 }
