@@ -33,10 +33,14 @@ const OWNERS: [&str; 2] = ["student", "course"];
 /// All warnings about a text's case. Of a course's file alone, those about model 2.
 pub fn warnings(text: &Text, case: &Case) -> Vec<Warning> {
     let drawing = Drawing { text, case };
-    let first = usize::from(text.course_alone);
-    let mut list: Vec<Warning> = (first..2).flat_map(|m| drawing.model(m)).collect();
-    list.extend((0..case.propositions.len()).filter_map(|p| drawing.proposition(p)));
-    list.extend((0..case.formulas.len()).filter_map(|f| drawing.formula(f)));
+    let formulas = (0..case.formulas.len()).filter_map(|f| drawing.formula(f));
+    let mut list: Vec<Warning> = formulas.collect();
+    // In a lattice of one element everything is top and bottom at once.
+    if case.lattice.size() > 1 {
+        let first = usize::from(text.course_alone);
+        list.extend((first..2).flat_map(|m| drawing.model(m)));
+        list.extend((0..case.propositions.len()).filter_map(|p| drawing.proposition(p)));
+    }
     list.sort_by_key(|w| w.span.map(|s| (s.line, s.start)));
     list
 }

@@ -114,8 +114,10 @@ fn the_ceiling_is_the_course_against_itself() {
 #[test]
 fn the_class_page_leads_to_the_students_pages() {
     let folder = scratch("class-page");
-    let (_, table, _) = class(&["--page", &folder.display().to_string()]);
-    assert_eq!(table, stored("marks.txt"));
+    let name = folder.display().to_string();
+    let (_, table, _) = class(&["--page", &name]);
+    let expected = format!("{}Class page: {name}/index.html\n", stored("marks.txt"));
+    assert_eq!(table, expected);
     let index = text(&folder.join("index.html"));
     let links: Vec<&str> = index
         .split("<a href=\"")

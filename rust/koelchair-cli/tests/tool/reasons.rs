@@ -199,3 +199,26 @@ fn a_wrong_pair_is_said() {
         .err
         .starts_with("error: expected FILE, or FILE STATE1 STATE2, got 2 arguments\n"));
 }
+
+/// A way of 20 steps is cut in the middle unless all of it is wanted.
+#[test]
+fn a_long_way_is_cut() {
+    let arrows: String = (0..19).map(|i| format!("  q{i} -> q{}\n", i + 1)).collect();
+    let text = format!(
+        "lattice chain no yes\npropositions p\nmodel 1\n  states q0..q19\n  initial q0\n  q19: p\n{arrows}\
+         model 2\n  states c\n  initial c\n  c -> c\n"
+    );
+    let cut = why(&text);
+    assert!(
+        cut.contains("\n   ... 12 more steps (all with --all) ...\n17. student q16"),
+        "{cut}"
+    );
+    let path = "In short: the student can go q0 -> ... -> q19 in 19 steps; there (the course at c) `p` is yes";
+    assert!(cut.contains(path), "{cut}");
+    let all = run(&["why", "--all", "-"], text.as_bytes()).text();
+    assert!(
+        (1..=20).all(|i| all.contains(&format!("\n{i}. student q{}, course c: ", i - 1))),
+        "{all}"
+    );
+    assert!(!all.contains("more steps"));
+}

@@ -130,6 +130,12 @@ fn a_formula_that_no_round_covers() {
 }
 
 #[test]
+fn a_lattice_of_one_element_is_not_warned_of() {
+    let ran = run(&["check", &crate::example("example-6-one-element.case")], &[]);
+    assert_eq!((ran.status, ran.err.as_str()), (0, ""));
+}
+
+#[test]
 fn check_report_and_page_warn_and_deny() {
     let text = altered(&["initial a"], &[]);
     for command in [

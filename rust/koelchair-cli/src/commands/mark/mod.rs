@@ -139,7 +139,11 @@ impl Class {
         let out = match (arguments.has("--json"), arguments.has("--csv")) {
             (true, _) => document("mark", json::fields(self)),
             (false, true) => csv::text(self),
-            (false, false) => terminal::text(self),
+            (false, false) => {
+                let pages = arguments.values("--page");
+                let said = pages.map(|folder| format!("Class page: {folder}/index.html\n"));
+                terminal::text(self) + &said.collect::<String>()
+            }
         };
         let mut printed = Printed::new(out);
         printed.told = self.told();

@@ -62,7 +62,7 @@ fn index(class: &Class) -> String {
     let body = format!(
         "<header><h1>{}</h1></header>\n<main class=\"class\">\n\
          <p class=\"note\">The ceiling is <strong>{ceiling}</strong>: what the course's model scores against itself. A drawing that \
-         reaches it is as good as the course's own. A name leads to the student's page.</p>\n{}\
+         reaches it is as good as the course's own; one above it has left out what the course is unsure of. A name leads to the student's page.</p>\n{}\
          <div class=\"scroll\" tabindex=\"0\" role=\"region\" aria-label=\"Marks\"><table>\n\
          <thead><tr><th scope=\"col\">Student</th><th scope=\"col\">Score</th><th scope=\"col\">Ceiling</th>{formulas}\
          <th scope=\"col\">Share {shared}</th><th scope=\"col\">Warnings, and why it is not higher</th></tr></thead>\n\
@@ -90,15 +90,17 @@ fn row(class: &Class, student: &Student) -> String {
         Ok(marked) => marked,
         Err(failure) => {
             let empty = "<td>-</td>".repeat(class.course.ceiling.formulas.len() + 1);
+            let short = text_with_code(&capital(&failure.short(&student.file)));
             let said = text(&failure.words(&[]));
+            let full = format!("<details><summary>In full</summary><pre>{said}</pre></details>");
             return format!(
-                "<tr class=\"broken\"><th scope=\"row\">{name}</th><td>-</td><td>not marked</td>{empty}<td><pre>{said}</pre></td></tr>\n"
+                "<tr class=\"broken\"><th scope=\"row\">{name}</th><td>-</td><td>not marked</td>{empty}<td><p>{short}.</p>{full}</td></tr>\n"
             );
         }
     };
     let stands = marked.stands(&class.course);
     let good = matches!(stands, "reached" | "above");
-    let ceiling = match good {
+    let ceiling = match stands == "reached" && marked.warnings.is_empty() {
         true => format!("<td class=\"reached\">{stands}</td>"),
         false => format!("<td>{stands}</td>"),
     };
@@ -117,12 +119,19 @@ fn remarks(marked: &Marked, good: bool) -> String {
         format!("<p class=\"warning\">Warning: {said}.</p>")
     };
     let warnings: String = marked.warnings.iter().map(warning).collect();
-    let sentence = |w: &String| format!("<p>{}</p>", text_with_code(w));
+    let sentence = |w: &String| format!("<p>{}</p>", text_with_code(&capital(w)));
     let why: String = marked.why.iter().map(sentence).collect();
     match why.is_empty() || !good {
         true => format!("{warnings}{why}"),
         false => format!("{warnings}<details><summary>Why it is not top</summary>{why}</details>"),
     }
+}
+
+/// A sentence that begins with a capital letter.
+fn capital(sentence: &str) -> String {
+    let mut letters = sentence.chars();
+    let first = letters.next().map(char::to_uppercase);
+    first.into_iter().flatten().chain(letters).collect()
 }
 
 /// A file's name as an address.
