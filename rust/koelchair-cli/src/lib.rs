@@ -26,6 +26,7 @@ pub mod listing;
 pub mod model;
 pub mod model_text;
 pub mod names;
+pub mod order_text;
 pub mod page;
 pub mod parse;
 pub mod print;

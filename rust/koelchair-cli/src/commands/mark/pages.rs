@@ -26,22 +26,10 @@ pub fn write(class: &Class, folder: &str) -> Result<(), Failure> {
                 warnings: &marked.warnings,
             };
             let html = page::html(&mut marked.again()?, &surroundings)?;
-            put(&file_name(&student.name), html)?;
+            put(&student.page(), html)?;
         }
     }
     put("index.html", index(class))
-}
-
-/// The file of a student's page.
-fn file_name(name: &str) -> String {
-    let safe = |c: char| {
-        if c.is_alphanumeric() || "-_.".contains(c) {
-            c
-        } else {
-            '_'
-        }
-    };
-    format!("{}.html", name.chars().map(safe).collect::<String>())
 }
 
 fn index(class: &Class) -> String {
@@ -106,7 +94,7 @@ fn row(class: &Class, student: &Student) -> String {
     };
     format!(
         "<tr><th scope=\"row\"><a href=\"{}\">{name}</a></th>{}<td>{}</td></tr>\n",
-        href(&file_name(&student.name)),
+        href(&student.page()),
         cells(class, &marked.marks, &ceiling),
         remarks(marked, good)
     )

@@ -49,6 +49,15 @@ impl Student {
         }
     }
 
+    /// The file of the student's page: the name, with `_` for signs that an address cannot have.
+    pub fn page(&self) -> String {
+        let safe = |c: char| match c.is_alphanumeric() || "-_.".contains(c) {
+            true => c,
+            false => '_',
+        };
+        self.name.chars().map(safe).chain(".html".chars()).collect()
+    }
+
     /// The warnings about the drawing.
     pub fn warnings(&self) -> &[Warning] {
         self.result.as_ref().map_or(&[], |m| &m.warnings)
@@ -147,16 +156,16 @@ fn model_1_alone(name: &str, letters: &str) -> Result<(), Failure> {
     }
 }
 
-/// Tells students apart whose files have the same name in different folders; `index` is the class page's.
+/// Tells students apart whose files have the same name in different folders, or whose pages would have; `index` is the class page's.
 pub fn tell_apart(students: &mut [Student]) {
-    let mut taken = vec!["index".to_string()];
+    let mut taken = vec!["index.html".to_string()];
     for student in students {
         let first = student.name.clone();
         let mut count = 1;
-        while taken.contains(&student.name) {
+        while taken.contains(&student.page()) {
             count += 1;
             student.name = format!("{first}-{count}");
         }
-        taken.push(student.name.clone());
+        taken.push(student.page());
     }
 }
