@@ -33,7 +33,8 @@ fn work_rows(
     from: State,
 ) -> bool
     requires { ⌜ Shaped (now m1) (now m2) (now whole) × Room (now m1) (now m2) (now other) × (from .0 < getD (now m1) 0 0) ⌝ }
-    ensures { λ r. ⌜ RestIn (now (t .entry)) l (now (m1 .entry)) (now (m2 .entry)) (now (whole .entry)) (from .0) (now (other .entry)) (now (other .exit)) r ⌝ }
+    ensures { λ r. ⌜ RestIn (now (t .entry)) l (now (m1 .entry)) (now (m2 .entry)) (now (whole .entry))
+        (from .0) (now (other .entry)) (now (other .exit)) r ⌝ }
 {
     let n1 = model::states(m1);
     let start = operations::index(from.0);
