@@ -1,9 +1,10 @@
-/* Koelchair's eight calls and its listing for C, C99 or later, and for C++. They stand in target/staticlib/libexports.a, which
-   `rt staticlib exports` proves and writes. The contracts are in crates/exports/src.
+/* Koelchair's eight calls, the rest of a round in one call, what a desk holds, and the listing, for C, C99 or later, and for C++. They stand in
+   target/staticlib/libexports.a, which `rt staticlib exports` proves and writes. The contracts are in crates/exports/src; how a case is
+   laid out byte for byte, and what the words used here mean, is said in docs/SPECIFICATION.md.
 
    A desk is a standing, a store and two tables. The caller keeps all four: the standing as a struct, the others as bytes. A new desk
-   is of any content, for instance zeros, and of KOELCHAIR_STORE_LENGTH and KOELCHAIR_TABLE_LENGTH bytes or more. koelchair_open and
-   koelchair_step give the standing after the call: pass it to the call that comes next, beside the buffers as the call left them.
+   is of any content, for instance zeros, and of KOELCHAIR_STORE_LENGTH and KOELCHAIR_TABLE_LENGTH bytes or more. koelchair_open,
+   koelchair_step and koelchair_finish_round give the standing after the call: pass it to the call that comes next, beside the buffers as the call left them.
    A refused call alters no buffer and gives the standing that it was passed.
 
    What the caller must see to, since no proof can:
@@ -27,12 +28,28 @@
 extern "C" {
 #endif
 
+/* ---- version: that of rust/Cargo.toml */
+
+#define KOELCHAIR_VERSION_MAJOR 0
+#define KOELCHAIR_VERSION_MINOR 1
+#define KOELCHAIR_VERSION_PATCH 0
+#define KOELCHAIR_VERSION "0.1.0"
+
 /* ---- sizes, in bytes */
 
 #define KOELCHAIR_STORE_LENGTH 24576   /* a store has at least as many */
 #define KOELCHAIR_TABLE_LENGTH 4096    /* a table has at least as many */
 #define KOELCHAIR_CASE_MOST 32768      /* a case has at most as many */
 #define KOELCHAIR_LISTING_LENGTH 16384 /* the text of koelchair_listing has exactly as many */
+
+/* ---- sizes of what a case holds: at most so many */
+
+#define KOELCHAIR_ELEMENTS_MOST 64     /* elements of the lattice */
+#define KOELCHAIR_STATES_MOST 64       /* states of a model */
+#define KOELCHAIR_PROPOSITIONS_MOST 16 /* propositions, the same in both models */
+#define KOELCHAIR_FORMULAS_MOST 8      /* formulas */
+#define KOELCHAIR_FORMULA_MOST 255     /* bytes of a formula */
+#define KOELCHAIR_BINDERS_MOST 3       /* binders of a formula that stand one within another */
 
 /* ---- kinds of answers */
 
@@ -45,23 +62,60 @@ extern "C" {
 #define KOELCHAIR_PER_CENT 6 /* value is 0 to 100 */
 #define KOELCHAIR_SAYS 7     /* value is 1 for yes, 0 for no */
 
-/* ---- numbers of refusals; the part is that of the case, or KOELCHAIR_NO_PART */
+/* ---- numbers of refusals; koelchair_refusal_words says what each means. The part is that of the case, or KOELCHAIR_NO_PART. */
 
-#define KOELCHAIR_REFUSED_CASE_SIZE 1        /* the case is empty or too long */
-#define KOELCHAIR_REFUSED_DIRECTORY 2        /* the count of parts is not 3 to 11, or the directory does not fit */
-#define KOELCHAIR_REFUSED_PART_PLACE 3       /* a part is empty, or starts or ends where it must not */
-#define KOELCHAIR_REFUSED_LATTICE_FORM 4     /* the lattice part has a wrong length or a byte out of range */
+#define KOELCHAIR_REFUSED_CASE_SIZE 1
+#define KOELCHAIR_REFUSED_DIRECTORY 2
+#define KOELCHAIR_REFUSED_PART_PLACE 3
+#define KOELCHAIR_REFUSED_LATTICE_FORM 4
 #define KOELCHAIR_REFUSED_NO_PARTIAL_ORDER 5
 #define KOELCHAIR_REFUSED_NO_MEET_OR_JOIN 6
 #define KOELCHAIR_REFUSED_NOT_DISTRIBUTIVE 7
-#define KOELCHAIR_REFUSED_COMPLEMENT 8       /* a complement rule is broken */
-#define KOELCHAIR_REFUSED_MODEL 9            /* a model part's length, a size or a value is wrong, or the models' counts of propositions differ */
-#define KOELCHAIR_REFUSED_FORMULA 10         /* a formula rule is broken */
-#define KOELCHAIR_REFUSED_SHORT_DESK 11      /* the store or a table is too short */
-#define KOELCHAIR_REFUSED_SPOILED_DESK 12    /* the desk breaks one of its rules, as a desk of zeros does */
-#define KOELCHAIR_REFUSED_OUT_OF_RANGE 13    /* a formula, model, state, element or table of the call is out of range */
+#define KOELCHAIR_REFUSED_BAD_COMPLEMENT 8
+#define KOELCHAIR_REFUSED_BAD_MODEL 9
+#define KOELCHAIR_REFUSED_BAD_FORMULA 10
+#define KOELCHAIR_REFUSED_SHORT_DESK 11
+#define KOELCHAIR_REFUSED_SPOILED_DESK 12
+#define KOELCHAIR_REFUSED_OUT_OF_RANGE 13
 
 #define KOELCHAIR_NO_PART 255
+
+/* What a refusal's number means, in words that name no part. The words are those of the table in rust/koelchair/src/refusal.rs. */
+static inline const char *koelchair_refusal_words(uint8_t number)
+{
+    switch (number) {
+    case KOELCHAIR_REFUSED_CASE_SIZE:
+        return "the case is empty or over 32,768 bytes";
+    case KOELCHAIR_REFUSED_DIRECTORY:
+        return "the count of parts is not 3 to 11, or the directory does not fit";
+    case KOELCHAIR_REFUSED_PART_PLACE:
+        return "the part is empty, overlaps what stands before it, or ends beyond the case";
+    case KOELCHAIR_REFUSED_LATTICE_FORM:
+        return "the lattice has over 64 elements, a wrong length, a complement that is no element, "
+               "or an order byte other than 0 and 1";
+    case KOELCHAIR_REFUSED_NO_PARTIAL_ORDER:
+        return "the order is no partial order";
+    case KOELCHAIR_REFUSED_NO_MEET_OR_JOIN:
+        return "two elements have no meet or no join";
+    case KOELCHAIR_REFUSED_NOT_DISTRIBUTIVE:
+        return "the lattice is not distributive";
+    case KOELCHAIR_REFUSED_BAD_COMPLEMENT:
+        return "a rule of the complement is broken";
+    case KOELCHAIR_REFUSED_BAD_MODEL:
+        return "the model has a wrong length, size, value or count of propositions";
+    case KOELCHAIR_REFUSED_BAD_FORMULA:
+        return "the formula breaks a rule";
+    case KOELCHAIR_REFUSED_SHORT_DESK:
+        return "the store or a table is too short";
+    case KOELCHAIR_REFUSED_SPOILED_DESK:
+        return "the desk breaks a rule";
+    case KOELCHAIR_REFUSED_OUT_OF_RANGE:
+        return "a formula, model, state or element is out of range, or the table to be judged is no "
+               "table of elements of this size";
+    default:
+        return "no refusal has this number";
+    }
+}
 
 /* ---- what the calls take and give */
 
@@ -77,12 +131,17 @@ typedef struct koelchair_standing {
     bool second_whole;
 } koelchair_standing;
 
-/* number and part are those of a refusal, value is as the kind says; where not named they are 0. */
+/* number and part are those of a refusal, value is as the kind says. A field that a kind does not name is 0 or false: byte, second, flag1
+   and flag2 are so in every answer of today. They are there so that a kind to come does not alter the layout. */
 typedef struct koelchair_answer {
     uint8_t kind;
     uint8_t number;
     uint8_t part;
+    uint8_t byte;
     uint32_t value;
+    uint32_t second;
+    bool flag1;
+    bool flag2;
 } koelchair_answer;
 
 /* The standing after the call, and its answer. */
@@ -96,6 +155,18 @@ typedef struct koelchair_shown {
     uint8_t table;
     size_t length;
 } koelchair_shown;
+
+/* What a desk holds: the elements of its lattice, the propositions that both models have, the states of each model, N1 and N2, and the
+   formulas. number and part are 0; where the desk is refused they are the refusal's, and all others are 0. */
+typedef struct koelchair_desk_sizes {
+    uint8_t number;
+    uint8_t part;
+    uint8_t elements;
+    uint8_t propositions;
+    uint8_t states1;
+    uint8_t states2;
+    uint8_t formulas;
+} koelchair_desk_sizes;
 
 /* ---- the calls that move the desk on */
 
@@ -114,6 +185,15 @@ koelchair_moved koelchair_step(koelchair_standing standing,
                                const uint8_t *store, size_t store_length,
                                uint8_t *first, size_t first_length,
                                uint8_t *second, size_t second_length);
+
+/* Works the rows of the round that are left: as many calls of koelchair_step as there are rows from the next one to the last, in one
+   call that checks the desk once, with the answer of the last of them. Writes these rows of the table that is not whole, nothing else.
+   Answers KOELCHAIR_ROUND or KOELCHAIR_SETTLED; a desk that koelchair_step refuses, and a settled one, is answered as by one step and
+   not altered. After koelchair_open, T of these calls settle the desk. */
+koelchair_moved koelchair_finish_round(koelchair_standing standing,
+                                       const uint8_t *store, size_t store_length,
+                                       uint8_t *first, size_t first_length,
+                                       uint8_t *second, size_t second_length);
 
 /* ---- the calls that read: they write nothing. Each reads the store and both tables. */
 
@@ -158,6 +238,16 @@ koelchair_answer koelchair_judge(koelchair_standing standing,
                                  const uint8_t *first, size_t first_length,
                                  const uint8_t *second, size_t second_length,
                                  const uint8_t *table, size_t table_length);
+
+/* ---- what a desk holds */
+
+/* The sizes of what the desk holds: elements, propositions, states and formulas. Reads the store and both tables; writes nothing. A desk
+   that every call but koelchair_open refuses has the number 11 or 12 and the part of that refusal, and zeros. It is none of the eight
+   calls: use it for a desk whose case is not at hand. */
+koelchair_desk_sizes koelchair_sizes(koelchair_standing standing,
+                                     const uint8_t *store, size_t store_length,
+                                     const uint8_t *first, size_t first_length,
+                                     const uint8_t *second, size_t second_length);
 
 /* ---- the listing */
 

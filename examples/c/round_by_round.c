@@ -25,32 +25,12 @@ struct desk {
 
 /* ---- refusals */
 
-static const char *refusal_in_words(uint8_t number)
-{
-    switch (number) {
-    case KOELCHAIR_REFUSED_CASE_SIZE: return "the case is empty or longer than 32,768 bytes";
-    case KOELCHAIR_REFUSED_DIRECTORY: return "the count of parts is not 3 to 11, or the directory does not fit";
-    case KOELCHAIR_REFUSED_PART_PLACE: return "the part is empty, or starts or ends where it must not";
-    case KOELCHAIR_REFUSED_LATTICE_FORM: return "the lattice part has a wrong length or a byte out of range";
-    case KOELCHAIR_REFUSED_NO_PARTIAL_ORDER: return "the order is no partial order";
-    case KOELCHAIR_REFUSED_NO_MEET_OR_JOIN: return "two elements have no meet or no join";
-    case KOELCHAIR_REFUSED_NOT_DISTRIBUTIVE: return "the lattice is not distributive";
-    case KOELCHAIR_REFUSED_COMPLEMENT: return "a complement rule is broken";
-    case KOELCHAIR_REFUSED_MODEL: return "the model's length, a size or a value is wrong, or the models' propositions differ";
-    case KOELCHAIR_REFUSED_FORMULA: return "a formula rule is broken";
-    case KOELCHAIR_REFUSED_SHORT_DESK: return "the store or a table is too short";
-    case KOELCHAIR_REFUSED_SPOILED_DESK: return "the desk breaks one of its rules";
-    case KOELCHAIR_REFUSED_OUT_OF_RANGE: return "an argument is out of range";
-    default: return "a number that the header does not have";
-    }
-}
-
 /* Ends the program where a call was refused. */
 static void unless_refused(const char *call, koelchair_answer answer)
 {
     if (answer.kind != KOELCHAIR_REFUSED)
         return;
-    printf("%s: refused %d %d: %s", call, answer.number, answer.part, refusal_in_words(answer.number));
+    printf("%s: refused %d %d: %s", call, answer.number, answer.part, koelchair_refusal_words(answer.number));
     if (answer.part != KOELCHAIR_NO_PART)
         printf(" (part %d of the case)", answer.part);
     printf("\n");
@@ -121,6 +101,17 @@ static bool print_formula(const struct desk *d, uint8_t formula, uint8_t model)
     return true;
 }
 
+/* Prints what the desk holds, or why it is refused. */
+static void print_sizes(const struct desk *d)
+{
+    koelchair_desk_sizes held = koelchair_sizes(LENT(d));
+    if (held.number != 0)
+        printf("the desk is refused %d %d: %s\n", held.number, held.part, koelchair_refusal_words(held.number));
+    else
+        printf("the desk holds %d elements, %d propositions, models of %d and %d states, %d formulas\n",
+               held.elements, held.propositions, held.states1, held.states2, held.formulas);
+}
+
 static void print_listing(const uint8_t *case_bytes, size_t case_length)
 {
     static uint8_t text[KOELCHAIR_LISTING_LENGTH];
@@ -139,10 +130,12 @@ int main(void)
         return 2;
     }
     print_listing(input, length);
+    print_sizes(&d);
     koelchair_moved opened = koelchair_open(d.standing, input, length, d.store, sizeof d.store, d.first, sizeof d.first, d.second, sizeof d.second);
     unless_refused("open", opened.answer);
     d.standing = opened.standing;
     printf("open: opened, a table of %d by %d entries\n", d.standing.states1, d.standing.states2);
+    print_sizes(&d);
     print_table(&d);
     while (!d.standing.settled)
         print_step(&d);

@@ -15,7 +15,14 @@
 
 #include "koelchair.h"
 
-enum { ELEMENTS = 64, STATES = 64, PROPOSITIONS = 16, FORMULAS = 8, FORMULA_LENGTH = 255, PARTS = 3 + FORMULAS };
+enum {
+    ELEMENTS = KOELCHAIR_ELEMENTS_MOST,
+    STATES = KOELCHAIR_STATES_MOST,
+    PROPOSITIONS = KOELCHAIR_PROPOSITIONS_MOST,
+    FORMULAS = KOELCHAIR_FORMULAS_MOST,
+    FORMULA_LENGTH = KOELCHAIR_FORMULA_MOST,
+    PARTS = 3 + FORMULAS
+};
 
 static uint8_t case_bytes[KOELCHAIR_CASE_MOST];
 static size_t case_length;
@@ -122,6 +129,8 @@ static void score(void) { answer = koelchair_score(LENT); }
 static void share(void) { answer = koelchair_share(LENT, 5); }
 static void judge(void) { answer = koelchair_judge(LENT, table, sizeof table); }
 
+static void sizes(void) { answer.kind = koelchair_sizes(LENT).number == 0 ? KOELCHAIR_OPENED : KOELCHAIR_REFUSED; }
+
 static void listing(void)
 {
     size_t length = koelchair_listing(case_bytes, case_length, text);
@@ -172,6 +181,7 @@ int main(void)
     printf("score %zu\n", taken(score));
     printf("share %zu\n", taken(share));
     printf("judge %zu\n", taken(judge));
+    printf("sizes %zu\n", taken(sizes));
     printf("listing %zu\n", taken(listing));
     return EXIT_SUCCESS;
 }

@@ -4,9 +4,10 @@
 --   held-show, held-score, held-share, held-judge, held-whole, held-value: each question answered
 --   share-outside, judge-long, judge-high, whole-outside, value-outside, value-state: each refused with 13
 use Prim.Native.Nat.{ℕ, _+_, _*_, _≤_, _<_}
-use mathlib.Core.Path.{_≡_, refl, ap, ap₂, _∙_}
+use mathlib.Core.Path.{_≡_, refl, ap, _∙_}
 use mathlib.Core.Bool.{Bool, true, false, cond, _&&_}
 use mathlib.Core.List.{List}
+use mathlib.Core.Option.{Option, none, some}
 use native.Mathlib.Omega.{arith}
 use borrow.Author.Tests.{ltb-true}
 use lib.Dec.{ltb, eqb}
@@ -14,7 +15,7 @@ use lib.ListN.{length, getD, take}
 use Rattle.theory.specs.Model.{Model}
 use Rattle.theory.specs.Part.{modelOf}
 use Rattle.theory.specs.Simulation.{share}
-use Rattle.theory.specs.TestLaws.{and-l, and-r, and-in, cond-true, cond-false}
+use Rattle.theory.specs.TestLaws.{and-l, and-r, cond-true, cond-false}
 use Rattle.formula.specs.Bytes.{read, formulaReading}
 use Rattle.casefile.specs.declared.Sizes.{Sizes}
 use Rattle.casefile.specs.Directory.{partCount, partAt}
@@ -29,6 +30,7 @@ use Rattle.desk.specs.View.{shownTable}
 use Rattle.desk.specs.CaseParts.{Valuable, model-part, formula-part, parts-valuable}
 use Rattle.operations.specs.declared.Lattice.{Lattice}
 use Rattle.desk.specs.Refused.{tableKept, isModel, numberReply}
+use Rattle.refusal.specs.declared.Refusal.{Refusal}
 use Rattle.refusal.specs.declared.Refusal.the-variants.{OutOfRange}
 use Rattle.examination.specs.Answer.{Does}
 use Rattle.examination.specs.Held.{HeldDesk, few, held-shown, held-question, held-outside}
@@ -48,6 +50,14 @@ caseSimulation t l b table = simulationIn t l (partAt b 1) (partAt b 2) table
 
 abbrev pub rangeTest : ℕ → ℕ → ℕ → Bool
 rangeTest f m formulas = ltb f formulas && isModel m
+
+-- the first two conditions of value and whole, which the code tests together: both give 13
+range-first : (f m formulas : ℕ) (rest : Option Refusal) → cond (ltb f formulas) (cond (isModel m) rest (some OutOfRange)) (some OutOfRange) ≡ cond (rangeTest f m formulas) rest (some OutOfRange)
+range-first f m formulas rest = go (ltb f formulas)
+  where
+    go : (x : Bool) → cond x (cond (isModel m) rest (some OutOfRange)) (some OutOfRange) ≡ cond (x && isModel m) rest (some OutOfRange)
+    go true = refl
+    go false = refl
 
 module _ {d : Desk} {z : Sizes} {t : List ℕ} (h : HeldDesk d z t) where
   abbrev bytes : List ℕ
@@ -91,7 +101,7 @@ module _ {d : Desk} {z : Sizes} {t : List ℕ} (h : HeldDesk d z t) where
       let bytes-are = byte-at (ops c) (model1 c) (model2 c) (operator c) (wholeTable d) (shownTable c d) (λ q₁ l q₂ k. refl) (h .case .sound .shape2 .some) in
       let by-bytes : x ≡ share (ops c) (tableSize c) (λ i. getD (wholeTable d) i 0) e = rw (m, h .case .tables, p, h .case .sizes) at (f ∙ shareIn-is t (z .lattice) e w n) in
       let r' : ltb e (latticeSize c) ≡ true = rw (h .case .sizes) at r in
-      rw (by-bytes ∙ share-cong (ops c) (tableSize c) _ (entryAt c (shownTable c d)) e bytes-are) (held-question h (Question.Share e) (cond-true _ _ _ r'))
+      rw (by-bytes ∙ share-cong (ops c) (tableSize c) _ (entryAt c (shownTable c d)) e bytes-are) (held-question h (Question.Share e) (rw r'))
 
   pub share-outside : (e : ℕ) → ltb e (z .lattice .size) ≡ false → Does (Call.Ask (Question.Share e)) d (numberReply OutOfRange) d
   share-outside e r =
@@ -137,12 +147,12 @@ module _ {d : Desk} {z : Sizes} {t : List ℕ} (h : HeldDesk d z t) where
   pub held-whole : (f m x : ℕ) → rangeTest f m (z .formulas) ≡ true → WholeValue t (z .lattice) (partAt bytes m) (partAt bytes (3 + f)) x → Does (Call.Ask (Question.Whole f m)) d (Reply.Element x) d
   held-whole f m x r v =
       let r' : rangeTest f m (length (h .case .holds .formulas)) ≡ true = rw (h .case .sizes) at r in
-      rw (rw (model-is f m r, h .case .tables) at (v .is (formulaIn (h .case .holds) f) (formula-is f m r))) (held-question h (Question.Whole f m) (cond-true _ _ _ r'))
+      rw (rw (model-is f m r, h .case .tables) at (v .is (formulaIn (h .case .holds) f) (formula-is f m r))) (held-question h (Question.Whole f m) (range-first f m _ none ∙ cond-true _ _ _ r'))
 
   pub whole-outside : (f m : ℕ) → rangeTest f m (z .formulas) ≡ false → Does (Call.Ask (Question.Whole f m)) d (numberReply OutOfRange) d
   whole-outside f m r =
       let r' : rangeTest f m (length (h .case .holds .formulas)) ≡ false = rw (h .case .sizes) at r in
-      held-outside h (Question.Whole f m) OutOfRange (cond-false _ _ _ r')
+      held-outside h (Question.Whole f m) OutOfRange (range-first f m _ none ∙ cond-false _ _ _ r')
 
   states-are : (f m : ℕ) → rangeTest f m (z .formulas) ≡ true → getD (partAt bytes m) 0 0 ≡ modelIn (h .case .holds) m .states
   states-are f m r = ap (λ (M : Model ℕ). M .states) (model-is f m r)
@@ -152,15 +162,15 @@ module _ {d : Desk} {z : Sizes} {t : List ℕ} (h : HeldDesk d z t) where
       let r' : rangeTest f m (length (h .case .holds .formulas)) ≡ true = rw (h .case .sizes) at r in
       let s' : ltb q (modelIn (h .case .holds) m .states) ≡ true = rw (states-are f m r) at s in
       rw (rw (model-is f m r, h .case .tables) at (v .is (formulaIn (h .case .holds) f) (formula-is f m r)))
-      (held-question h (Question.Value f m q) (cond-true _ _ _ (and-in (rangeTest f m (length (h .case .holds .formulas))) (ltb q (modelIn (h .case .holds) m .states)) r' s')))
+      (held-question h (Question.Value f m q) (range-first f m _ _ ∙ cond-true _ _ _ r' ∙ cond-true _ _ _ s'))
 
   pub value-outside : (f m q : ℕ) → rangeTest f m (z .formulas) ≡ false → Does (Call.Ask (Question.Value f m q)) d (numberReply OutOfRange) d
   value-outside f m q r =
       let r' : rangeTest f m (length (h .case .holds .formulas)) ≡ false = rw (h .case .sizes) at r in
-      held-outside h (Question.Value f m q) OutOfRange (cond-false _ _ _ (ap (λ (b : Bool). b && ltb q (modelIn (h .case .holds) m .states)) r'))
+      held-outside h (Question.Value f m q) OutOfRange (range-first f m _ _ ∙ cond-false _ _ _ r')
 
   pub value-state : (f m q : ℕ) → rangeTest f m (z .formulas) ≡ true → ltb q (getD (partAt bytes m) 0 0) ≡ false → Does (Call.Ask (Question.Value f m q)) d (numberReply OutOfRange) d
   value-state f m q r s =
       let r' : rangeTest f m (length (h .case .holds .formulas)) ≡ true = rw (h .case .sizes) at r in
       let s' : ltb q (modelIn (h .case .holds) m .states) ≡ false = rw (states-are f m r) at s in
-      held-outside h (Question.Value f m q) OutOfRange (cond-false _ _ _ (ap₂ _&&_ r' s'))
+      held-outside h (Question.Value f m q) OutOfRange (range-first f m _ _ ∙ cond-true _ _ _ r' ∙ cond-false _ _ _ s')

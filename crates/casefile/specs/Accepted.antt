@@ -2,14 +2,14 @@
 -- Rests on Reading, Placed, Laid and FormulaParts.
 --   Accepted, accepted-case: what holds of a case that is accepted with a content
 --   case-exactly: a case is accepted exactly when its parts stand where they may, are those of the content, and pass their tests
---   ContentOf, content-of, refused-content: the content of parts that are read
+--   ContentOf, content-of: the content of parts that are read
 --   part-length, parts-length, parts-four: the parts of a placed case
 --   gapless-most, written-most: the gapless form has at most 16,618 bytes
 --   gapless-reads, store-reads, written-reads: it is read as the same content, in a store too
 --   content-unique, same-gapless: the same parts give the same content and the same gapless form
 use Prim.Native.Nat.{ℕ, zero, suc, _+_, _*_, _-_, _≤_, _<_}
 use mathlib.Core.Path.{_≡_, refl, sym, ap, _∙_}
-use mathlib.Core.Bool.{Bool, true, false, cond, _&&_, _||_}
+use mathlib.Core.Bool.{Bool, true, false, _||_}
 use mathlib.Core.Logic.{_↔_}
 use mathlib.Core.List.{List, [], _∷_, _++_}
 use native.Mathlib.Omega.{arith}
@@ -21,16 +21,17 @@ use Rattle.theory.specs.Formula.{Formula}
 use Rattle.theory.specs.Lattice.{All}
 use Rattle.theory.specs.Part.{LatticePart, ModelShape}
 use Rattle.theory.specs.TestLaws.{and-l, and-r}
-use Rattle.refusal.specs.declared.Refusal.{Refusal}
-use Rattle.refusal.specs.declared.Refusal.the-variants.{LatticeForm, BadModel}
+use Rattle.refusal.specs.declared.Refusal.the-variants.{LatticeForm}
 use Rattle.lattice.specs.Reading.{LatticeReading, latticeReading, latticeOf, latticeForm, isPanel, explicitForm, partReading, require}
-use Rattle.lattice.specs.Accepted.{explicit-out}
+use Rattle.lattice.specs.Numbered.{explicit-out}
 use Rattle.model.specs.Places.{prod-le}
 use Rattle.model.specs.Reading.{modelTest}
 use Rattle.model.specs.Accepted.{accepted-shape}
 use Rattle.formula.specs.RoundTrip.{formula-part}
 use Rattle.casefile.specs.Directory.{partCount, partSize, partAt, partsFrom, partsOf}
 use Rattle.casefile.specs.Reading.{Content, contentParts, FormulasReading, formulasReading, afterFormulas, modelsReading, afterLattice, partsReading, caseReading, storeReading, refused, content, refusedAt, read}
+use Rattle.casefile.specs.ModelsRead.{past-models}
+pub use Rattle.casefile.specs.ModelsRead.{refused-content}
 use Rattle.casefile.specs.Gapless.{joined, gapless}
 use Rattle.casefile.specs.Placed.{placed-reading, accepted-placed}
 use Rattle.casefile.specs.Conditions.{Placed, FormulasRead, PartsRead}
@@ -42,9 +43,6 @@ pub record ContentOf (l m1 m2 : List ℕ) (fs : List (List ℕ)) (c : Content) :
   pub is : contentParts c ≡ l ∷ m1 ∷ m2 ∷ fs
   pub reads : PartsRead c
 
-pub refused-content : {r : Refusal} {c : Content} → refused r ≡ content c → ⊥
-refused-content e = let z : _≡_ {A = ℕ} 0 1 = cc in omega arith
-
 module _ (l m1 m2 : List ℕ) (fs : List (List ℕ)) (c : Content) where
   from-formulas : (P : LatticePart) (x : FormulasReading) → latticeReading l ≡ LatticeReading.accepted P → modelTest (P .size) m1 ≡ true → modelTest (P .size) m2 ≡ true → getD m1 1 0 ≡ getD m2 1 0 → formulasReading (getD m1 1 0) 3 fs ≡ x → afterFormulas l P m1 m2 fs x ≡ content c → ContentOf l m1 m2 fs c
   from-formulas P (refusedAt i) a s t k f e = absurd (refused-content e)
@@ -53,13 +51,11 @@ module _ (l m1 m2 : List ℕ) (fs : List (List ℕ)) (c : Content) where
       rw (← q) (record { is = refl; reads = record { lattice-read = a; model1-read = s; model2-read = t; same-propositions = k; formulas-read = f } })
 
   from-models : (P : LatticePart) → latticeReading l ≡ LatticeReading.accepted P → modelsReading l P m1 m2 fs ≡ content c → ContentOf l m1 m2 fs c
-  unfolding modelsReading
-  from-models P a e = go (modelTest (P .size) m1) refl (modelTest (P .size) m2 && eqb (getD m1 1 0) (getD m2 1 0)) refl e
-    where
-      go : (s : Bool) → modelTest (P .size) m1 ≡ s → (t : Bool) → (modelTest (P .size) m2 && eqb (getD m1 1 0) (getD m2 1 0)) ≡ t → cond s (cond t (afterFormulas l P m1 m2 fs (formulasReading (getD m1 1 0) 3 fs)) (refused (BadModel 2))) (refused (BadModel 1)) ≡ content c → ContentOf l m1 m2 fs c
-      go false s t u x = absurd (refused-content x)
-      go true s false u x = absurd (refused-content x)
-      go true s true u x = from-formulas P (formulasReading (getD m1 1 0) 3 fs) a s (and-l (modelTest (P .size) m2) _ u) (eqb-true _ _ (and-r (modelTest (P .size) m2) (eqb (getD m1 1 0) (getD m2 1 0)) u)) refl x
+  from-models P a e =
+      let w = past-models l P m1 m2 fs (content c) (λ i. refused-content) .0 e in
+      let t = w .1 .0 in
+      from-formulas P (formulasReading (getD m1 1 0) 3 fs) a (w .0) (and-l (modelTest (P .size) m2) _ t)
+      (eqb-true _ _ (and-r (modelTest (P .size) m2) (eqb (getD m1 1 0) (getD m2 1 0)) t)) refl (w .1 .1)
 
   from-lattice : (x : LatticeReading) → latticeReading l ≡ x → afterLattice l x m1 m2 fs ≡ content c → ContentOf l m1 m2 fs c
   from-lattice (LatticeReading.refused r) a e = absurd (refused-content e)

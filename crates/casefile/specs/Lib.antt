@@ -5,8 +5,12 @@ pub mod Reading  -- the content of a case, or its refusal
 pub mod Gapless  -- the gapless case of a list of parts
 pub mod Answer  -- what the check of a case answers
 pub mod Conditions  -- what a case has to be, and what functions on an accepted case ask for
+pub mod RefusedAs  -- which refusal a case is given, 1 to 10, and exactly when
 -- ---- theorems
 pub mod Placed  -- a case whose parts stand where they may
+pub mod ModelsRead  -- what comes of the models: refusal 9, or the formulas
+pub mod FirstParts  -- the parts that refusals 3 and 10 name
+pub mod Numbered  -- the refusals 1 to 10 are given so
 pub mod Unread  -- bytes outside the directory and the parts change nothing
 pub mod Laid  -- a gapless case is read as its parts
 pub mod FormulaParts  -- which parts are read as which formulas

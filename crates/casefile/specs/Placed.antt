@@ -1,7 +1,7 @@
 -- What holds of a case whose size, directory and places are right. Rests on Directory and Reading.
 --   placed-reading, accepted-placed: a placed case is read part by part, and an accepted case is placed
 --   parts-apart, parts-sorted: a part ends before every later one starts
---   part-placed, placed-part, has-directory, none-misplaced, all-placed, misplaced-is: the tests as statements
+--   part-placed, placed-part, has-directory, directory-in, none-misplaced, all-placed, misplaced-is: the tests as statements
 --   part-of: part i of the list of parts
 use Prim.Native.Nat.{ℕ, zero, suc, _+_, _-_, _≤_, _<_}
 use mathlib.Core.Path.{_≡_, refl, sym, ap, _∙_}
@@ -45,6 +45,12 @@ has-directory b s d =
       directory-within = leb-true _ _ (and-r (leb 3 (partCount b) && leb (partCount b) 11) (leb (directoryEnd b) (length b)) d);
     }
 
+pub directory-in : (b : List ℕ) → HasDirectory b → (sizeTest b ≡ true) × (directoryTest b ≡ true)
+directory-in b d = (
+  simp (lt-ltb 0 (length b) (omega arith), le-leb _ _ (d .size-most)),
+  simp (le-leb _ _ (d .count-least), le-leb _ _ (d .count-most), le-leb _ _ (d .directory-within)),
+)
+
 -- no part is misplaced exactly where all are placed
 pub none-misplaced : (b : List ℕ) → ltb (misplaced b) (partCount b) ≡ false → (i : ℕ) → i < partCount b → PartPlaced b i
 unfolding misplaced
@@ -66,10 +72,9 @@ misplaced-is b h =
 pub placed-reading : (b : List ℕ) → Placed b → caseReading b ≡ partsReading (partAt b 0) (partAt b 1) (partAt b 2) (partsFrom b 3 (partCount b - 3))
 unfolding caseReading
 placed-reading b p =
-    let s : sizeTest b ≡ true = simp (lt-ltb 0 (length b) (omega arith), le-leb _ _ (p .directory .size-most)) in
-    let d : directoryTest b ≡ true = simp (le-leb _ _ (p .directory .count-least), le-leb _ _ (p .directory .count-most), le-leb _ _ (p .directory .directory-within)) in
+    let d = directory-in b (p .directory) in
     let m : ltb (misplaced b) (partCount b) ≡ false = le-ltb (misplaced b) (partCount b) (omega (arith, misplaced-is b (p .each))) in
-    simp (s, d, m)
+    simp (d .0, d .1, m)
 
 -- an accepted case is placed
 pub accepted-placed : (b : List ℕ) (c : Content) → caseReading b ≡ content c → Placed b

@@ -1,167 +1,48 @@
--- Demand 1, of every call on every desk. What a case is refused for, and in which order, is casefile's `caseReading`. Rests on Refused, Perform,
--- casefile's Conditions, and for the proof on RefusedLaws and casefile's Exactly.
+-- Demand 1, of every call on every desk; that it holds is `demand1` (Demand1Holds). Rests on Refused, Perform, casefile's Conditions and RefusedAs.
 --   Demand1: the demand. A refusal alters nothing, and what it answers: alters-nothing, lent-kept, numbered, show-refused
---     which refusal is given, and exactly when: at-11, at-1-to-10, numbers, at-12, after-12, ranges, only
+--     which refusal is given, and exactly when: at-11, refused-as (1 to 10, a field for each), at-12, after-12, ranges, only
 --     every other input is accepted: case-accepted, open-accepted, other-accepted
---   InStore: a content in the store, and what comes of the call's own tests there
---   demand1: the demand holds of every call on every desk; at-13, only-13: what it says of 13
-use Prim.Native.Nat.{ℕ, _≤_, _<_}
-use mathlib.Core.Path.{_≡_, refl, sym, ap, _∙_}
+--   InStore: a content in the store, and the refusal of the call's own conditions there, if one is broken
+use Prim.Native.Nat.{ℕ, _<_}
+use mathlib.Core.Path.{_≡_}
 use mathlib.Core.Bool.{true, false}
-use mathlib.Core.Logic.{_↔_, _⊎_, inl, inr, ⊎-elim}
+use mathlib.Core.Logic.{_↔_, _⊎_}
 use mathlib.Core.List.{List, []}
-use native.Mathlib.Omega.{arith}
-use Rattle.theory.specs.TestLaws.{false-true, not-failed}
+use mathlib.Core.Option.{Option, none, some}
 use Rattle.refusal.specs.declared.Refusal.{Refusal}
-use Rattle.refusal.specs.declared.Refusal.the-variants.{ShortDesk, SpoiledDesk, OutOfRange}
+use Rattle.refusal.specs.declared.Refusal.the-variants.{ShortDesk, SpoiledDesk}
 use Rattle.refusal.specs.Number.{numberOf, partOf}
 use Rattle.casefile.specs.Reading.{Content, refused, content, caseReading}
 use Rattle.casefile.specs.Conditions.{CaseOf}
-use Rattle.casefile.specs.Accepted.{refused-content}
-use Rattle.casefile.specs.Exactly.{content-exactly}
-use Rattle.desk.specs.Desk.{Desk, Question, Call, Reply, isOpen, isShow, lentBy}
+use Rattle.casefile.specs.RefusedAs.{RefusedAs}
+use Rattle.desk.specs.Desk.{Desk, Question, Call, Reply, isOpen, isShow, callLentBuffers}
 use Rattle.desk.specs.View.{View, viewOf}
-use Rattle.desk.specs.Refused.{short, Rules, tests, InRange, OneOf, Verdict, passed, fails, verdict, callVerdict, callRefusals, refusals, examined, accepted, refusedReply}
+use Rattle.desk.specs.Refused.{short, Rules, conditions, callConditions, InRange, refusalsOf, OneOf, firstRefusal, examined, accepted}
 use Rattle.desk.specs.Perform.{perform}
-use Rattle.desk.specs.RefusedLaws.{perform-refused, is-short, open-long, in-store, open-accepted, other-accepted, Outcome, too-short, broken, outside, inside, outcome, opens-or-not, accepted-content, content-accepted}
-use Rattle.desk.specs.RulesLaws.{range-exactly, verdict-one, verdict-late}
-use Rattle.desk.specs.CaseNumbers.{case-number}
 
--- a content whose rules the desk keeps, and x comes of the call's own tests there
-abbrev pub InStore : Call → Desk → Verdict → Type 0
-InStore k d x = (c : Content) × Rules d c × (callVerdict k (viewOf c d) ≡ x)
+-- a content whose rules the desk keeps, and x is the refusal of the call's own conditions there, if one is broken
+abbrev pub InStore : Call → Desk → Option Refusal → Type 0
+InStore k d x = (c : Content) × Rules d c × (firstRefusal (callConditions k) (viewOf c d) ≡ x)
 
 pub record Demand1 (k : Call) (d : Desk) : Type 0 where
   -- 'a refusal alters nothing'
   pub alters-nothing : (r : Refusal) → examined k d ≡ refused r → perform k d .desk ≡ d
-  pub lent-kept : (r : Refusal) → examined k d ≡ refused r → perform k d .lent ≡ lentBy k
+  pub lent-kept : (r : Refusal) → examined k d ≡ refused r → perform k d .lent ≡ callLentBuffers k
   -- it gives number and part; 'A refused show returns an empty part and no refusal number.'
   pub numbered : (r : Refusal) → isShow k ≡ false → examined k d ≡ refused r → perform k d .reply ≡ Reply.Refused (numberOf r) (partOf r)
   pub show-refused : (r : Refusal) → isShow k ≡ true → examined k d ≡ refused r → perform k d .reply ≡ Reply.Shown []
   -- 11 is given exactly when 'the store or a table is shorter than above'
   pub at-11 : (examined k d ≡ refused ShortDesk) ↔ (short d ≡ true)
-  -- else open is refused for what its case is refused for, 1 to 10
-  pub at-1-to-10 : (b : List ℕ) → k ≡ Call.Open b → short d ≡ false → examined k d ≡ caseReading b
-  pub numbers : (b : List ℕ) (r : Refusal) → caseReading b ≡ refused r → (1 ≤ numberOf r) × (numberOf r ≤ 10)
-  -- the other calls get 12 'when, and only when, one of these is broken', then the refusal of their first test that is not passed, among
+  -- else open answers 1 to 10 with its part, each exactly when its row of the table applies to the case and no earlier one does
+  pub refused-as : (b : List ℕ) → k ≡ Call.Open b → short d ≡ false → RefusedAs (λ n p. perform k d .reply ≡ Reply.Refused n p) b
+  -- the other calls get 12 'when, and only when, one of these is broken', then the refusal of their first condition that is broken, among
   -- them 13, and nothing else
   pub at-12 : isOpen k ≡ false → (examined k d ≡ refused SpoiledDesk) ↔ ((short d ≡ false) × ((c : Content) → ¬ Rules d c))
-  pub after-12 : isOpen k ≡ false → (r : Refusal) → 12 < numberOf r → (examined k d ≡ refused r) ↔ ((short d ≡ false) × InStore k d (fails r))
-  pub ranges : (q : Question) (v : View) → (verdict (tests q v) ≡ passed) ↔ InRange q v
-  pub only : isOpen k ≡ false → (r : Refusal) → examined k d ≡ refused r → (r ≡ ShortDesk) ⊎ ((r ≡ SpoiledDesk) ⊎ OneOf r (callRefusals k))
+  pub after-12 : isOpen k ≡ false → (r : Refusal) → 12 < numberOf r → (examined k d ≡ refused r) ↔ ((short d ≡ false) × InStore k d (some r))
+  pub ranges : (q : Question) (v : View) → (firstRefusal (conditions q) v ≡ none) ↔ InRange q v
+  pub only : isOpen k ≡ false → (r : Refusal) → examined k d ≡ refused r → (r ≡ ShortDesk) ⊎ ((r ≡ SpoiledDesk) ⊎ OneOf r (refusalsOf (callConditions k)))
   -- 'Every input to which no numbered refusal of its call applies is accepted': a case exactly when its directory, lattice, models and
   -- formulas are as document 01 wants them
   pub case-accepted : (b : List ℕ) (c : Content) → (caseReading b ≡ content c) ↔ CaseOf b c
   pub open-accepted : (b : List ℕ) → k ≡ Call.Open b → (accepted k d ≡ true) ↔ ((short d ≡ false) × ((c : Content) × CaseOf b c))
-  pub other-accepted : isOpen k ≡ false → (accepted k d ≡ true) ↔ ((short d ≡ false) × InStore k d passed)
-
--- ---- the proof
-
-refused-numbered : (k : Call) (r : Refusal) → isShow k ≡ false → refusedReply k r ≡ Reply.Refused (numberOf r) (partOf r)
-refused-numbered (Call.Open b) r e = refl
-refused-numbered Call.Step r e = refl
-refused-numbered Call.Show r e = absurd (false-true e refl)
-refused-numbered (Call.Ask q) r e = refl
-
-refused-shown : (k : Call) (r : Refusal) → isShow k ≡ true → refusedReply k r ≡ Reply.Shown []
-refused-shown (Call.Open b) r e = absurd (false-true refl e)
-refused-shown Call.Step r e = absurd (false-true refl e)
-refused-shown Call.Show r e = refl
-refused-shown (Call.Ask q) r e = absurd (false-true refl e)
-
-module _ (k : Call) (d : Desk) where
-  -- one call gets one number
-  same-number : (f g : Refusal) → examined k d ≡ refused f → examined k d ≡ refused g → numberOf f ≡ numberOf g
-  same-number f g p q = let e : f ≡ g = cc in ap numberOf e
-
-  short-other : examined k d ≡ refused ShortDesk → Outcome k d → short d ≡ true
-  short-other e (too-short s p) = s
-  short-other e (broken s n p) = absurd (omega (arith, same-number SpoiledDesk ShortDesk p e))
-  short-other e (outside c u r i p) = absurd (omega (arith, same-number r ShortDesk p e, verdict-late k (viewOf c d) r i))
-  short-other e (inside c u i p) = absurd (refused-content (sym e ∙ p))
-
-  -- no case is refused with 11
-  short-only : examined k d ≡ refused ShortDesk → short d ≡ true
-  short-only e = ⊎-elim opens (λ o. short-other e (outcome k d o)) (opens-or-not k)
-    where
-      opens : (b : List ℕ) × (k ≡ Call.Open b) → short d ≡ true
-      opens (b, q) =
-          not-failed (short d)
-          (λ s. omega (arith, case-number b ShortDesk (sym (open-long b d s) ∙ ap (λ (x : Call). examined x d) (sym q) ∙ e) .1))
-
-  spoiled-only : examined k d ≡ refused SpoiledDesk → Outcome k d → (short d ≡ false) × ((c : Content) → ¬ Rules d c)
-  spoiled-only e (too-short s p) = absurd (omega (arith, same-number ShortDesk SpoiledDesk p e))
-  spoiled-only e (broken s n p) = (s, n)
-  spoiled-only e (outside c u r i p) = absurd (omega (arith, same-number r SpoiledDesk p e, verdict-late k (viewOf c d) r i))
-  spoiled-only e (inside c u i p) = absurd (refused-content (sym e ∙ p))
-
-  spoiled-so : short d ≡ false → ((c : Content) → ¬ Rules d c) → Outcome k d → examined k d ≡ refused SpoiledDesk
-  spoiled-so l w (too-short s p) = absurd (false-true l s)
-  spoiled-so l w (broken s n p) = p
-  spoiled-so l w (outside c u r i p) = absurd (w c (u .rules))
-  spoiled-so l w (inside c u i p) = absurd (w c (u .rules))
-
-  tests-only : (f : Refusal) → 12 < numberOf f → examined k d ≡ refused f → Outcome k d → (short d ≡ false) × InStore k d (fails f)
-  tests-only f l e (too-short s p) = absurd (omega (arith, same-number ShortDesk f p e))
-  tests-only f l e (broken s n p) = absurd (omega (arith, same-number SpoiledDesk f p e))
-  tests-only f l e (outside c u r i p) = let q : r ≡ f = cc in (u .long, (c, u .rules, i ∙ ap fails q))
-  tests-only f l e (inside c u i p) = absurd (refused-content (sym e ∙ p))
-
-  others : (r : Refusal) → examined k d ≡ refused r → Outcome k d → (r ≡ ShortDesk) ⊎ ((r ≡ SpoiledDesk) ⊎ OneOf r (callRefusals k))
-  others r e (too-short s p) = inl (cc)
-  others r e (broken s n p) = inr (inl (cc))
-  others r e (outside c u f i p) = let q : f ≡ r = cc in inr (inr (verdict-one k (viewOf c d) r (i ∙ ap fails q)))
-  others r e (inside c u i p) = absurd (refused-content (sym e ∙ p))
-
-  pub demand1 : Demand1 k d
-  demand1 =
-      record {
-        alters-nothing = λ r e. ap (λ x. x .desk) (perform-refused k d r e);
-        lent-kept = λ r e. ap (λ x. x .lent) (perform-refused k d r e);
-        numbered = λ r s e. ap (λ x. x .reply) (perform-refused k d r e) ∙ refused-numbered k r s;
-        show-refused = λ r s e. ap (λ x. x .reply) (perform-refused k d r e) ∙ refused-shown k r s;
-        at-11 = (short-only, is-short k d);
-        at-1-to-10 = λ b q s. ap (λ (x : Call). examined x d) q ∙ open-long b d s;
-        numbers = case-number;
-        at-12 = λ o. (λ e. spoiled-only e (outcome k d o), λ w. spoiled-so (w .0) (w .1) (outcome k d o));
-        after-12 = λ o r l. (λ e. tests-only r l e (outcome k d o), λ w. in-store k d (w .1 .0) o (record { long = w .0; rules = w .1 .1 }) ∙ rw (w .1 .2));
-        ranges = range-exactly;
-        only = λ o r e. others r e (outcome k d o);
-        case-accepted = content-exactly;
-        open-accepted = λ b q. (
-          λ a.
-              let w = accepted-content k d a in
-              let v = open-accepted b d (w .0) (ap (λ (x : Call). examined x d) (sym q) ∙ w .1) in
-              (v .long, (w .0, content-exactly b (w .0) .0 (v .reads))),
-          λ w. content-accepted k d (w .1 .0) (ap (λ (x : Call). examined x d) q ∙ open-long b d (w .0) ∙ content-exactly b (w .1 .0) .1 (w .1 .1)),
-        );
-        other-accepted = λ o. (
-          λ a. let w = accepted-content k d a in let v = other-accepted k d (w .0) o (w .1) in (v .held .long, (w .0, v .held .rules, v .range)),
-          λ w. content-accepted k d (w .1 .0) (in-store k d (w .1 .0) o (record { long = w .0; rules = w .1 .1 }) ∙ rw (w .1 .2)),
-        );
-      }
-
-  -- ---- 13 among the refusals after 12
-
-  pub at-13 : isOpen k ≡ false → (examined k d ≡ refused OutOfRange) ↔ ((short d ≡ false) × InStore k d (fails OutOfRange))
-  at-13 o = demand1 .after-12 o OutOfRange (omega arith)
-
-  -- no call has another after 12
-  pub only-13 : isOpen k ≡ false → (r : Refusal) → examined k d ≡ refused r → (r ≡ ShortDesk) ⊎ ((r ≡ SpoiledDesk) ⊎ (r ≡ OutOfRange))
-  only-13 o r e = ⊎-elim (λ p. inl p) (λ q. ⊎-elim (λ p. inr (inl p)) (λ p. inr (inr (call-13 k p))) q) (demand1 .only o r e)
-    where
-      one-13 : (r ≡ OutOfRange) ⊎ ⊥ → r ≡ OutOfRange
-      one-13 x = ⊎-elim (λ p. p) (λ p. absurd p) x
-
-      question-13 : (q : Question) → OneOf r (refusals q) → r ≡ OutOfRange
-      question-13 Question.Score x = absurd x
-      question-13 (Question.Value f m q) x = one-13 x
-      question-13 (Question.Whole f m) x = one-13 x
-      question-13 (Question.Share l) x = one-13 x
-      question-13 (Question.Judge t) x = one-13 x
-
-      call-13 : (x : Call) → OneOf r (callRefusals x) → r ≡ OutOfRange
-      call-13 (Call.Open b) x = absurd x
-      call-13 Call.Step x = absurd x
-      call-13 Call.Show x = absurd x
-      call-13 (Call.Ask q) x = question-13 q x
+  pub other-accepted : isOpen k ≡ false → (accepted k d ≡ true) ↔ ((short d ≡ false) × InStore k d none)

@@ -1,4 +1,4 @@
--- Demand 2, of the desk after every list of calls with an accepted opening in it. Rests on Run, and for the proof on Demand3, Listed,
+-- Demand 2, of the desk after every list of calls with an accepted opening in it. Rests on Run, and for the proof on Demand3Holds, Listed,
 -- RefusedLaws, theory's Rounds and Fixpoint.
 --   Demand2: the settled table is the greatest latticed simulation (settled-table), and values are those of the latticed mu-calculus: what the
 --     calls answer (values, wholes), that there is this calculus (calculus-is), and every closed formula's values (values-are)
@@ -32,7 +32,7 @@ use Rattle.desk.specs.Run.{run, LastOpening, answersSince, roundAfter}
 use Rattle.desk.specs.RefusedLaws.{perform-accepted, accepted-content, other-accepted}
 use Rattle.desk.specs.RulesLaws.{range-exactly}
 use Rattle.desk.specs.Listed.{opening-T}
-use Rattle.desk.specs.Demand3.{listed}
+use Rattle.desk.specs.Demand3Holds.{listed}
 
 -- d is the desk after such a list, and the case of its last accepted opening holds c
 
@@ -95,7 +95,7 @@ unfolding answer
 value-asked f m q d c e u a =
     let k = other-accepted (Call.Ask (Question.Value f m q)) d c refl e in
     let i = range-exactly (Question.Value f m q) (viewOf c d) .0 (k .range) in
-    ap (λ x. x .reply) (perform-accepted (Call.Ask (Question.Value f m q)) d c e) ∙ ap Reply.Element (value-by c (content-sound (take 24576 (d .store)) c (k .held .rules .reads)) f m (i .0) u a q (i .2))
+    ap (λ x. x .reply) (perform-accepted (Call.Ask (Question.Value f m q)) d c e) ∙ ap Reply.Element (value-by c (content-sound (take 24576 (d .store)) c (k .held .rules .reads)) f m (i .0) u a q (i .1 .1 .0))
 
 -- 'A formula's value on a whole model is the meet over q of Q0(q) → value at q'
 pub whole-asked : (f m : ℕ) (d : Desk) (c : Content) → examined (Call.Ask (Question.Whole f m)) d ≡ content c → (u : Formula → (ℕ → ℕ → ℕ) → ℕ → ℕ) → Calculus (ops c) (modelIn c m) u → asked (Question.Whole f m) d ≡ Reply.Element (bigMeet (ops c) (modelIn c m .states) (λ q. imp (ops c) (modelIn c m .initial q) (u (formulaIn c f) (λ v i. ops c .bot) q)))

@@ -1,42 +1,24 @@
--- Demand 3: one claim about every list of calls from any desk, refused ones included, with an accepted opening in it.
--- Rests on Run, and for the proof on Listed, Next, Stands, RefusedLaws, and theory's Rounds, Preservation, Height and Sharp.
+-- Demand 3: one claim about every list of calls from any desk, refused ones included, with an accepted opening in it. Rests on Run.
 --   Claim: the claim, a field for each part of it; Demand3: there are a last accepted opening and a T of which it holds
---   demand3: every such list has the demand; listed: the claim holds for whatever last accepted opening and whatever T
---   claimed: the claim from the invariant; T-most-sharp: another bound of T
---   ranges, asked-next; value-next, whole-next, score-next, share-next, judge-yes, judge-no: what it says of the questions one by one
-use Prim.Native.Nat.{ℕ, suc, _+_, _*_, _-_, _%_, _≤_, _<_}
-use mathlib.Core.Path.{_≡_, refl, sym, ap, _∙_, subst}
-use mathlib.Core.Bool.{Bool, true, false}
+-- Demand3Holds proves it.
+use Prim.Native.Nat.{ℕ, _+_, _*_, _-_, _%_, _≤_, _<_}
+use mathlib.Core.Path.{_≡_}
+use mathlib.Core.Bool.{true, false}
 use mathlib.Core.Logic.{_↔_}
-use mathlib.Core.List.{List, _∷_}
-use native.Mathlib.Omega.{arith}
+use mathlib.Core.List.{List}
 use lib.ListN.{length, getD}
 use Rattle.theory.specs.Lattice.{LongestChain}
 use Rattle.theory.specs.Formula.{Formula, fixpointFree, nestedAX, UniversalSentence}
-use Rattle.theory.specs.Value.{valueAt, wholeValue}
-use Rattle.theory.specs.Simulation.{SameTable, AtMostTable, Bounds, Simulation, GreatestSimulation, score, share}
-use Rattle.theory.specs.Height.{longest-chain}
-use Rattle.theory.specs.Rounds.{T-at-most, settled-greatest, below-rounds, fixed-below, F-mono}
-use Rattle.theory.specs.Preservation.{bounded-by-round, bounded-at-T}
-use Rattle.theory.specs.Sharp.{T-sharp}
-use Rattle.theory.specs.TestLaws.{false-true, not-passed}
+use Rattle.theory.specs.Value.{valueAt}
+use Rattle.theory.specs.Simulation.{SameTable, AtMostTable, Bounds, GreatestSimulation}
 use Rattle.refusal.specs.declared.Refusal.the-variants.{ShortDesk, SpoiledDesk}
 use Rattle.casefile.specs.Reading.{Content, refused, content, caseReading, storeReading}
-use Rattle.casefile.specs.Content.{content-sound}
-use Rattle.rounds.specs.Table.{tableOf, simulationTest}
-use Rattle.rounds.specs.Round.{simulation-test}
 use Rattle.desk.specs.Desk.{Desk, Question, Call, Reply}
-use Rattle.desk.specs.Case.{ops, model1, model2, N1, N2, tableSize, modelIn, formulaIn, operator, roundIn, IsT, entryAt, tableBytes}
-use Rattle.desk.specs.Refused.{short, spoiled, tests, Verdict, passed, fails, verdict, isPassed, allPassed, examined, accepted}
-use Rattle.desk.specs.Moved.{opened}
-use Rattle.desk.specs.View.{View, shownTable}
-use Rattle.desk.specs.Perform.{perform, asked, shownTo, answerTo, moved}
-use Rattle.desk.specs.Run.{run, openings, LastOpening, answersSince, roundAfter, answerAfter, viewAfter, AsksAs}
-use Rattle.desk.specs.RefusedLaws.{perform-accepted, OpenAccepted, open-long, open-accepted}
-use Rattle.desk.specs.RulesLaws.{spoiled-exactly}
-use Rattle.desk.specs.Stands.{known-sound, Stands, opening-starts}
-use Rattle.desk.specs.Next.{at, stands-unspoiled, never-11-or-12, ranges-are, shows, below-shown, shown-below, show-is, asks-as}
-use Rattle.desk.specs.Listed.{run-append, last-opening, opening-T, Since, since}
+use Rattle.desk.specs.Case.{ops, model1, model2, N1, tableSize, roundIn, IsT, tableBytes}
+use Rattle.desk.specs.Refused.{short, spoiled, examined, accepted}
+use Rattle.desk.specs.View.{shownTable}
+use Rattle.desk.specs.Perform.{showAnswer}
+use Rattle.desk.specs.Run.{run, LastOpening, answersSince, roundAfter, answerAfter, viewAfter, AnsweredFrom}
 
 -- c is what the case holds, `answers` are those of the accepted steps since it was opened, d is the desk after the list
 module _ (c : Content) (T : ℕ) (answers : List Reply) (d : Desk) where
@@ -90,9 +72,9 @@ module _ (c : Content) (T : ℕ) (answers : List Reply) (d : Desk) where
     pub open-next : (b : List ℕ) → examined (Call.Open b) d ≡ caseReading b
     pub step-next : accepted Call.Step d ≡ true
     -- 'show then answers the table of round r, and value, whole, score, share and judge, when accepted, what their definitions give for
-    -- that case with round r shown.' A question is accepted exactly when its tests are passed there.
-    pub show-next : shownTo d ≡ Reply.Shown (tableBytes c (roundIn c r))
-    pub asks : (q : Question) → AsksAs q d (viewAfter c T s)
+    -- that case with round r shown.' A question is accepted exactly when its conditions hold there.
+    pub show-next : showAnswer d ≡ Reply.Shown (tableBytes c (roundIn c r))
+    pub question-next : (q : Question) → AnsweredFrom q d (viewAfter c T s)
 
 -- Demand 3 of a list of calls from a desk: there is a last accepted opening and a T, and after the list the claim holds
 pub record Demand3 (ks : List Call) (d : Desk) : Type 0 where
@@ -101,127 +83,3 @@ pub record Demand3 (ks : List Call) (d : Desk) : Type 0 where
   -- 'T is the least t above 0 for which round t equals round t − 1'
   pub isT : IsT (opening .holds) T
   pub claim : Claim (opening .holds) T (answersSince opening) (run ks d)
-
--- ==== the proof
-
-module _ {c : Content} {T : ℕ} where
-  pub claimed : (answers : List Reply) (d : Desk) → Stands c T (length answers) d → ((i : ℕ) → i < length answers → getD answers i Reply.Row ≡ answerAfter c T (suc i)) → Claim c T answers d
-  claimed answers d w each =
-      let L = known-sound (w .known) .laws in
-      let h = longest-chain (ops c) (λ a. refl) in
-      let p = at w in
-      record {
-        round-is = p .round-is;
-        row-below-T = p .row-below-T;
-        row-at-T = p .row-at-T;
-        settled-exactly = p .settled-exactly;
-        store-holds = stands-unspoiled w .rules .reads;
-        shown-is = shows w;
-        above = λ G g. below-shown w G (below-rounds L (model1 c) (model2 c) G (fixed-below L (model1 c) (model2 c) (operator c) (λ S U. F-mono L (model1 c) (model2 c)) G (g .isFixed)) (roundAfter c T (length answers)));
-        bounded-by-round = λ φ u x l. shown-below w _ (bounded-by-round L (model1 c) (model2 c) φ u x (roundAfter c T (length answers)) l);
-        bounded-at-T = λ z φ u. shown-below w _ (rw z (bounded-at-T L (model1 c) (model2 c) T (w .known .isT) φ u));
-        T-greatest = settled-greatest L (model1 c) (model2 c) T (w .known .isT);
-        h-exists = (h .0, h .2);
-        T-most = λ n l. T-at-most L (model1 c) (model2 c) n l T (w .known .isT);
-        answered = λ l. let z : suc (length answers - 1) ≡ length answers = omega arith in each (length answers - 1) (omega arith) ∙ ap (answerAfter c T) z;
-        not-short = stands-unspoiled w .long;
-        not-spoiled = spoiled-exactly d .1 (c, stands-unspoiled w .rules);
-        not-11 = λ k q. never-11-or-12 w k ShortDesk q (omega arith) (omega arith);
-        not-12 = λ k q. never-11-or-12 w k SpoiledDesk q (omega arith) (omega arith);
-        open-next = λ x. open-long x d (stands-unspoiled w .long);
-        step-next = ranges-are w Call.Step refl;
-        show-next = show-is w;
-        asks = asks-as w;
-      }
-
--- ---- the questions one by one
-
-all-passed : (x : Verdict) → isPassed x ≡ true → x ≡ passed
-all-passed passed e = refl
-all-passed (fails r) e = absurd (false-true refl e)
-
-module _ {c : Content} {T : ℕ} {answers : List Reply} {d : Desk} (w : Claim c T answers d) where
-  abbrev view : View
-  view = viewAfter c T (length answers)
-
-  pub ranges : (q : Question) → accepted (Call.Ask q) d ≡ allPassed q view
-  ranges q = w .asks q .accepts
-
-  pub asked-next : (q : Question) → accepted (Call.Ask q) d ≡ true → asked q d ≡ answerTo q view
-  asked-next q a = ap (λ x. x .reply) (w .asks q .answers (all-passed (verdict (tests q view)) (sym (ranges q) ∙ a)))
-
-  pub value-next : (f m q : ℕ) → accepted (Call.Ask (Question.Value f m q)) d ≡ true
-      → asked (Question.Value f m q) d ≡ Reply.Element (valueAt (ops c) (modelIn c m) (formulaIn c f) q)
-  value-next f m q a = asked-next (Question.Value f m q) a
-
-  pub whole-next : (f m : ℕ) → accepted (Call.Ask (Question.Whole f m)) d ≡ true
-      → asked (Question.Whole f m) d ≡ Reply.Element (wholeValue (ops c) (modelIn c m) (formulaIn c f))
-  whole-next f m a = asked-next (Question.Whole f m) a
-
-  pub score-next : asked Question.Score d ≡ Reply.Element (score (ops c) (model1 c) (model2 c) (roundIn c (roundAfter c T (length answers))))
-  score-next = asked-next Question.Score (ranges Question.Score)
-
-  pub share-next : (e : ℕ) → accepted (Call.Ask (Question.Share e)) d ≡ true
-      → asked (Question.Share e) d ≡ Reply.PerCent (share (ops c) (tableSize c) (entryAt c (roundIn c (roundAfter c T (length answers)))) e)
-  share-next e a = asked-next (Question.Share e) a
-
-  module _ (t : List ℕ) (a : accepted (Call.Ask (Question.Judge t)) d ≡ true) where
-    abbrev test : Bool
-    test = simulationTest (model1 c) (model2 c) (operator c) (tableOf t (N2 c))
-
-    judged : asked (Question.Judge t) d ≡ Reply.Says test
-    judged = asked-next (Question.Judge t) a
-
-    judge-test : (test ≡ true) ↔ Simulation (ops c) (model1 c) (model2 c) (tableOf t (N2 c))
-    judge-test = simulation-test (ops c) (model1 c) (model2 c) (operator c) (tableOf t (N2 c))
-
-    says : (x y : Bool) → Reply.Says x ≡ Reply.Says y → x ≡ y
-    says x y q = cc
-
-    pub judge-yes : (asked (Question.Judge t) d ≡ Reply.Says true) ↔ Simulation (ops c) (model1 c) (model2 c) (tableOf t (N2 c))
-    judge-yes = (λ q. judge-test .0 (says test true (sym judged ∙ q)), λ h. judged ∙ ap Reply.Says (judge-test .1 h))
-
-    pub judge-no : (asked (Question.Judge t) d ≡ Reply.Says false) ↔ ¬ (Simulation (ops c) (model1 c) (model2 c) (tableOf t (N2 c)))
-    judge-no = (λ q h. false-true (says test false (sym judged ∙ q)) (judge-test .1 h), λ n. judged ∙ ap Reply.Says (not-passed test (λ p. n (judge-test .0 p))))
-
--- for every list of calls, every desk, whatever last accepted opening there is, and whatever is T
-pub listed : (ks : List Call) (d : Desk) (l : LastOpening ks d) (T : ℕ) → IsT (l .holds) T → Claim (l .holds) T (answersSince l) (run ks d)
-unfolding run moved
-listed ks d l T isT = subst (Claim c T (answersSince l)) (sym same) (claimed (answersSince l) (run (l .after) start) (subst (λ (n : ℕ). Stands c T n (run (l .after) start)) none (after .stands)) each)
-  where
-    c : Content
-    c = l .holds
-
-    start : Desk
-    start = perform (Call.Open (l .case)) (run (l .before) d) .desk
-
-    opening : OpenAccepted (l .case) (run (l .before) d) c
-    opening = open-accepted (l .case) (run (l .before) d) c (l .opens)
-
-    is-opened : start ≡ opened c (run (l .before) d)
-    is-opened = ap (λ x. x .desk) (perform-accepted (Call.Open (l .case)) (run (l .before) d) c (l .opens))
-
-    after : Since c T 0 (answersSince l) (run (l .after) start)
-    after = since (l .after) 0 start (subst (Stands c T 0) (sym is-opened) (opening-starts (record { case = l .case; reads = opening .reads; isT = isT }) (run (l .before) d) (opening .long))) (l .last)
-
-    none : 0 + length (answersSince l) ≡ length (answersSince l)
-    none = omega arith
-
-    each : (i : ℕ) → i < length (answersSince l) → getD (answersSince l) i Reply.Row ≡ answerAfter c T (suc i)
-    each i m = let z : 0 + suc i ≡ suc i = omega arith in after .each i m ∙ ap (answerAfter c T) z
-
-    same : run ks d ≡ run (l .after) start
-    same = ap (λ (x : List Call). run x d) (l .list) ∙ run-append (l .before) (Call.Open (l .case) ∷ l .after) d
-
--- and there are a last opening and a T
-pub demand3 : (ks : List Call) (d : Desk) → 0 < openings ks d → Demand3 ks d
-demand3 ks d h =
-    let l = last-opening ks d h in
-    let t = opening-T l in
-    record { opening = l; T = t .0; isT = t .1; claim = listed ks d l (t .0) (t .1) }
-
--- Beyond the demand: whatever the lattice's longest chain, T is at most N1·N2 + 1.
-pub T-most-sharp : (ks : List Call) (d : Desk) (l : LastOpening ks d) (T : ℕ) → IsT (l .holds) T → T ≤ tableSize (l .holds) + 1
-T-most-sharp ks d l T isT =
-    let c = l .holds in
-    T-sharp (content-sound (l .case) c (open-accepted (l .case) (run (l .before) d) c (l .opens) .reads) .laws) (model1 c) (model2 c) T isT

@@ -26,7 +26,7 @@ use Rattle.rounds.specs.Table.{rowSame, changedBelow, simulationTest}
 use Rattle.desk.specs.Desk.{Desk, Question, Call, Reply}
 use Rattle.desk.specs.Refused.{short, rulesKept, spoiled, examined, accepted, refusedReply}
 use Rattle.desk.specs.Moved.{opened, worked, stepped}
-use Rattle.desk.specs.Perform.{answer, moved, lentLeft, perform}
+use Rattle.desk.specs.Perform.{answer, moved, lentAfter, perform}
 use Rattle.desk.specs.Run.{replies}
 
 -- 'A refused show returns an empty part and no refusal number', whatever the refusal
@@ -105,5 +105,5 @@ abbrev pub AnswersAs : List (Call × Reply) → Type 0
 AnswersAs l = replies (map (λ x. x .0) l) zeros ≡ map (λ x. x .1) l
 
 pub examples-answer : AnswersAs calls1 × AnswersAs calls4
-unfolding imp iff bigMeet bigJoin iterate bind allNext someNext eval valueAt wholeValue propositionPart successorPart F roundOf score count share isMeet isJoin meetOf joinOf topOf botOf element boundBy overProps nestedBinders allBelow firstBelow isPanel latticeOf explicitForm latticeForm reflexive antisymmetric transitive partialOrder bounded distributive complementRules require partReading latticeReading elementsOnly modelTest byCode parse formulaReading partStart partSize placed misplaced partsFrom formulasReading modelsReading caseReading pairs joined gapless tab rowSame changedBelow simulationTest short rulesKept spoiled examined accepted opened worked stepped answer moved lentLeft perform replies
+unfolding imp iff bigMeet bigJoin iterate bind allNext someNext eval valueAt wholeValue propositionPart successorPart F roundOf score count share isMeet isJoin meetOf joinOf topOf botOf element boundBy overProps nestedBinders allBelow firstBelow isPanel latticeOf explicitForm latticeForm reflexive antisymmetric transitive partialOrder bounded distributive complementRules require partReading latticeReading elementsOnly modelTest byCode parse formulaReading partStart partSize placed misplaced partsFrom formulasReading modelsReading caseReading pairs joined gapless tab rowSame changedBelow simulationTest short rulesKept spoiled examined accepted opened worked stepped answer moved lentAfter perform replies
 examples-answer = (refl, refl)

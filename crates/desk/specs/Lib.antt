@@ -7,19 +7,23 @@ pub mod Refused  -- which refusal a call gets, or the content that it works on
 pub mod Moved  -- the desk after open and after step
 pub mod Perform  -- what each call answers, and the desk after it
 pub mod Run  -- lists of calls, the last accepted opening, s and r
+pub mod RoundLeft  -- the rest of a round in one call: so many steps
 pub mod Demand1  -- which refusal is given and exactly when; every other input is accepted
 pub mod Demand2  -- the settled table is the greatest simulation, and values are those of the mu-calculus
 pub mod Demand3  -- one claim about every list of calls with an accepted opening in it
 -- ---- theorems
 pub mod CaseParts  -- formula f and model m of an accepted case, as parts of its bytes
 pub mod RulesLaws  -- the tests of refusals 11, 12 and 13 say what their rules say
-pub mod ViewLaws  -- a question treats views alike that agree at the pairs of states
+pub mod ViewLaws  -- a question is answered alike from views that agree at the pairs of states
 pub mod RefusedLaws  -- which refusal a call gets, and what an accepted call knows
-pub mod CaseNumbers  -- the refusals of a case have the numbers 1 to 10
+pub mod Demand1Holds  -- demand 1 holds of every call on every desk
 pub mod Stands  -- the invariant of demand 3, and that an accepted opening starts it
 pub mod Stepping  -- an accepted step moves it on
 pub mod Next  -- what the next call answers where it holds
 pub mod Listed  -- it holds after every list of calls with an accepted opening in it
-pub mod Settling  -- T·N1 accepted steps settle a desk; calls whose effects are known one by one
+pub mod Demand3Holds  -- demand 3 is proved, and what it says of the questions one by one
+pub mod Settling  -- T·N1 accepted steps settle a desk
+pub mod RoundLeftLaws  -- what the steps left in a round do; demand 3 goes through them
+pub mod RoundLeftRounds  -- after an opening, n such calls give round n, and T of them settle the desk
 pub mod Unwritten  -- table bytes past N1·N2 and store bytes past 24,576 are never written
 pub mod Examples  -- two examples of document 01 by computation

@@ -2,19 +2,19 @@
 -- Rests on Stands, RefusedLaws, ViewLaws, Case, Refused, Moved, Perform, Run, theory's Rounds, rounds' Round.
 --   Position, at: round, next row and settled after s accepted steps
 --   stands-unspoiled, never-11-or-12: neither 11 nor 12 applies to the next call
---   ranges-are, next-answer, next-desk: it is accepted where its own tests are passed, and works on c
---   shows, show-is: the table shown; treated-next, asks-as: what every question is answered, and refused for
+--   ranges-are, next-answer, next-desk: it is accepted where its own conditions hold, and works on c
+--   shows, show-is: the table shown; answered-from: every question is answered from the view after s accepted steps
 use Prim.Native.Nat.{ℕ, _+_, _*_, _/_, _%_, _≤_, _<_, min}
 use mathlib.Core.Path.{_≡_, refl, sym, ap, _∙_, subst}
 use mathlib.Core.Bool.{Bool, true, false, cond}
 use mathlib.Core.Logic.{_⊎_, inl, inr, ⊎-elim, _↔_}
 use mathlib.Core.List.{List}
+use mathlib.Core.Option.{Option, none, some}
 use native.Mathlib.Nat.{mul-add-div-right, mul-add-mod-self-right, div-eq-of-lt, mod-eq-of-lt, le-div-iff-mul-le, min-eq-left, min-eq-right}
 use native.Mathlib.Omega.{arith}
 use borrow.Author.Tests.{ltb-true, eq-eqb, ne-eqb}
 use lib.Dec.{eqb}
 use lib.ListN.{length, getD, take}
-use Rattle.theory.specs.Lattice.{Element}
 use Rattle.theory.specs.Simulation.{SameTable, AtMostTable}
 use Rattle.theory.specs.Rounds.{T-at-most-size}
 use Rattle.theory.specs.TestLaws.{false-true}
@@ -23,19 +23,19 @@ use Rattle.refusal.specs.Number.{numberOf}
 use Rattle.casefile.specs.Reading.{Content, content, refused, storeReading}
 use Rattle.casefile.specs.Accepted.{store-reads}
 use Rattle.casefile.specs.Content.{ContentSound}
+use Rattle.casefile.specs.Numbered.{CaseNumber, case-number}
 use Rattle.rounds.specs.Table.{changedBelow}
 use Rattle.rounds.specs.Round.{changed-none, shown-bytes}
-use Rattle.desk.specs.Desk.{Standing, Desk, Question, Call, Reply, wholeTable, isOpen}
+use Rattle.desk.specs.Desk.{Standing, Desk, Question, Call, Reply, Answered, wholeTable, isOpen}
 use Rattle.desk.specs.Case.{ops, latticeSize, model1, model2, N1, tableSize, operator, roundIn, limit, tableBytes}
 use Rattle.desk.specs.View.{viewOf, shownTable}
-use Rattle.desk.specs.Refused.{Rules, tests, Verdict, passed, fails, verdict, isPassed, callVerdict, byVerdict, examined, isContent, accepted}
+use Rattle.desk.specs.Refused.{Rules, conditions, callConditions, firstRefusal, noRefusal, afterRules, examined, isContent, accepted}
 use Rattle.desk.specs.Moved.{stepAnswer}
-use Rattle.desk.specs.Perform.{perform, shownTo, answer, moved, lentLeft}
-use Rattle.desk.specs.Run.{roundAfter, answerAfter, viewAfter, AsksAs}
+use Rattle.desk.specs.Perform.{perform, showAnswer, answer, moved, lentAfter}
+use Rattle.desk.specs.Run.{roundAfter, answerAfter, viewAfter, AnsweredFrom}
 use Rattle.desk.specs.RefusedLaws.{Unspoiled, opens-or-not, open-long, in-store, perform-refused, perform-accepted}
-use Rattle.desk.specs.RulesLaws.{Long, long-not-short, verdict-late}
-use Rattle.desk.specs.ViewLaws.{Treated, treated, SameView, treated-cong}
-use Rattle.desk.specs.CaseNumbers.{CaseNumber, case-number}
+use Rattle.desk.specs.RulesLaws.{Long, long-not-short, range-exactly, broken-exactly, refusal-one}
+use Rattle.desk.specs.ViewLaws.{SameView, conditions-cong, answer-cong}
 use Rattle.desk.specs.Stands.{known-sound, Going, Ended, Progress, GoingAt, EndedAt, Stands, sizes-most}
 
 -- ---- s is round · N1 + row
@@ -73,8 +73,8 @@ module _ {c : Content} {T s : ℕ} {x : Standing} where
       }
 
   ended-position : 0 < N1 c → Ended c T s x → Position c T s x
-  ended-position some e =
-      let p : roundAfter c T s ≡ T = min-eq-right (le-div-iff-mul-le some .1 (e .enough)) in
+  ended-position states e =
+      let p : roundAfter c T s ≡ T = min-eq-right (le-div-iff-mul-le states .1 (e .enough)) in
       record {
         round-is = e .at-T ∙ sym p;
         row-below-T = λ l. absurd (omega (arith, p, l));
@@ -85,7 +85,11 @@ module _ {c : Content} {T s : ℕ} {x : Standing} where
       }
 
   pub position : {whole other : List ℕ} → 0 < N1 c → Progress c T s x whole other → Position c T s x
-  position some h = ⊎-elim going-position (ended-position some) (h .place)
+  position states h = ⊎-elim going-position (ended-position states) (h .place)
+
+no-refusal : (x : Option Refusal) → noRefusal x ≡ true → x ≡ none
+no-refusal none e = refl
+no-refusal (some r) e = absurd (false-true refl e)
 
 -- what holds of the whole table and of the other holds of the first and of the second
 of-either : (P : List ℕ → Type 0) (w : Bool) (f g : List ℕ) → P (cond w g f) → P (cond w f g) → P f × P g
@@ -122,8 +126,8 @@ module _ {c : Content} {T s : ℕ} {d : Desk} (w : Stands c T s d) where
   going-rules g =
       record {
         reads = store-reads-as;
-        size1 = w .states1-is;
-        size2 = w .states2-is;
+        size1 = w .sizes .0;
+        size2 = w .sizes .1;
         row-below = g .row-below;
         nothing-yet = λ z. g .so-far .changed-is ∙ ap (changedBelow (model1 c) (model2 c) (operator c) (shownTable c d)) z ∙ changed-none (model1 c) (model2 c) (operator c) (shownTable c d);
         unsettled-most = λ z. omega (arith, g .below, T-limit);
@@ -138,8 +142,8 @@ module _ {c : Content} {T s : ℕ} {d : Desk} (w : Stands c T s d) where
   ended-rules x =
       record {
         reads = store-reads-as;
-        size1 = w .states1-is;
-        size2 = w .states2-is;
+        size1 = w .sizes .0;
+        size2 = w .sizes .1;
         row-below = omega (arith, x .row-0, content-is-sound .shape1 .some);
         nothing-yet = λ z. x .unchanged;
         unsettled-most = λ z. absurd (false-true z (x .isSettled));
@@ -160,32 +164,32 @@ module _ {c : Content} {T s : ℕ} {d : Desk} (w : Stands c T s d) where
       opens : (a : List ℕ) × (k ≡ Call.Open a) → CaseNumber r ⊎ (12 < numberOf r)
       opens o = inl (case-number (o .0) r (sym (open-long (o .0) d (stands-unspoiled .long)) ∙ ap (λ (x : Call). examined x d) (sym (o .1)) ∙ q))
 
-      late : (t : Verdict) → callVerdict k (viewOf c d) ≡ t → byVerdict c t ≡ refused r → 12 < numberOf r
-      late passed e x = absurd (let z : _≡_ {A = ℕ} 0 1 = cc in omega arith)
-      late (fails f) e x = let p : f ≡ r = cc in verdict-late k (viewOf c d) r (e ∙ ap fails p)
+      late : (t : Option Refusal) → firstRefusal (callConditions k) (viewOf c d) ≡ t → afterRules c t ≡ refused r → 12 < numberOf r
+      late none e x = absurd (let z : _≡_ {A = ℕ} 0 1 = cc in omega arith)
+      late (some f) e x = let p : f ≡ r = cc in refusal-one (viewOf c d) (callConditions k) r (e ∙ ap some p) .1
 
       others : isOpen k ≡ false → CaseNumber r ⊎ (12 < numberOf r)
-      others o = inr (late (callVerdict k (viewOf c d)) refl (sym (in-store k d c o stands-unspoiled) ∙ q))
+      others o = inr (late (firstRefusal (callConditions k) (viewOf c d)) refl (sym (in-store k d c o stands-unspoiled) ∙ q))
 
   pub never-11-or-12 : (k : Call) (r : Refusal) → examined k d ≡ refused r → 10 < numberOf r → numberOf r < 13 → ⊥
   never-11-or-12 k r q l m = ⊎-elim (λ (n : CaseNumber r). omega (arith, n .1)) (λ (n : 12 < numberOf r). omega arith) (next-refusal k r q)
 
-  -- ---- every call but open is accepted exactly when its own tests are passed, and works on c
+  -- ---- every call but open is accepted exactly when its own conditions hold, and works on c
 
-  pub ranges-are : (k : Call) → isOpen k ≡ false → accepted k d ≡ isPassed (callVerdict k (viewOf c d))
+  pub ranges-are : (k : Call) → isOpen k ≡ false → accepted k d ≡ noRefusal (firstRefusal (callConditions k) (viewOf c d))
   unfolding accepted
-  ranges-are k o = ap isContent (in-store k d c o stands-unspoiled) ∙ go (callVerdict k (viewOf c d))
+  ranges-are k o = ap isContent (in-store k d c o stands-unspoiled) ∙ go (firstRefusal (callConditions k) (viewOf c d))
     where
-      go : (t : Verdict) → isContent (byVerdict c t) ≡ isPassed t
-      go passed = refl
-      go (fails r) = refl
+      go : (t : Option Refusal) → isContent (afterRules c t) ≡ noRefusal t
+      go none = refl
+      go (some r) = refl
 
   pub works-on : (k : Call) → isOpen k ≡ false → accepted k d ≡ true → examined k d ≡ content c
-  works-on k o a = in-store k d c o stands-unspoiled ∙ go (callVerdict k (viewOf c d)) (sym (ranges-are k o) ∙ a)
+  works-on k o a = in-store k d c o stands-unspoiled ∙ go (firstRefusal (callConditions k) (viewOf c d)) (sym (ranges-are k o) ∙ a)
     where
-      go : (t : Verdict) → isPassed t ≡ true → byVerdict c t ≡ content c
-      go passed e = refl
-      go (fails r) e = absurd (false-true refl e)
+      go : (t : Option Refusal) → noRefusal t ≡ true → afterRules c t ≡ content c
+      go none e = refl
+      go (some r) e = absurd (false-true refl e)
 
   pub next-answer : (k : Call) → isOpen k ≡ false → accepted k d ≡ true → perform k d .reply ≡ answer k c d
   next-answer k o a = ap (λ x. x .reply) (perform-accepted k d c (works-on k o a))
@@ -212,28 +216,30 @@ module _ {c : Content} {T s : ℕ} {d : Desk} (w : Stands c T s d) where
   whole-entries : tableSize c ≤ length (wholeTable d)
   whole-entries = omega (arith, sizes-most (w .known), w .progress .whole-long)
 
-  pub show-is : shownTo d ≡ Reply.Shown (tableBytes c (roundIn c r))
+  pub show-is : showAnswer d ≡ Reply.Shown (tableBytes c (roundIn c r))
   unfolding answer
   show-is =
       let e : answer Call.Show c d ≡ Reply.Shown (take (tableSize c) (wholeTable d)) = refl in
       next-answer Call.Show refl (ranges-are Call.Show refl) ∙ e ∙ ap Reply.Shown (shown-bytes (ops c) (model1 c) (model2 c) (operator c) (wholeTable d) (roundIn c r) shows (content-is-sound .shape2 .some) whole-entries)
 
-  -- ---- every question goes by what round r shows
+  -- ---- every question is answered from the view after s accepted steps
 
   views-same : SameView (viewOf c d) (viewAfter c T s)
   views-same = record { holds-same = refl; round-same = at .round-is; settled-same = at .settled-is; entries-same = shows }
 
-  pub treated-next : (q : Question) → treated q (viewOf c d) ≡ treated q (viewAfter c T s)
-  treated-next q = treated-cong q (viewOf c d) (viewAfter c T s) views-same
+  same-refusal : (q : Question) → firstRefusal (conditions q) (viewOf c d) ≡ firstRefusal (conditions q) (viewAfter c T s)
+  same-refusal q = conditions-cong (viewOf c d) (viewAfter c T s) views-same (conditions q)
 
-  asked-next : (q : Question) → examined (Call.Ask q) d ≡ byVerdict c (verdict (tests q (viewAfter c T s)))
-  asked-next q = in-store (Call.Ask q) d c refl stands-unspoiled ∙ ap (λ (t : Treated). byVerdict c (verdict (t .tested))) (treated-next q)
+  examined-next : (q : Question) (x : Option Refusal) → firstRefusal (conditions q) (viewAfter c T s) ≡ x → examined (Call.Ask q) d ≡ afterRules c x
+  examined-next q x e = in-store (Call.Ask q) d c refl stands-unspoiled ∙ ap (afterRules c) (same-refusal q ∙ e)
 
-  pub asks-as : (q : Question) → AsksAs q d (viewAfter c T s)
-  unfolding answer moved lentLeft
-  asks-as q =
+  pub answered-from : (q : Question) → AnsweredFrom q d (viewAfter c T s)
+  unfolding answer moved lentAfter
+  answered-from q =
+      let v = viewAfter c T s in
+      let a : accepted (Call.Ask q) d ≡ noRefusal (firstRefusal (conditions q) v) = ranges-are (Call.Ask q) refl ∙ ap noRefusal (same-refusal q) in
       record {
-        accepts = ranges-are (Call.Ask q) refl ∙ ap (λ (t : Treated). isPassed (verdict (t .tested))) (treated-next q);
-        answers = λ e. perform-accepted (Call.Ask q) d c (asked-next q ∙ ap (byVerdict c) e) ∙ ap (λ (t : Treated). record { reply = t .reply; desk = d; lent = t .lent }) (treated-next q);
-        refuses = λ r e. perform-refused (Call.Ask q) d r (asked-next q ∙ ap (byVerdict c) e);
+        accepts = (λ e. range-exactly q v .0 (no-refusal _ (sym a ∙ e)), λ h. a ∙ ap noRefusal (range-exactly q v .1 h));
+        answers = λ h. perform-accepted (Call.Ask q) d c (examined-next q none (range-exactly q v .1 h)) ∙ ap (λ (x : Answered). record { reply = x .reply; desk = d; lent = x .lent }) (answer-cong (viewOf c d) v views-same q);
+        refuses = λ r h. perform-refused (Call.Ask q) d r (examined-next q (some r) (broken-exactly v r (conditions q) .1 h));
       }

@@ -2,9 +2,10 @@
 --   short, by tooShort: 11, a buffer is too short
 --   Rules: 12, the rules of the standing, the store and the tables; spoiled, by spoiledAs, keptFor and rulesKept: their test
 --   sizesKept, rowKept, settledKept, roundKept, standingKept, tableKept: the test rule by rule
---   Test, tests: what a question is refused for after 12, in order, by hasFormula, isModel and hasState; refusals, OneOf: the refusals of its tests
---   InRange: that they are passed, as a statement; Verdict, verdict, isPassed, allPassed: the first that is not passed, if there is one
---   callVerdict, callRefusals: the same of any call; byVerdict: what comes of it
+--   Condition: what a question asks of its arguments after 12; conditionTest, ConditionHolds: as a test and as a statement; refusalOf: its refusal
+--   conditions, callConditions: those of a question and of a call, in order; refusalsOf, OneOf: their refusals
+--   AllHold, InRange: all hold; FirstBroken: which is the first that is broken
+--   firstRefusal: the refusal of the first that is broken, if one is; noRefusal: none is; afterRules: what comes of it
 --   examined: the refusal that a call gets, or the content that it works on, by afterShort and ofStore; accepted, by isContent: it gets none
 --   numberReply, refusedReply: what a refused call answers
 use Prim.Native.Nat.{ℕ, _+_, _*_, _-_, _≤_, _<_}
@@ -12,6 +13,7 @@ use mathlib.Core.Path.{_≡_}
 use mathlib.Core.Logic.{_⊎_}
 use mathlib.Core.Bool.{Bool, true, false, cond, not, _&&_, _||_}
 use mathlib.Core.List.{List, [], _∷_}
+use mathlib.Core.Option.{Option, none, some}
 use lib.Dec.{ltb, leb, eqb}
 use lib.ListN.{length, getD}
 use Rattle.theory.specs.Test.{allBelow, _⇒_}
@@ -86,93 +88,100 @@ pub record Rules (d : Desk) (c : Content) : Type 0 where
 
 -- ---- 13: 'a formula, model, state or element in the call out of range, or judge's table of another length or with a byte not below n'
 
-abbrev pub hasFormula : Content → ℕ → Bool
-hasFormula c f = ltb f (length (c .formulas))
+-- What a question asks of its arguments, after 12, for the view that it is answered from.
+pub data Condition : Type 0 where
+  -- the formula f, the model m, the state q of the model m, the element e is in range
+  Formula Model : ℕ → Condition
+  State : ℕ → ℕ → Condition
+  Element : ℕ → Condition
+  -- the table has N1·N2 bytes; they are below n
+  TableLength TableBytes : List ℕ → Condition
 
 abbrev pub isModel : ℕ → Bool
 isModel m = eqb m 1 || eqb m 2
 
-abbrev pub hasState : Content → ℕ → ℕ → Bool
-hasState c m q = ltb q (modelIn c m .states)
+-- a condition as a test
+abbrev pub conditionTest : Condition → View → Bool
+conditionTest (Condition.Formula f) v = ltb f (length (v .holds .formulas))
+conditionTest (Condition.Model m) v = isModel m
+conditionTest (Condition.State m q) v = ltb q (modelIn (v .holds) m .states)
+conditionTest (Condition.Element e) v = ltb e (latticeSize (v .holds))
+conditionTest (Condition.TableLength t) v = eqb (length t) (tableSize (v .holds))
+conditionTest (Condition.TableBytes t) v = tableKept (tableSize (v .holds)) (latticeSize (v .holds)) t
 
--- ---- what a question is refused for after 12
+-- and as a statement; `condition-exactly` (RulesLaws) ties the two
+abbrev pub ConditionHolds : Condition → View → Type 0
+ConditionHolds (Condition.Formula f) v = f < length (v .holds .formulas)
+ConditionHolds (Condition.Model m) v = (m ≡ 1) ⊎ (m ≡ 2)
+ConditionHolds (Condition.State m q) v = q < modelIn (v .holds) m .states
+ConditionHolds (Condition.Element e) v = e < latticeSize (v .holds)
+ConditionHolds (Condition.TableLength t) v = length t ≡ tableSize (v .holds)
+ConditionHolds (Condition.TableBytes t) v = (i : ℕ) → i < tableSize (v .holds) → getD t i 0 < latticeSize (v .holds)
 
--- a test, and the refusal that it gives where it is not passed
-pub record Test : Type 0 where
-  pub passes : Bool
-  pub otherwise : Refusal
+-- the refusal that is given where it is broken
+abbrev pub refusalOf : Condition → Refusal
+refusalOf (Condition.Formula f) = OutOfRange
+refusalOf (Condition.Model m) = OutOfRange
+refusalOf (Condition.State m q) = OutOfRange
+refusalOf (Condition.Element e) = OutOfRange
+refusalOf (Condition.TableLength t) = OutOfRange
+refusalOf (Condition.TableBytes t) = OutOfRange
 
-abbrev pub orOutOfRange : Bool → Test
-orOutOfRange x = record { passes = x; otherwise = OutOfRange }
+-- the conditions of a question, in order; of any call: open, step and show have none
+abbrev pub conditions : Question → List Condition
+conditions Question.Score = []
+conditions (Question.Value f m q) = Condition.Formula f ∷ Condition.Model m ∷ Condition.State m q ∷ []
+conditions (Question.Whole f m) = Condition.Formula f ∷ Condition.Model m ∷ []
+conditions (Question.Share e) = Condition.Element e ∷ []
+conditions (Question.Judge t) = Condition.TableLength t ∷ Condition.TableBytes t ∷ []
 
--- the tests of a question, in order
-abbrev pub tests : Question → View → List Test
-tests Question.Score v = []
-tests (Question.Value f m q) v = orOutOfRange (hasFormula (v .holds) f && isModel m && hasState (v .holds) m q) ∷ []
-tests (Question.Whole f m) v = orOutOfRange (hasFormula (v .holds) f && isModel m) ∷ []
-tests (Question.Share e) v = orOutOfRange (ltb e (latticeSize (v .holds))) ∷ []
-tests (Question.Judge t) v = orOutOfRange (eqb (length t) (tableSize (v .holds)) && tableKept (tableSize (v .holds)) (latticeSize (v .holds)) t) ∷ []
+abbrev pub callConditions : Call → List Condition
+callConditions (Call.Open b) = []
+callConditions Call.Step = []
+callConditions Call.Show = []
+callConditions (Call.Ask q) = conditions q
 
--- the refusals that they give, in order
-abbrev pub refusals : Question → List Refusal
-refusals Question.Score = []
-refusals (Question.Value f m q) = OutOfRange ∷ []
-refusals (Question.Whole f m) = OutOfRange ∷ []
-refusals (Question.Share e) = OutOfRange ∷ []
-refusals (Question.Judge t) = OutOfRange ∷ []
+-- all of them hold, and so of those of a question
+abbrev pub AllHold : List Condition → View → Type 0
+AllHold [] v = Unit {0}
+AllHold (x ∷ xs) v = ConditionHolds x v × AllHold xs v
 
--- that they are all passed, as a statement; RulesLaws shows that the tests say the same
 abbrev pub InRange : Question → View → Type 0
-InRange Question.Score v = Unit {0}
-InRange (Question.Value f m q) v = (f < length (v .holds .formulas)) × ((m ≡ 1) ⊎ (m ≡ 2)) × (q < modelIn (v .holds) m .states)
-InRange (Question.Whole f m) v = (f < length (v .holds .formulas)) × ((m ≡ 1) ⊎ (m ≡ 2))
-InRange (Question.Share e) v = e < latticeSize (v .holds)
-InRange (Question.Judge t) v = (length t ≡ tableSize (v .holds)) × ((i : ℕ) → i < tableSize (v .holds) → getD t i 0 < latticeSize (v .holds))
+InRange q = AllHold (conditions q)
+
+-- r is the refusal of the first that is broken
+abbrev pub FirstBroken : Refusal → List Condition → View → Type 0
+FirstBroken r [] v = ⊥
+FirstBroken r (x ∷ xs) v = (¬ ConditionHolds x v × (r ≡ refusalOf x)) ⊎ (ConditionHolds x v × FirstBroken r xs v)
+
+-- the refusals that they give, in order; r is one of these
+abbrev pub refusalsOf : List Condition → List Refusal
+refusalsOf [] = []
+refusalsOf (x ∷ xs) = refusalOf x ∷ refusalsOf xs
 
 abbrev pub OneOf : Refusal → List Refusal → Type 0
 OneOf r [] = ⊥
 OneOf r (x ∷ xs) = (r ≡ x) ⊎ OneOf r xs
 
--- what comes of a list of tests: all are passed, or the first that is not gives its refusal
-pub data Verdict : Type 0 where
-  passed : Verdict
-  fails : Refusal → Verdict
-
-abbrev pub verdict : List Test → Verdict
-verdict [] = passed
-verdict (t ∷ ts) = cond (t .passes) (verdict ts) (fails (t .otherwise))
-
-abbrev pub isPassed : Verdict → Bool
-isPassed passed = true
-isPassed (fails r) = false
-
-abbrev pub allPassed : Question → View → Bool
-allPassed q v = isPassed (verdict (tests q v))
-
--- open, step and show have no such tests
-abbrev pub callVerdict : Call → View → Verdict
-callVerdict (Call.Open b) v = passed
-callVerdict Call.Step v = passed
-callVerdict Call.Show v = passed
-callVerdict (Call.Ask q) v = verdict (tests q v)
-
--- the refusals that they give: 'the other calls 11, 12, 13'
-abbrev pub callRefusals : Call → List Refusal
-callRefusals (Call.Open b) = []
-callRefusals Call.Step = []
-callRefusals Call.Show = []
-callRefusals (Call.Ask q) = refusals q
-
 -- ---- 'The first that applies is given, in this order'
 
-abbrev pub byVerdict : Content → Verdict → CaseReading
-byVerdict c passed = content c
-byVerdict c (fails r) = refused r
+-- the refusal of the first condition that is broken, if one is: `holding-exactly` and `broken-exactly` (RulesLaws)
+abbrev pub firstRefusal : List Condition → View → Option Refusal
+firstRefusal [] v = none
+firstRefusal (x ∷ xs) v = cond (conditionTest x v) (firstRefusal xs v) (some (refusalOf x))
 
--- 12, then the call's own tests
+abbrev pub noRefusal : Option Refusal → Bool
+noRefusal none = true
+noRefusal (some r) = false
+
+abbrev pub afterRules : Content → Option Refusal → CaseReading
+afterRules c none = content c
+afterRules c (some r) = refused r
+
+-- 12, then the call's own conditions
 abbrev pub ofStore : Call → Desk → CaseReading → CaseReading
 ofStore k d (refused r) = refused SpoiledDesk
-ofStore k d (content c) = cond (keptFor c d) (byVerdict c (callVerdict k (viewOf c d))) (refused SpoiledDesk)
+ofStore k d (content c) = cond (keptFor c d) (afterRules c (firstRefusal (callConditions k) (viewOf c d))) (refused SpoiledDesk)
 
 -- 'open uses 11 and 1 to 10, the other calls 11, 12, 13'
 abbrev pub afterShort : Call → Desk → CaseReading

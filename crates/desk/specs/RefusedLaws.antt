@@ -10,24 +10,25 @@ use mathlib.Core.Path.{_≡_, refl, sym, ap, _∙_}
 use mathlib.Core.Bool.{Bool, true, false, cond, not}
 use mathlib.Core.Logic.{_⊎_, inl, inr}
 use mathlib.Core.List.{List}
+use mathlib.Core.Option.{Option, none, some}
 use Rattle.theory.specs.TestLaws.{false-true}
 use Rattle.refusal.specs.declared.Refusal.{Refusal}
 use Rattle.refusal.specs.declared.Refusal.the-variants.{ShortDesk, SpoiledDesk}
 use Rattle.casefile.specs.Reading.{Content, CaseReading, refused, content, caseReading, storeReading}
 use Rattle.casefile.specs.Accepted.{refused-content}
-use Rattle.desk.specs.Desk.{Desk, Call, isOpen, lentBy}
+use Rattle.desk.specs.Desk.{Desk, Call, isOpen, callLentBuffers}
 use Rattle.desk.specs.View.{viewOf}
-use Rattle.desk.specs.Refused.{short, keptFor, spoiledAs, Rules, spoiled, Verdict, passed, fails, callVerdict, byVerdict, ofStore, afterShort, examined, isContent, accepted, refusedReply}
-use Rattle.desk.specs.Perform.{perform, performed, answer, moved, lentLeft}
+use Rattle.desk.specs.Refused.{short, keptFor, spoiledAs, Rules, spoiled, callConditions, firstRefusal, afterRules, ofStore, afterShort, examined, isContent, accepted, refusedReply}
+use Rattle.desk.specs.Perform.{perform, performed, answer, moved, lentAfter}
 use Rattle.desk.specs.RulesLaws.{rules-in, spoiled-exactly}
 
 -- ---- 'a refusal alters nothing'
 
-pub perform-refused : (k : Call) (d : Desk) (r : Refusal) → examined k d ≡ refused r → perform k d ≡ record { reply = refusedReply k r; desk = d; lent = lentBy k }
+pub perform-refused : (k : Call) (d : Desk) (r : Refusal) → examined k d ≡ refused r → perform k d ≡ record { reply = refusedReply k r; desk = d; lent = callLentBuffers k }
 unfolding perform
-perform-refused k d r e = let z : performed k d (refused r) ≡ record { reply = refusedReply k r; desk = d; lent = lentBy k } = refl in ap (performed k d) e ∙ z
+perform-refused k d r e = let z : performed k d (refused r) ≡ record { reply = refusedReply k r; desk = d; lent = callLentBuffers k } = refl in ap (performed k d) e ∙ z
 
-pub perform-accepted : (k : Call) (d : Desk) (c : Content) → examined k d ≡ content c → perform k d ≡ record { reply = answer k c d; desk = moved k c d; lent = lentLeft k c d }
+pub perform-accepted : (k : Call) (d : Desk) (c : Content) → examined k d ≡ content c → perform k d ≡ record { reply = answer k c d; desk = moved k c d; lent = lentAfter k c d }
 unfolding perform
 perform-accepted k d c e = ap (performed k d) e
 
@@ -38,7 +39,7 @@ opens-or-not Call.Step = inr refl
 opens-or-not Call.Show = inr refl
 opens-or-not (Call.Ask q) = inr refl
 
--- ---- which refusal, and when: 'open uses 11 and 1 to 10, the other calls 11, 12' and their own tests, the first that applies
+-- ---- which refusal, and when: 'open uses 11 and 1 to 10, the other calls 11, 12' and those of their own conditions, the first that applies
 
 pub is-short : (k : Call) (d : Desk) → short d ≡ true → examined k d ≡ refused ShortDesk
 unfolding examined
@@ -67,7 +68,7 @@ is-spoiled k d o s p = other-long k d o s ∙ go (storeReading (d .store)) p
     go (refused r) h = refl
     go (content c) h = rules (keptFor c d) h
       where
-        rules : (t : Bool) → not t ≡ true → cond t (byVerdict c (callVerdict k (viewOf c d))) (refused SpoiledDesk) ≡ refused SpoiledDesk
+        rules : (t : Bool) → not t ≡ true → cond t (afterRules c (firstRefusal (callConditions k) (viewOf c d))) (refused SpoiledDesk) ≡ refused SpoiledDesk
         rules true h = absurd (false-true refl h)
         rules false h = refl
 
@@ -76,9 +77,9 @@ pub record Unspoiled (d : Desk) (c : Content) : Type 0 where
   pub long : short d ≡ false
   pub rules : Rules d c
 
--- then it goes by the call's own tests
-pub in-store : (k : Call) (d : Desk) (c : Content) → isOpen k ≡ false → Unspoiled d c → examined k d ≡ byVerdict c (callVerdict k (viewOf c d))
-in-store k d c o u = other-long k d o (u .long) ∙ ap (ofStore k d) (u .rules .reads) ∙ ap (λ (t : Bool). cond t (byVerdict c (callVerdict k (viewOf c d))) (refused SpoiledDesk)) (rules-in d c (u .rules))
+-- then it goes by the call's own conditions
+pub in-store : (k : Call) (d : Desk) (c : Content) → isOpen k ≡ false → Unspoiled d c → examined k d ≡ afterRules c (firstRefusal (callConditions k) (viewOf c d))
+in-store k d c o u = other-long k d o (u .long) ∙ ap (ofStore k d) (u .rules .reads) ∙ ap (λ (t : Bool). cond t (afterRules c (firstRefusal (callConditions k) (viewOf c d))) (refused SpoiledDesk)) (rules-in d c (u .rules))
 
 -- ---- 'Every input to which no numbered refusal of its call applies is accepted'
 
@@ -98,28 +99,28 @@ open-accepted b d c e = go (short d) refl
 pub data Outcome (k : Call) (d : Desk) : Type 0 where
   too-short : short d ≡ true → examined k d ≡ refused ShortDesk → Outcome k d
   broken : short d ≡ false → ((c : Content) → ¬ Rules d c) → examined k d ≡ refused SpoiledDesk → Outcome k d
-  outside : (c : Content) → Unspoiled d c → (r : Refusal) → callVerdict k (viewOf c d) ≡ fails r → examined k d ≡ refused r → Outcome k d
-  inside : (c : Content) → Unspoiled d c → callVerdict k (viewOf c d) ≡ passed → examined k d ≡ content c → Outcome k d
+  outside : (c : Content) → Unspoiled d c → (r : Refusal) → firstRefusal (callConditions k) (viewOf c d) ≡ some r → examined k d ≡ refused r → Outcome k d
+  inside : (c : Content) → Unspoiled d c → firstRefusal (callConditions k) (viewOf c d) ≡ none → examined k d ≡ content c → Outcome k d
 
 pub outcome : (k : Call) (d : Desk) → isOpen k ≡ false → Outcome k d
 outcome k d o = go (short d) refl
   where
-    at-tests : (c : Content) → Unspoiled d c → (x : Verdict) → callVerdict k (viewOf c d) ≡ x → Outcome k d
-    at-tests c u passed i = inside c u i (in-store k d c o u ∙ ap (byVerdict c) i)
-    at-tests c u (fails r) i = outside c u r i (in-store k d c o u ∙ ap (byVerdict c) i)
+    at-conditions : (c : Content) → Unspoiled d c → (x : Option Refusal) → firstRefusal (callConditions k) (viewOf c d) ≡ x → Outcome k d
+    at-conditions c u none i = inside c u i (in-store k d c o u ∙ ap (afterRules c) i)
+    at-conditions c u (some r) i = outside c u r i (in-store k d c o u ∙ ap (afterRules c) i)
 
     rules : short d ≡ false → (t : Bool) → spoiled d ≡ t → Outcome k d
     rules s true p = broken s (λ c w. false-true (spoiled-exactly d .1 (c, w)) p) (is-spoiled k d o s p)
-    rules s false p = let w = spoiled-exactly d .0 p in at-tests (w .0) (record { long = s; rules = w .1 }) (callVerdict k (viewOf (w .0) d)) refl
+    rules s false p = let w = spoiled-exactly d .0 p in at-conditions (w .0) (record { long = s; rules = w .1 }) (firstRefusal (callConditions k) (viewOf (w .0) d)) refl
 
     go : (t : Bool) → short d ≡ t → Outcome k d
     go true s = too-short s (is-short k d s)
     go false s = rules s (spoiled d) refl
 
--- it is accepted where the desk is long enough and not spoiled, and its own tests are passed
+-- it is accepted where the desk is long enough and not spoiled, and its own conditions hold
 pub record OtherAccepted (k : Call) (d : Desk) (c : Content) : Type 0 where
   pub held : Unspoiled d c
-  pub range : callVerdict k (viewOf c d) ≡ passed
+  pub range : firstRefusal (callConditions k) (viewOf c d) ≡ none
 
 pub other-accepted : (k : Call) (d : Desk) (c : Content) → isOpen k ≡ false → examined k d ≡ content c → OtherAccepted k d c
 other-accepted k d c o e = go (outcome k d o)

@@ -1,13 +1,16 @@
--- The tests of refusals 11, 12 and those after say what their rules say. Rests on Refused and casefile's Reading.
+-- The tests of refusals 11, 12 and those after 12 say what their rules say. Rests on Refused and casefile's Reading.
 --   Long, long-enough, long-not-short: the lengths of a desk to which 11 does not apply
 --   rules-in, rules-out, spoiled-exactly: the rules of 12, of a content and of the store
---   range-exactly: the tests after 12; own-refusals, verdict-one, verdict-late: the refusals that they give
+--   condition-exactly: the conditions after 12, one by one; holding-exactly, range-exactly: no refusal is given exactly when all of them hold
+--   broken-exactly: a refusal is given exactly when it is that of the first broken one; refusal-one: it is one of theirs, above 12
+--   same-refusal-exactly: where all give the same refusal, their order does not show
 --   zeros-spoiled: a desk of zeros gets 12
 use Prim.Native.Nat.{ℕ, _-_, _≤_, _<_}
-use mathlib.Core.Path.{_≡_, refl, sym, ap, _∙_, subst}
+use mathlib.Core.Path.{_≡_, refl, sym, ap, _∙_}
 use mathlib.Core.Bool.{Bool, true, false, cond, not, _&&_, _||_}
 use mathlib.Core.Logic.{_↔_, _⊎_, inl, inr, ⊎-elim}
 use mathlib.Core.List.{List, [], _∷_}
+use mathlib.Core.Option.{Option, none, some}
 use native.Mathlib.Omega.{arith}
 use borrow.Author.Tests.{not-false, not-true, lt-ltb, ltb-true, ltb-false, le-ltb, le-leb, leb-true, eq-eqb, eqb-true}
 use lib.Dec.{ltb, leb, eqb}
@@ -19,10 +22,10 @@ use Rattle.refusal.specs.Number.{numberOf}
 use Rattle.refusal.specs.declared.Refusal.the-variants.{CaseSize, Directory, PartPlace}
 use Rattle.casefile.specs.Directory.{partCount, directoryEnd, sizeTest, directoryTest, misplaced, partAt, partsFrom}
 use Rattle.casefile.specs.Reading.{Content, CaseReading, refused, content, caseReading, storeReading, partsReading}
-use Rattle.desk.specs.Desk.{Desk, Question, Call}
+use Rattle.desk.specs.Desk.{Desk, Question}
 use Rattle.desk.specs.Case.{N1, N2, latticeSize, tableSize, limit}
 use Rattle.desk.specs.View.{View}
-use Rattle.desk.specs.Refused.{short, sizesKept, rowKept, settledKept, roundKept, rulesKept, keptFor, tableKept, spoiledAs, Rules, hasFormula, isModel, hasState, Test, tests, refusals, OneOf, InRange, Verdict, passed, fails, verdict, callVerdict, callRefusals, spoiled}
+use Rattle.desk.specs.Refused.{short, sizesKept, rowKept, settledKept, roundKept, rulesKept, keptFor, spoiledAs, Rules, spoiled, isModel, Condition, conditionTest, ConditionHolds, refusalOf, conditions, AllHold, InRange, FirstBroken, refusalsOf, OneOf, firstRefusal}
 
 -- ---- the lengths that refusal 11 asks for
 
@@ -96,7 +99,7 @@ spoiled-exactly d = (λ p. go (storeReading (d .store)) refl p, λ w. rw (w .1 .
     go (refused r) e h = absurd (false-true h refl)
     go (content c) e h = (c, rules-out d c e (not-false (keptFor c d) h))
 
--- ---- the tests after 12
+-- ---- the conditions after 12
 
 is-model : (m : ℕ) → (isModel m ≡ true) ↔ ((m ≡ 1) ⊎ (m ≡ 2))
 is-model m = (there (eqb m 1) refl, ⊎-elim (λ (e : m ≡ 1). rw e) (λ (e : m ≡ 2). rw e))
@@ -105,86 +108,96 @@ is-model m = (there (eqb m 1) refl, ⊎-elim (λ (e : m ≡ 1). rw e) (λ (e : m
     there true e h = inl (eqb-true m 1 e)
     there false e h = inr (eqb-true m 2 h)
 
-test-passed : (x : Bool) (r : Refusal) → cond x passed (fails r) ≡ passed → x ≡ true
-test-passed true r e = refl
-test-passed false r e = absurd (let z : _≡_ {A = ℕ} 0 1 = cc in omega arith)
-
-pub range-exactly : (q : Question) (v : View) → (verdict (tests q v) ≡ passed) ↔ InRange q v
-range-exactly Question.Score v = (λ h. tt, λ h. refl)
-range-exactly (Question.Value f m q) v =
+-- one by one: the test is passed exactly when the statement holds
+pub condition-exactly : (x : Condition) (v : View) → (conditionTest x v ≡ true) ↔ ConditionHolds x v
+condition-exactly (Condition.Formula f) v = (ltb-true _ _, lt-ltb _ _)
+condition-exactly (Condition.Model m) v = is-model m
+condition-exactly (Condition.State m q) v = (ltb-true _ _, lt-ltb _ _)
+condition-exactly (Condition.Element e) v = (ltb-true _ _, lt-ltb _ _)
+condition-exactly (Condition.TableLength t) v = (eqb-true _ _, eq-eqb _ _)
+condition-exactly (Condition.TableBytes t) v =
     let c = v .holds in (
-      λ t.
-          let h : (hasFormula c f && isModel m && hasState c m q) ≡ true = test-passed _ _ t in (
-            ltb-true _ _ (and-l (hasFormula c f) (isModel m) (and-l (hasFormula c f && isModel m) (hasState c m q) h)),
-            is-model m .0 (and-r (hasFormula c f) (isModel m) (and-l (hasFormula c f && isModel m) (hasState c m q) h)),
-            ltb-true _ _ (and-r (hasFormula c f && isModel m) (hasState c m q) h),
-          ),
-      λ h. cond-true _ _ _ (and-in _ _ (and-in _ _ (lt-ltb _ _ (h .0)) (is-model m .1 (h .1))) (lt-ltb _ _ (h .2))),
-    )
-range-exactly (Question.Whole f m) v =
-    let c = v .holds in (
-      λ t. let h : (hasFormula c f && isModel m) ≡ true = test-passed _ _ t in (ltb-true _ _ (and-l (hasFormula c f) (isModel m) h), is-model m .0 (and-r (hasFormula c f) (isModel m) h)),
-      λ h. cond-true _ _ _ (and-in _ _ (lt-ltb _ _ (h .0)) (is-model m .1 (h .1))),
-    )
-range-exactly (Question.Share e) v = (λ t. ltb-true _ _ (test-passed (ltb e (latticeSize (v .holds))) _ t), λ h. cond-true _ _ _ (lt-ltb _ _ h))
-range-exactly (Question.Judge t) v =
-    let c = v .holds in (
-      λ p.
-          let h : (eqb (length t) (tableSize c) && tableKept (tableSize c) (latticeSize c) t) ≡ true = test-passed _ _ p in (
-            eqb-true _ _ (and-l (eqb (length t) (tableSize c)) (tableKept (tableSize c) (latticeSize c) t) h),
-            λ i l. ltb-true _ _ (all-at (tableSize c) (λ j. ltb (getD t j 0) (latticeSize c)) (and-r (eqb (length t) (tableSize c)) (tableKept (tableSize c) (latticeSize c) t) h) i l),
-          ),
-      λ h. cond-true _ _ _ (and-in _ _ (eq-eqb _ _ (h .0)) (all-in _ _ (λ i l. lt-ltb _ _ (h .1 i l)))),
+      λ h i l. ltb-true _ _ (all-at (tableSize c) (λ j. ltb (getD t j 0) (latticeSize c)) h i l),
+      λ h. all-in _ _ (λ i l. lt-ltb _ _ (h i l)),
     )
 
--- ---- the refusals of the tests after 12
+-- the refusals that they give have numbers above 12
+refusal-late : (x : Condition) → 12 < numberOf (refusalOf x)
+refusal-late (Condition.Formula f) = omega arith
+refusal-late (Condition.Model m) = omega arith
+refusal-late (Condition.State m q) = omega arith
+refusal-late (Condition.Element e) = omega arith
+refusal-late (Condition.TableLength t) = omega arith
+refusal-late (Condition.TableBytes t) = omega arith
 
-abbrev pub allLate : List Refusal → Bool
-allLate [] = true
-allLate (r ∷ rs) = ltb 12 (numberOf r) && allLate rs
+none-some : (r : Refusal) → none ≡ some r → ⊥
+none-some r e = let z : _≡_ {A = ℕ} 0 1 = cc in omega arith
 
-abbrev pub refusalsOf : List Test → List Refusal
-refusalsOf [] = []
-refusalsOf (t ∷ ts) = t .otherwise ∷ refusalsOf ts
+-- the first condition, and the rest
+module _ (v : View) (x : Condition) (rest : Option Refusal) where
+  abbrev given : Option Refusal
+  given = cond (conditionTest x v) rest (some (refusalOf x))
 
--- a question's tests give its refusals, in order, and these have numbers above 12
-pub own-refusals : (q : Question) (v : View) → (refusalsOf (tests q v) ≡ refusals q) × (allLate (refusals q) ≡ true)
-own-refusals Question.Score v = (refl, refl)
-own-refusals (Question.Value f m q) v = (refl, refl)
-own-refusals (Question.Whole f m) v = (refl, refl)
-own-refusals (Question.Share e) v = (refl, refl)
-own-refusals (Question.Judge t) v = (refl, refl)
+  given-holds : ConditionHolds x v → given ≡ rest
+  given-holds h = cond-true _ _ _ (condition-exactly x v .1 h)
 
-fails-one : (ts : List Test) (r : Refusal) → verdict ts ≡ fails r → OneOf r (refusalsOf ts)
-fails-one [] r e = absurd (let z : _≡_ {A = ℕ} 0 1 = cc in omega arith)
-fails-one (t ∷ ts) r e = go (t .passes) (fails-one ts r) e
+  given-broken : ¬ ConditionHolds x v → given ≡ some (refusalOf x)
+  given-broken n = cond-false _ _ _ (not-passed (conditionTest x v) (λ p. n (condition-exactly x v .0 p)))
+
+  -- it holds or it is broken
+  given-either : (ConditionHolds x v × (given ≡ rest)) ⊎ (¬ ConditionHolds x v × (given ≡ some (refusalOf x)))
+  given-either = go (conditionTest x v) refl
+    where
+      go : (b : Bool) → conditionTest x v ≡ b → (ConditionHolds x v × (given ≡ rest)) ⊎ (¬ ConditionHolds x v × (given ≡ some (refusalOf x)))
+      go true p = let h = condition-exactly x v .0 p in inl (h, given-holds h)
+      go false p = let n : ¬ ConditionHolds x v = λ h. false-true p (condition-exactly x v .1 h) in inr (n, given-broken n)
+
+some-same : (r s : Refusal) → some r ≡ some s → s ≡ r
+some-same r s e = cc
+
+module _ (v : View) where
+  -- no refusal is given exactly when all of them hold
+  pub holding-exactly : (xs : List Condition) → (firstRefusal xs v ≡ none) ↔ AllHold xs v
+  holding-exactly [] = (λ e. tt, λ h. refl)
+  holding-exactly (x ∷ xs) = (
+    λ e. ⊎-elim (λ p. (p .0, holding-exactly xs .0 (sym (p .1) ∙ e))) (λ p. absurd (none-some _ (sym e ∙ p .1))) (given-either v x (firstRefusal xs v)),
+    λ h. given-holds v x (firstRefusal xs v) (h .0) ∙ holding-exactly xs .1 (h .1),
+  )
+
+  -- and the refusal r exactly when it is that of the first broken one
+  pub broken-exactly : (r : Refusal) (xs : List Condition) → (firstRefusal xs v ≡ some r) ↔ FirstBroken r xs v
+  broken-exactly r [] = (none-some r, λ h. absurd h)
+  broken-exactly r (x ∷ xs) = (
+    λ e. ⊎-elim (λ p. inr (p .0, broken-exactly r xs .0 (sym (p .1) ∙ e))) (λ p. inl (p .0, some-same _ _ (sym (p .1) ∙ e))) (given-either v x (firstRefusal xs v)),
+    λ h. ⊎-elim (λ p. given-broken v x (firstRefusal xs v) (p .0) ∙ ap some (sym (p .1))) (λ p. given-holds v x (firstRefusal xs v) (p .0) ∙ broken-exactly r xs .1 (p .1)) h,
+  )
+
+  -- a refusal that is given is one of theirs, and has a number above 12
+  pub refusal-one : (xs : List Condition) (r : Refusal) → firstRefusal xs v ≡ some r → OneOf r (refusalsOf xs) × (12 < numberOf r)
+  refusal-one xs r e = go xs (broken-exactly r xs .0 e)
+    where
+      go : (xs : List Condition) → FirstBroken r xs v → OneOf r (refusalsOf xs) × (12 < numberOf r)
+      go [] h = absurd h
+      go (x ∷ xs) h = ⊎-elim (λ p. (inl (p .1), rw (p .1) (refusal-late x))) (λ p. let w = go xs (p .1) in (inr (w .0), w .1)) h
+
+pub range-exactly : (q : Question) (v : View) → (firstRefusal (conditions q) v ≡ none) ↔ InRange q v
+range-exactly q v = holding-exactly v (conditions q)
+
+-- The order of conditions with one refusal does not show: it is given exactly when not all of them hold.
+abbrev pub AllGive : Refusal → List Condition → Type 0
+AllGive r [] = Unit {0}
+AllGive r (x ∷ xs) = (refusalOf x ≡ r) × AllGive r xs
+
+pub same-refusal-exactly : (r : Refusal) (xs : List Condition) (v : View) → AllGive r xs → (firstRefusal xs v ≡ some r) ↔ ¬ AllHold xs v
+same-refusal-exactly r xs v g = (λ e h. none-some r (sym (holding-exactly v xs .1 h) ∙ e), λ n. given (firstRefusal xs v) refl n)
   where
-    go : (x : Bool) → (verdict ts ≡ fails r → OneOf r (refusalsOf ts)) → cond x (verdict ts) (fails (t .otherwise)) ≡ fails r → (r ≡ t .otherwise) ⊎ OneOf r (refusalsOf ts)
-    go true later e = inr (later e)
-    go false later e = inl (cc)
+    one : (xs : List Condition) (s : Refusal) → AllGive r xs → OneOf s (refusalsOf xs) → s ≡ r
+    one [] s g o = absurd o
+    one (x ∷ xs) s g o = ⊎-elim (λ (p : s ≡ refusalOf x). p ∙ g .0) (λ p. one xs s (g .1) p) o
 
-late-one : (rs : List Refusal) (r : Refusal) → allLate rs ≡ true → OneOf r rs → 12 < numberOf r
-late-one [] r h o = absurd o
-late-one (x ∷ rs) r h o =
-    ⊎-elim
-    (λ (e : r ≡ x). rw e (ltb-true 12 (numberOf x) (and-l (ltb 12 (numberOf x)) (allLate rs) h)))
-    (λ (p : OneOf r rs). late-one rs r (and-r (ltb 12 (numberOf x)) (allLate rs) h) p)
-    o
-
-pub verdict-one : (k : Call) (v : View) (r : Refusal) → callVerdict k v ≡ fails r → OneOf r (callRefusals k)
-verdict-one (Call.Open b) v r e = absurd (let z : _≡_ {A = ℕ} 0 1 = cc in omega arith)
-verdict-one Call.Step v r e = absurd (let z : _≡_ {A = ℕ} 0 1 = cc in omega arith)
-verdict-one Call.Show v r e = absurd (let z : _≡_ {A = ℕ} 0 1 = cc in omega arith)
-verdict-one (Call.Ask q) v r e = subst (OneOf r) (own-refusals q v .0) (fails-one (tests q v) r e)
-
-call-late : (k : Call) (v : View) → allLate (callRefusals k) ≡ true
-call-late (Call.Open b) v = refl
-call-late Call.Step v = refl
-call-late Call.Show v = refl
-call-late (Call.Ask q) v = own-refusals q v .1
-
-pub verdict-late : (k : Call) (v : View) (r : Refusal) → callVerdict k v ≡ fails r → 12 < numberOf r
-verdict-late k v r e = late-one (callRefusals k) r (call-late k v) (verdict-one k v r e)
+    given : (x : Option Refusal) → firstRefusal xs v ≡ x → ¬ AllHold xs v → x ≡ some r
+    given none e n = absurd (n (holding-exactly v xs .0 e))
+    given (some s) e n = ap some (one xs s g (refusal-one v xs s e .0))
 
 -- 'A desk of zeros is refused with 12.' The first byte of the store is enough: it is the count of parts.
 pub zeros-spoiled : (d : Desk) → getD (d .store) 0 0 ≡ 0 → spoiled d ≡ true

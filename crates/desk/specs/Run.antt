@@ -3,20 +3,21 @@
 --   openings, stepAnswers: how many openings among them are accepted, and what the accepted steps answer
 --   LastOpening, answersSince: the last accepted opening, and the answers of the accepted steps since
 --   roundAfter, answerAfter: r, and the last step's answer; viewAfter: all that a question depends on
---   AsksAs: a question on a desk goes by a view
+--   AnsweredFrom: a question on a desk is answered from a view
 use Prim.Native.Nat.{ℕ, _+_, _/_, _%_, min}
 use mathlib.Core.Path.{_≡_}
-use mathlib.Core.Bool.{cond, _&&_}
+use mathlib.Core.Bool.{true, cond, _&&_}
+use mathlib.Core.Logic.{_↔_}
 use mathlib.Core.List.{List, [], _∷_, _++_}
 use lib.Dec.{eqb}
 use Rattle.theory.specs.Simulation.{one}
 use Rattle.refusal.specs.declared.Refusal.{Refusal}
 use Rattle.casefile.specs.Reading.{Content, content}
-use Rattle.desk.specs.Desk.{Desk, Question, Call, Reply, isOpen, isStep, lentTo}
+use Rattle.desk.specs.Desk.{Desk, Question, Call, Reply, isOpen, isStep, lentBuffers}
 use Rattle.desk.specs.Case.{N1, roundIn}
 use Rattle.desk.specs.View.{View}
-use Rattle.desk.specs.Refused.{tests, passed, fails, verdict, allPassed, examined, accepted, numberReply}
-use Rattle.desk.specs.Perform.{perform, answerTo, lentAfter}
+use Rattle.desk.specs.Refused.{conditions, InRange, FirstBroken, examined, accepted, numberReply}
+use Rattle.desk.specs.Perform.{perform, answerTo}
 
 -- 'Each call, refused or not, gets these as the call before left them, and nobody writes them in between.'
 unfoldable pub run : List Call → Desk → Desk
@@ -68,9 +69,10 @@ answerAfter c T s =
 abbrev pub viewAfter : Content → ℕ → ℕ → View
 viewAfter c T s = record { holds = c; round = roundAfter c T s; settled = eqb (roundAfter c T s) T; shown = roundIn c (roundAfter c T s) }
 
--- The desk d treats the question q as the view v does: q is accepted exactly when its tests are passed for v, and then answers what it answers
--- to v, and leaves what it leaves for v in its lent buffers; else it is refused with the first test that is not passed. The desk as it was.
-pub record AsksAs (q : Question) (d : Desk) (v : View) : Type 0 where
-  pub accepts : accepted (Call.Ask q) d ≡ allPassed q v
-  pub answers : verdict (tests q v) ≡ passed → perform (Call.Ask q) d ≡ record { reply = answerTo q v; desk = d; lent = lentAfter q v }
-  pub refuses : (r : Refusal) → verdict (tests q v) ≡ fails r → perform (Call.Ask q) d ≡ record { reply = numberReply r; desk = d; lent = lentTo q }
+-- 'when accepted, what their definitions give for that case with round r shown': the question q on the desk d is answered from the view v. It
+-- is accepted exactly when its conditions hold for v, and then answers what it answers from v, and leaves that in the buffers that it is
+-- lent; else it is refused for the first condition that is broken. The desk is as it was.
+pub record AnsweredFrom (q : Question) (d : Desk) (v : View) : Type 0 where
+  pub accepts : (accepted (Call.Ask q) d ≡ true) ↔ InRange q v
+  pub answers : InRange q v → perform (Call.Ask q) d ≡ record { reply = answerTo q v .reply; desk = d; lent = answerTo q v .lent }
+  pub refuses : (r : Refusal) → FirstBroken r (conditions q) v → perform (Call.Ask q) d ≡ record { reply = numberReply r; desk = d; lent = lentBuffers q }

@@ -1,7 +1,7 @@
 -- The invariant of demand 3, 'this desk is what the content c gives after s accepted steps', and that an accepted opening starts it.
 -- Rests on Case, Refused, Moved, RulesLaws, rounds' Round, casefile's Accepted and Content.
 --   Known: the content of an accepted case, and its T; known-sound, sizes-most, some-states: what it gives
---   Going, Ended, Progress: before T, at T, and what holds of both; GoingAt, EndedAt, ProgressAt: the same of a desk
+--   SizesAre: the standing's sizes; Going, Ended, Progress: before T, at T, and what holds of both; GoingAt, EndedAt, ProgressAt: the same of a desk
 --   Stands: the invariant; opening-starts: an accepted opening starts it
 use Prim.Native.Nat.{ℕ, _+_, _*_, _≤_, _<_}
 use mathlib.Core.Path.{_≡_, refl, _∙_}
@@ -35,6 +35,10 @@ pub record Known (c : Content) (T : ℕ) : Type 0 where
 
 pub known-sound : {c : Content} {T : ℕ} → Known c T → ContentSound c
 known-sound {c} k = content-sound (k .case) c (k .reads)
+
+-- the standing's sizes, which no step changes
+abbrev pub SizesAre : Content → Standing → Type 0
+SizesAre c x = (x .states1 ≡ N1 c) × (x .states2 ≡ N2 c)
 
 module _ (c : Content) (T : ℕ) where
   -- before T: s is round · N1 + row, and the rows below the next row of the next round stand in the other table
@@ -79,8 +83,7 @@ module _ (c : Content) (T : ℕ) where
     pub rest : List ℕ
     pub store-is : d .store ≡ gapless (contentParts c) ++ rest
     pub store-long : 24576 ≤ length (d .store)
-    pub states1-is : d .standing .states1 ≡ N1 c
-    pub states2-is : d .standing .states2 ≡ N2 c
+    pub sizes : SizesAre c (d .standing)
     pub progress : ProgressAt s d
 
 -- ---- for an accepted content
@@ -123,8 +126,7 @@ module _ {c : Content} {T : ℕ} (known : Known c T) where
         rest = drop (0 + length (gapless (contentParts c))) (d .store);
         store-is = refl;
         store-long = stored-long (d .store) (w .store-long);
-        states1-is = refl;
-        states2-is = refl;
+        sizes = (refl, refl);
         progress = record {
           whole-long = topped-long (d .first) (w .first-long);
           other-long = topped-long (d .second) (w .second-long);

@@ -20,31 +20,30 @@ use Rattle.rounds.specs.Round.{RoundSoFar, RoundDone, round-none, round-more, r
 use Rattle.desk.specs.Desk.{Standing, Desk, wholeTable, otherTable}
 use Rattle.desk.specs.Case.{ops, model1, model2, N1, N2, tableSize, operator, roundIn}
 use Rattle.desk.specs.Moved.{rowWorked, changedNow, nextRow, nextRound, worked, stepped}
-use Rattle.desk.specs.Stands.{Known, known-sound, Going, Ended, Progress, GoingAt, EndedAt, ProgressAt, Stands, sizes-most, some-states}
+use Rattle.desk.specs.Stands.{Known, known-sound, SizesAre, Going, Ended, Progress, GoingAt, EndedAt, ProgressAt, Stands, sizes-most, some-states}
 
 -- the same of equal tables
 progress-with : {c : Content} {T s : ℕ} {x : Standing} {whole other whole′ other′ : List ℕ} → whole′ ≡ whole → other′ ≡ other → Progress c T s x whole other → Progress c T s x whole′ other′
 progress-with p q h = rw (p, q) h
 
--- the same store and sizes, and what is progress now
-stands-with : {c : Content} {T s n : ℕ} {d : Desk} → Stands c T s d → (e : Desk) → e .store ≡ d .store → e .standing .states1 ≡ d .standing .states1 → e .standing .states2 ≡ d .standing .states2 → ProgressAt c T n e → Stands c T n e
-stands-with w e p q r h =
+-- the same store, its sizes, and what is progress now
+stands-with : {c : Content} {T s n : ℕ} {d : Desk} → Stands c T s d → (e : Desk) → e .store ≡ d .store → SizesAre c (e .standing) → ProgressAt c T n e → Stands c T n e
+stands-with w e p z h =
     record {
       known = w .known;
       rest = w .rest;
       store-is = p ∙ w .store-is;
       store-long = rw p (w .store-long);
-      states1-is = q ∙ w .states1-is;
-      states2-is = r ∙ w .states2-is;
+      sizes = z;
       progress = h;
     }
 
 -- where the tables stand when the other one is written, and when they are exchanged after that
-keep-whole : (w : Bool) (f g o : List ℕ) → cond w (cond w g o) (cond w o f) ≡ cond w g f
+pub keep-whole : (w : Bool) (f g o : List ℕ) → cond w (cond w g o) (cond w o f) ≡ cond w g f
 keep-whole true f g o = refl
 keep-whole false f g o = refl
 
-keep-other : (w : Bool) (f g o : List ℕ) → cond w (cond w o f) (cond w g o) ≡ o
+pub keep-other : (w : Bool) (f g o : List ℕ) → cond w (cond w o f) (cond w g o) ≡ o
 keep-other true f g o = refl
 keep-other false f g o = refl
 
@@ -184,7 +183,7 @@ module _ {c : Content} {T : ℕ} (known : Known c T) where
           let x = d .standing .secondWhole in
           let whole : wholeTable e ≡ rowWorked c d = tables-are d (not x) .0 ∙ turn-whole x (d .first) (d .second) (rowWorked c d) in
           let other : otherTable e ≡ wholeTable d = tables-are d (not x) .1 ∙ turn-other x (d .first) (d .second) (rowWorked c d) in
-          stands-with w e refl refl refl
+          stands-with w e refl (w .sizes)
           (progress-with (whole ∙ row-is d) other
           (round-more-done (w .progress) g (eqb-true _ _ q)))
       go false q =
@@ -193,7 +192,7 @@ module _ {c : Content} {T : ℕ} (known : Known c T) where
           let whole : wholeTable e ≡ wholeTable d = tables-are d x .0 ∙ keep-whole x (d .first) (d .second) (rowWorked c d) in
           let other : otherTable e ≡ rowWorked c d = tables-are d x .1 ∙ keep-other x (d .first) (d .second) (rowWorked c d) in
           let n : ¬ (d .standing .row + 1 ≡ N1 c) = eqb-false _ _ q in
-          stands-with w e refl refl refl
+          stands-with w e refl (w .sizes)
           (progress-with whole (other ∙ row-is d)
           (row-more (w .progress) g (omega (arith, g .row-below))))
 
@@ -204,7 +203,7 @@ module _ {c : Content} {T : ℕ} (known : Known c T) where
       subst (Stands c T (s + 1)) (sym (unsettled-works d (g .unsettled))) (worked-stands w g))
       (λ (x : EndedAt c T s d).
       subst (Stands c T (s + 1)) (sym (settled-stays d (x .isSettled)))
-      (stands-with w d refl refl refl
+      (stands-with w d refl (w .sizes)
       (record {
         whole-long = w .progress .whole-long;
         other-long = w .progress .other-long;

@@ -1,7 +1,7 @@
 -- All that a question depends on: its refusals after 12, its answer, and what it leaves in the buffers that it is lent.
 -- Rests on Desk, Case and rounds' Table.
 --   shownTable: the table that a desk shows, entry by entry
---   View: the content, the round, whether it is settled, and the table shown; viewOf: those of a desk whose store holds c
+--   View: the content, the round, whether it is settled, and the table shown; viewOf: that of a desk whose store holds c
 use Prim.Native.Nat.{ℕ}
 use mathlib.Core.Bool.{Bool}
 use Rattle.casefile.specs.Reading.{Content}
@@ -13,6 +13,7 @@ use Rattle.desk.specs.Case.{N2}
 abbrev pub shownTable : Content → Desk → ℕ → ℕ → ℕ
 shownTable c d = tableOf (wholeTable d) (N2 c)
 
+-- what value, whole, score, share and judge are answered from: 'that case with round r shown'
 pub record View : Type 0 where
   pub holds : Content
   pub round : ℕ

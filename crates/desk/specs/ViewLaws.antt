@@ -1,30 +1,22 @@
 -- A question reads a table only at the pairs of states. Rests on View, Refused, Perform, theory's Rounds and rounds' Round.
---   Treated, treated: all that a question makes of a view; SameView: views that agree at the pairs of states
---   treated-cong: a question makes the same of two of them
+--   SameView: views that agree at the pairs of states
+--   conditions-cong, answer-cong: a question has the same first refusal, and the same answer, from two of them
+--   entries-cong: the entries of a table in the order of its bytes
 use Prim.Native.Nat.{ℕ, zero, suc, _*_, _/_, _%_, _<_}
 use mathlib.Core.Path.{_≡_, refl, ap}
 use mathlib.Core.Bool.{Bool}
-use mathlib.Core.List.{List, []}
+use mathlib.Core.List.{List, [], _∷_}
 use native.Mathlib.Nat.{mod-lt, div-lt-iff-lt-mul}
 use native.Mathlib.Omega.{arith}
 use Rattle.theory.specs.Simulation.{SameTable}
 use Rattle.theory.specs.Rounds.{score-cong}
 use Rattle.casefile.specs.Reading.{Content}
 use Rattle.rounds.specs.Round.{share-cong}
-use Rattle.desk.specs.Desk.{Question, Reply}
+use Rattle.desk.specs.Desk.{Question, Reply, replyAlone}
 use Rattle.desk.specs.Case.{ops, model1, model2, N1, N2, tableSize, entryAt}
 use Rattle.desk.specs.View.{View}
-use Rattle.desk.specs.Refused.{Test, tests}
-use Rattle.desk.specs.Perform.{answerTo, lentAfter}
-
--- all that a question makes of a view
-pub record Treated : Type 0 where
-  pub tested : List Test
-  pub reply : Reply
-  pub lent : List (List ℕ)
-
-abbrev pub treated : Question → View → Treated
-treated q v = record { tested = tests q v; reply = answerTo q v; lent = lentAfter q v }
+use Rattle.desk.specs.Refused.{Condition, conditionTest, firstRefusal}
+use Rattle.desk.specs.Perform.{answerTo}
 
 -- the same content, round and settled, and the same entries at the pairs of states
 pub record SameView (v w : View) : Type 0 where
@@ -33,24 +25,40 @@ pub record SameView (v w : View) : Type 0 where
   pub settled-same : v .settled ≡ w .settled
   pub entries-same : SameTable (ops (w .holds)) (model1 (w .holds)) (model2 (w .holds)) (v .shown) (w .shown)
 
--- the entries in the order of the bytes
 pub entries-cong : (c : Content) (S U : ℕ → ℕ → ℕ) → SameTable (ops c) (model1 c) (model2 c) S U → (i : ℕ) → i < tableSize c → entryAt c S i ≡ entryAt c U i
-entries-cong c S U h i l = let p : 0 < N2 c = some (N2 c) l in h (i / N2 c) (div-lt-iff-lt-mul p .1 l) (i % N2 c) (mod-lt i p)
+entries-cong c S U h i l = let p : 0 < N2 c = not-none (N2 c) l in h (i / N2 c) (div-lt-iff-lt-mul p .1 l) (i % N2 c) (mod-lt i p)
   where
-    some : (n : ℕ) → i < N1 c * n → 0 < n
-    some zero l = omega arith
-    some (suc n) l = omega arith
+    not-none : (n : ℕ) → i < N1 c * n → 0 < n
+    not-none zero l = omega arith
+    not-none (suc n) l = omega arith
 
+-- two views that differ in their tables alone: condition by condition, and question by question
 module _ (c : Content) (round : ℕ) (settled : Bool) (S U : ℕ → ℕ → ℕ) (h : SameTable (ops c) (model1 c) (model2 c) S U) where
-  abbrev showing : (ℕ → ℕ → ℕ) → View
-  showing W = record { holds = c; round = round; settled = settled; shown = W }
+  abbrev viewWith : (ℕ → ℕ → ℕ) → View
+  viewWith W = record { holds = c; round = round; settled = settled; shown = W }
 
-  by-question : (q : Question) → treated q (showing S) ≡ treated q (showing U)
-  by-question Question.Score = ap (λ (e : ℕ). record { tested = []; reply = Reply.Element e; lent = [] }) (score-cong (ops c) (model1 c) (model2 c) h)
-  by-question (Question.Value f m q) = refl
-  by-question (Question.Whole f m) = refl
-  by-question (Question.Share l) = ap (λ (e : ℕ). record { tested = tests (Question.Share l) (showing S); reply = Reply.PerCent e; lent = [] }) (share-cong (ops c) (tableSize c) (entryAt c S) (entryAt c U) l (entries-cong c S U h))
-  by-question (Question.Judge t) = refl
+  test-same : (x : Condition) → conditionTest x (viewWith S) ≡ conditionTest x (viewWith U)
+  test-same (Condition.Formula f) = refl
+  test-same (Condition.Model m) = refl
+  test-same (Condition.State m q) = refl
+  test-same (Condition.Element e) = refl
+  test-same (Condition.TableLength t) = refl
+  test-same (Condition.TableBytes t) = refl
 
-pub treated-cong : (q : Question) (v w : View) → SameView v w → treated q v ≡ treated q w
-treated-cong q v w e = rw (e .holds-same, e .round-same, e .settled-same) (by-question (w .holds) (w .round) (w .settled) (v .shown) (w .shown) (e .entries-same) q)
+  answer-same : (q : Question) → answerTo q (viewWith S) ≡ answerTo q (viewWith U)
+  answer-same Question.Score = ap (λ (e : ℕ). replyAlone (Reply.Element e)) (score-cong (ops c) (model1 c) (model2 c) h)
+  answer-same (Question.Value f m q) = refl
+  answer-same (Question.Whole f m) = refl
+  answer-same (Question.Share l) = ap (λ (e : ℕ). replyAlone (Reply.PerCent e)) (share-cong (ops c) (tableSize c) (entryAt c S) (entryAt c U) l (entries-cong c S U h))
+  answer-same (Question.Judge t) = refl
+
+module _ (v w : View) (e : SameView v w) where
+  test-cong : (x : Condition) → conditionTest x v ≡ conditionTest x w
+  test-cong x = rw (e .holds-same, e .round-same, e .settled-same) (test-same (w .holds) (w .round) (w .settled) (v .shown) (w .shown) (e .entries-same) x)
+
+  pub conditions-cong : (xs : List Condition) → firstRefusal xs v ≡ firstRefusal xs w
+  conditions-cong [] = refl
+  conditions-cong (x ∷ xs) = rw (test-cong x, conditions-cong xs)
+
+  pub answer-cong : (q : Question) → answerTo q v ≡ answerTo q w
+  answer-cong q = rw (e .holds-same, e .round-same, e .settled-same) (answer-same (w .holds) (w .round) (w .settled) (v .shown) (w .shown) (e .entries-same) q)

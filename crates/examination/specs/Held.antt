@@ -1,13 +1,15 @@
 -- What a call knows of a desk that is held, how the examination gets its answer, and what a call does after it.
 -- Rests on Answer, casefile's Caller, and desk's RefusedLaws.
 --   HeldDesk, when-held: what is known of a desk that is held
---   held-shown, held-question, held-outside, refused-call: what a call does that is answered, refused by its tests, or by the examination
+--   held-shown, held-question, held-outside, refused-call: what a call does that is answered, refused for its conditions, or by the examination
 --   case-few, few: N1·N2 is at most 4,096; table-kept: the test of a table's bytes, from that of the code
 --   short-examined, unread-examined, spoiled-examined, held-examined: the four answers of the examination
+--   show-examined: the examination of show is that of step
 use Prim.Native.Nat.{ℕ, _+_, _*_, _≤_}
 use mathlib.Core.Path.{_≡_, refl, sym, ap, _∙_}
-use mathlib.Core.Bool.{Bool, true, false}
+use mathlib.Core.Bool.{Bool, true, false, cond}
 use mathlib.Core.List.{List}
+use mathlib.Core.Option.{none, some}
 use native.Mathlib.Nat.{zero-add}
 use native.Mathlib.Omega.{arith}
 use lib.Dec.{ltb}
@@ -21,11 +23,11 @@ use Rattle.casefile.specs.Reading.{CaseReading, refused, content, storeReading}
 use Rattle.casefile.specs.Answer.{sizesOf}
 use Rattle.casefile.specs.Accepted.{refused-content}
 use Rattle.casefile.specs.Caller.{AcceptedCase, accepted-as}
-use Rattle.desk.specs.Desk.{Desk, Question, Call, Reply, wholeTable, isOpen, lentTo, lentBy}
+use Rattle.desk.specs.Desk.{Desk, Question, Call, Reply, wholeTable, isOpen, lentBuffers, callLentBuffers}
 use Rattle.desk.specs.Case.{tableSize}
 use Rattle.desk.specs.View.{View, viewOf}
-use Rattle.desk.specs.Refused.{short, tableKept, rulesKept, keptFor, spoiled, tests, passed, fails, verdict, byVerdict, examined, refusedReply, numberReply}
-use Rattle.desk.specs.Perform.{answerTo, lentAfter, answer, moved, lentLeft}
+use Rattle.desk.specs.Refused.{short, tableKept, rulesKept, keptFor, spoiled, conditions, firstRefusal, afterRules, ofStore, examined, refusedReply, numberReply}
+use Rattle.desk.specs.Perform.{answerTo, answer, moved, lentAfter}
 use Rattle.desk.specs.RefusedLaws.{Unspoiled, is-short, is-spoiled, in-store, outcome, Outcome, too-short, broken, outside, inside, other-accepted, perform-refused, perform-accepted}
 use Rattle.desk.specs.RulesLaws.{Long, long-enough, rules-out}
 use Rattle.examination.specs.declared.Examined.{Examined}
@@ -61,25 +63,25 @@ few h = case-few (h .case)
 pub table-kept : (table : List ℕ) (m count n : ℕ) (r : Bool) → r ≡ allBelow m (λ i. ltb (getD table (0 + i) 0) n) → m ≡ count → r ≡ tableKept count n table
 table-kept table m count n r e q = e ∙ all-cong m _ _ (λ i l. ap (λ (j : ℕ). ltb (getD table j 0) n) (zero-add i)) ∙ ap (λ (k : ℕ). tableKept k n table) q
 
--- show and a question on a desk that is held: answered, or refused with the first of its tests that is not passed
+-- show and a question on a desk that is held: answered, or refused for the first of its conditions that is broken
 module _ {d : Desk} {z : Sizes} {t : List ℕ} (h : HeldDesk d z t) where
   abbrev pub heldView : View
   heldView = viewOf (h .case .holds) d
 
   pub held-shown : Does Call.Show d (Reply.Shown (take (tableSize (h .case .holds)) (wholeTable d))) d
-  unfolding answer moved lentLeft
+  unfolding answer moved lentAfter
   held-shown = perform-accepted Call.Show d (h .case .holds) (in-store Call.Show d (h .case .holds) refl (h .kept))
 
-  pub held-question : (q : Question) → verdict (tests q heldView) ≡ passed → DoesWith (lentAfter q heldView) (Call.Ask q) d (answerTo q heldView) d
-  unfolding answer moved lentLeft
-  held-question q i = perform-accepted (Call.Ask q) d (h .case .holds) (in-store (Call.Ask q) d (h .case .holds) refl (h .kept) ∙ ap (byVerdict (h .case .holds)) i)
+  pub held-question : (q : Question) → firstRefusal (conditions q) heldView ≡ none → DoesWith (answerTo q heldView .lent) (Call.Ask q) d (answerTo q heldView .reply) d
+  unfolding answer moved lentAfter
+  held-question q i = perform-accepted (Call.Ask q) d (h .case .holds) (in-store (Call.Ask q) d (h .case .holds) refl (h .kept) ∙ ap (afterRules (h .case .holds)) i)
 
-  pub held-outside : (q : Question) (r : Refusal) → verdict (tests q heldView) ≡ fails r → DoesWith (lentTo q) (Call.Ask q) d (numberReply r) d
-  held-outside q r i = perform-refused (Call.Ask q) d r (in-store (Call.Ask q) d (h .case .holds) refl (h .kept) ∙ ap (byVerdict (h .case .holds)) i)
+  pub held-outside : (q : Question) (r : Refusal) → firstRefusal (conditions q) heldView ≡ some r → DoesWith (lentBuffers q) (Call.Ask q) d (numberReply r) d
+  held-outside q r i = perform-refused (Call.Ask q) d r (in-store (Call.Ask q) d (h .case .holds) refl (h .kept) ∙ ap (afterRules (h .case .holds)) i)
 
 -- ---- after the answer that it is refused, every call but open is refused so
 
-pub refused-call : (k : Call) (d : Desk) (r : Examined) (f : Refusal) (t : List ℕ) → isOpen k ≡ false → DeskExamined d r t → r ≡ Refused f → DoesWith (lentBy k) k d (refusedReply k f) d
+pub refused-call : (k : Call) (d : Desk) (r : Examined) (f : Refusal) (t : List ℕ) → isOpen k ≡ false → DeskExamined d r t → r ≡ Refused f → DoesWith (callLentBuffers k) k d (refusedReply k f) d
 refused-call k d r f t o w q = perform-refused k d f (go (outcome Call.Step d refl))
   where
     is : examinedAnswer (examined Call.Step d) ≡ Refused f
@@ -132,3 +134,12 @@ module _ (d : Desk) (z : Sizes) (t : List ℕ) (s : short d ≡ false) (a : Acce
         answer = ap Held (a .sizes) ∙ sym (ap examinedAnswer e);
         tables = λ c g. let q : a .holds ≡ c = cc in rw (← q) (rw (a .sizes) at (a .tables));
       }
+
+-- show has no tests of its own, as step has none
+pub show-examined : (d : Desk) → examined Call.Show d ≡ examined Call.Step d
+unfolding examined
+show-examined d = ap (λ (x : CaseReading). cond (short d) (refused ShortDesk) x) (go (storeReading (d .store)))
+  where
+    go : (x : CaseReading) → ofStore Call.Show d x ≡ ofStore Call.Step d x
+    go (refused r) = refl
+    go (content c) = refl

@@ -6,8 +6,9 @@ ghost use mathlib.Core.Path.{_≡_};
 ghost use Prim.Native.Nat.{_+_, _*_, _-_, _≤_, _<_};
 ghost use lib.ListN.{length};
 ghost use Rattle.examination.specs.Read.{standingOf, deskOf};
-ghost use Rattle.examination.specs.Answer.{rulesOf, DeskExamined};
-ghost use Rattle.desk.specs.Refused.{tooShort, rowKept, roundKept, standingKept};
+ghost use Rattle.examination.specs.Answer.{rulesOf, examinedAnswer, DeskExamined};
+ghost use Rattle.desk.specs.Desk.{Call};
+ghost use Rattle.desk.specs.Refused.{tooShort, rowKept, roundKept, standingKept, examined};
 
 // Where the desk stands. Its layout is C's, since the exported calls take and give it by value.
 #[repr(C)]
@@ -149,4 +150,12 @@ pub fn examine(
             }
         }
     }
+}
+
+// What a desk holds: the sizes of its lattice, models and formulas, or the refusal that every call but open gets. It is no call of document 01.
+pub fn sizes(s: Standing, store: &[u8], first: &[u8], second: &[u8]) -> Examined
+    ensures { λ r. ⌜ r ≡ examinedAnswer (examined Call.Show (deskOf s (now (store .entry)) (now (first .entry)) (now (second .entry)))) ⌝ }
+{
+    let mut t = [0u8; 12352];
+    examine(s, store, first, second, &mut t)
 }

@@ -1,30 +1,39 @@
--- The numbers that the exports answer, for each of the desk's replies. Rests on desk's Desk, Case, Refused and Perform, and examination's Read.
+-- The numbers that the exports answer, for each of the desk's replies and for what a desk holds. Rests on desk's Desk, Case, Refused and Perform,
+-- refusal's Number, and examination's Read.
 --   numbers: the numbers of a reply
 --   Tells, TellsAsked: what an export of a call says, and one of a call that only reads
 --   named, namedBytes, Names: what show's export says
+--   sized: what the export of a desk's sizes says
 use Prim.Native.Nat.{ℕ}
 use mathlib.Core.Path.{_≡_}
-use mathlib.Core.Bool.{Bool, cond}
+use mathlib.Core.Bool.{Bool, false, cond}
 use mathlib.Core.List.{List, []}
 use lib.Dec.{eqb}
-use lib.ListN.{take}
+use lib.ListN.{length, take}
+use Rattle.refusal.specs.Number.{numberOf, partOf}
 use Rattle.casefile.specs.Reading.{CaseReading, refused, content}
 use Rattle.desk.specs.Desk.{Desk, Call, Question, Reply}
-use Rattle.desk.specs.Case.{tableSize}
+use Rattle.desk.specs.Case.{latticeSize, model1, N1, N2, tableSize}
 use Rattle.desk.specs.Refused.{examined}
 use Rattle.desk.specs.Perform.{perform}
 use Rattle.examination.specs.declared.Standing.{Standing}
 use Rattle.examination.specs.Read.{deskOf}
 use Rattle.exports.specs.declared.Answer.{Answer}
 use Rattle.exports.specs.declared.Shown.{Shown}
+use Rattle.exports.specs.declared.DeskSizes.{DeskSizes}
 
 -- yes is 1, no is 0
 abbrev pub yesNo : Bool → ℕ
 yesNo b = cond b 1 0
 
--- an answer of this kind and value, which names no refusal
+-- an answer of this kind, refusal and value; byte, second and the flags, which no kind uses yet, are 0 and false
+abbrev pub answered : ℕ → ℕ → ℕ → ℕ → Answer
+answered kind number part value =
+    record { kind = kind; number = number; part = part; byte = 0; value = value; second = 0; flag1 = false; flag2 = false }
+
+-- one that names no refusal
 abbrev pub given : ℕ → ℕ → Answer
-given kind value = record { kind = kind; number = 0; part = 0; value = value }
+given kind value = answered kind 0 0 value
 
 -- | reply         | kind | number | part | value        |
 -- |---------------|------|--------|------|--------------|
@@ -36,9 +45,10 @@ given kind value = record { kind = kind; number = 0; part = 0; value = value }
 -- | Element e     | 5    | 0      | 0    | e            |
 -- | PerCent p     | 6    | 0      | 0    | p            |
 -- | Says b        | 7    | 0      | 0    | 1 yes, 0 no  |
+-- byte and second are 0, flag1 and flag2 are false in each of them.
 -- Shown has kind 8, which no export answers: what show gives is told by `named`.
 abbrev pub numbers : Reply → Answer
-numbers (Reply.Refused n p) = record { kind = 0; number = n; part = p; value = 0 }
+numbers (Reply.Refused n p) = answered 0 n p 0
 numbers Reply.Opened = given 1 0
 numbers Reply.Row = given 2 0
 numbers (Reply.Round r) = given 3 r
@@ -72,3 +82,20 @@ namedBytes x d = take (x .length) (cond (eqb (x .table) 2) (d .second) (d .first
 pub record Names (d : Desk) (x : Shown) : Type 0 where
   pub names : x ≡ named d (examined Call.Show d)
   pub bytes : perform Call.Show d ≡ record { reply = Reply.Shown (namedBytes x d); desk = d; lent = [] }
+
+-- ---- what a desk holds
+
+-- the refusal's number and part, and zeros; or n, k, N1, N2 and the count of formulas
+abbrev pub sized : CaseReading → DeskSizes
+sized (refused r) =
+    record { number = numberOf r; part = partOf r; elements = 0; propositions = 0; states1 = 0; states2 = 0; formulas = 0 }
+sized (content c) =
+    record {
+      number = 0;
+      part = 0;
+      elements = latticeSize c;
+      propositions = model1 c .propositions;
+      states1 = N1 c;
+      states2 = N2 c;
+      formulas = length (c .formulas);
+    }

@@ -1,9 +1,10 @@
--- What the exports' numbers tell, and how they follow from what the calls do. Rests on Numbers, calls' Answer, desk's RefusedLaws and casefile's Content.
+-- What the exports' numbers tell, and how they follow from what the calls do. Rests on Numbers, calls' Answer, desk's RefusedLaws, casefile's Content and examination's Answer.
 --   isShown, replyOf: whether a reply is show's; the reply that numbers tell
 --   numbers-back: the numbers lose nothing of a reply that is not show's
 --   refused-zero, accepted-some: what show's export names on a refused desk, and on any other
 --   by-case, told: for the exports of the other calls, from the call's answer and from what it does
 --   empty-named, whole-named: for show's export, from the length of what show answered
+--   refused-sized, held-sized, with sizesTold: for the export of a desk's sizes, from what the examination answered
 use Prim.Native.Nat.{ℕ, _≤_, _<_}
 use mathlib.Core.Path.{_≡_, refl, sym, ap, _∙_}
 use mathlib.Core.Bool.{Bool, true, false, cond}
@@ -12,18 +13,24 @@ use native.Mathlib.Omega.{arith}
 use lib.Dec.{eqb}
 use lib.ListN.{length, take}
 use lib.Seq.{length-take-le}
+use Rattle.refusal.specs.declared.Refusal.{Refusal}
+use Rattle.casefile.specs.declared.Sizes.{Sizes}
+use Rattle.casefile.specs.Answer.{sizesOf}
+use Rattle.examination.specs.declared.Examined.the-variants.{Refused, Held}
+use Rattle.examination.specs.Answer.{examinedAnswer}
 use Rattle.casefile.specs.Reading.{Content, CaseReading, refused, content}
 use Rattle.casefile.specs.Content.{ContentSound, content-sound}
 use Rattle.calls.specs.Answer.{Does}
 use Rattle.desk.specs.Desk.{Desk, Call, Reply, wholeTable}
 use Rattle.desk.specs.Case.{tableSize}
 use Rattle.desk.specs.Refused.{examined, accepted}
-use Rattle.desk.specs.Perform.{After, answer, moved, lentLeft}
+use Rattle.desk.specs.Perform.{After, answer, moved, lentAfter}
 use Rattle.desk.specs.RefusedLaws.{Unspoiled, perform-refused, perform-accepted, other-accepted, accepted-content, refused-refusal}
 use Rattle.desk.specs.RulesLaws.{long-enough}
 use Rattle.exports.specs.declared.Answer.{Answer}
 use Rattle.exports.specs.declared.Shown.{Shown}
-use Rattle.exports.specs.Numbers.{numbers, Tells, named, Names}
+use Rattle.exports.specs.declared.DeskSizes.{DeskSizes}
+use Rattle.exports.specs.Numbers.{numbers, Tells, named, Names, sized}
 
 -- ---- the numbers lose nothing of a reply
 
@@ -100,7 +107,7 @@ module _ (d : Desk) (c : Content) (e : examined show d ≡ content c) where
       go false = omega (arith, sound .entries-most, long-enough d (held .long) .first-long)
 
   whole-shown : Does show d (Reply.Shown (take (tableSize c) (wholeTable d))) d
-  unfolding answer moved lentLeft
+  unfolding answer moved lentAfter
   whole-shown = perform-accepted show d c e
 
 -- the length of what show answered says whether it was refused
@@ -137,3 +144,31 @@ accepted-some d x n t =
     above : (b : Bool) → 0 < cond b 2 1
     above true = omega arith
     above false = omega arith
+
+-- ---- what a desk holds
+
+pub refused-sized : (d : Desk) (f : Refusal) → Refused f ≡ examinedAnswer (examined show d) → sized (refused f) ≡ sized (examined show d)
+refused-sized d f e = go (examined show d) e
+  where
+    go : (x : CaseReading) → Refused f ≡ examinedAnswer x → sized (refused f) ≡ sized x
+    go (refused r) e = let q : f ≡ r = cc in rw q
+    go (content c) e = absurd (let z : _≡_ {A = ℕ} 0 1 = cc in omega arith)
+
+abbrev pub sizesTold : Sizes → DeskSizes
+sizesTold z =
+    record {
+      number = 0;
+      part = 0;
+      elements = z .lattice .size;
+      propositions = z .propositions;
+      states1 = z .states1;
+      states2 = z .states2;
+      formulas = z .formulas;
+    }
+
+pub held-sized : (d : Desk) (z : Sizes) → Held z ≡ examinedAnswer (examined show d) → sizesTold z ≡ sized (examined show d)
+held-sized d z e = go (examined show d) e
+  where
+    go : (x : CaseReading) → Held z ≡ examinedAnswer x → sizesTold z ≡ sized x
+    go (refused r) e = absurd (let z : _≡_ {A = ℕ} 0 1 = cc in omega arith)
+    go (content c) e = let q : z ≡ sizesOf c = cc in rw q

@@ -1,7 +1,12 @@
-// The eight calls and the listing for C and Rust: exported functions over the calls by value, with their answers as numbers in structs of C's layout.
+// The eight calls, the rest of a round, what a desk holds and the listing for C and Rust: exported functions over the calls by value, with their answers
+// as numbers in structs of C's layout.
 //   numbers: each call's answer as numbers
 //   moves: koelchair_open and koelchair_step
+//   finishing: koelchair_finish_round
 //   questions: koelchair_show, koelchair_value, koelchair_whole, koelchair_score, koelchair_share and koelchair_judge
+//   held: koelchair_sizes
+mod finishing;
+mod held;
 mod moves;
 mod numbers;
 mod questions;
@@ -12,18 +17,24 @@ ghost use lib.ListN.{length};
 ghost use Rattle.theory.specs.Lists.{written};
 ghost use Rattle.listing.specs.Text.{listingText};
 
-// What every call but show answers; specs/Numbers.antt has the kinds.
+// What every call but show answers; specs/Numbers.antt has the kinds. A field that a kind does not use is 0 or false.
 #[repr(C)]
 pub struct Answer {
     pub kind: u8,
     // The refusal's number, and the part that it names.
     pub number: u8,
     pub part: u8,
+    // No kind uses it yet.
+    pub byte: u8,
     // The round, T, the element, the per cent, or 1 for yes.
     pub value: u32,
+    // No kind uses these yet.
+    pub second: u32,
+    pub flag1: bool,
+    pub flag2: bool,
 }
 
-// What open and step give: the standing after the call, and the answer.
+// What open, step and finish_round give: the standing after the call, and the answer.
 #[repr(C)]
 pub struct Moved {
     pub standing: Standing,
@@ -35,6 +46,19 @@ pub struct Moved {
 pub struct Shown {
     pub table: u8,
     pub length: usize,
+}
+
+// What a desk holds: the elements of its lattice, the propositions and states of its models, and its formulas. A desk that is refused has the refusal's
+// number and part, and zeros; any other has number and part 0.
+#[repr(C)]
+pub struct DeskSizes {
+    pub number: u8,
+    pub part: u8,
+    pub elements: u8,
+    pub propositions: u8,
+    pub states1: u8,
+    pub states2: u8,
+    pub formulas: u8,
 }
 
 // Writes what the program `report` prints for a case at the start of the text, and says how many bytes it has. The bytes after it are kept.

@@ -18,7 +18,11 @@ pub fn refused(f: Refusal) -> Answer
         kind: 0,
         number: refusal::number(f),
         part: refusal::part(f),
+        byte: 0,
         value: 0,
+        second: 0,
+        flag1: false,
+        flag2: false,
     }
 }
 
@@ -29,7 +33,11 @@ pub fn plain(kind: u8, value: u32) -> Answer
         kind: kind,
         number: 0,
         part: 0,
+        byte: 0,
         value: value,
+        second: 0,
+        flag1: false,
+        flag2: false,
     }
 }
 

@@ -1,25 +1,24 @@
 -- Where a formula ends, from where its parts end, and the rules under binders by the formula's shape. Rests on RoundTrip and Check.
 --   under-or .. under-four: the rules for a formula, from those for its parts; under four binders nothing is allowed
---   unary-end, binary-end, binary-broken, numbered-end: where a formula of one part, of two, or of a number ends
+--   unary-end, binary-end, binary-broken: where a formula of one part or of two ends
 --   never-at, cond-at, cond-broken: an answer that is given under a test
---   length-before: how many bytes stand before a place; pair: a paired code is one of the two
-use Prim.Native.Nat.{ℕ, suc, max, _+_, _-_, _≤_, _<_}
+--   length-before: how many bytes stand before a place
+use Prim.Native.Nat.{ℕ, suc, max, _+_, _-_, _≤_}
 use mathlib.Core.Path.{_≡_, refl, sym, ap, _∙_}
-use mathlib.Core.Bool.{Bool, true, false, cond, _&&_, and-true}
-use mathlib.Core.Logic.{_⊎_, inl, inr, ⊎-elim}
+use mathlib.Core.Bool.{Bool, true, false, _&&_, and-true}
 use mathlib.Core.List.{List, _++_}
-use native.Mathlib.Nat.{eq-or-lt-of-le}
 use native.Mathlib.Numerals.{add-one}
 use native.Mathlib.Omega.{arith}
 use lib.Dec.{ltb, leb}
-use lib.ListN.{length, getD, drop, length-append, length-drop, drop-of-length-le}
-use lib.Seq.{drop-cons, drop-drop, drop-at}
-use borrow.Author.Tests.{lt-ltb, le-ltb, le-leb, lt-leb, leb-true, ltb-true, ltb-false}
+use lib.ListN.{length, drop, length-append, length-drop}
+use lib.Seq.{drop-drop, drop-at}
+use borrow.Author.Tests.{le-leb, lt-leb, leb-true}
 use Rattle.theory.specs.Formula.{Formula, bottom, top, prop, negated, var, or, and, AX, EX, mu, nu, boundBy, overProps, nestedBinders}
 use Rattle.theory.specs.TestLaws.{and-l, and-r, and-in, and-false, bool-same}
-use Rattle.formula.specs.Bytes.{bytesOf, Parsed, parsed, unparsed, numbered, unary, binary, parse}
+use Rattle.formula.specs.Bytes.{bytesOf, Parsed, parsed, unparsed, unary, binary, parse}
 use Rattle.formula.specs.RoundTrip.{bytes-parse}
-use Rattle.formula.specs.Check.{allowedUnder, endOf, numberBelow}
+use Rattle.formula.specs.Check.{allowedUnder, endIf, endOf}
+use Rattle.formula.specs.declared.NodeFacts.{NodeFacts}
 use Rattle.formula.specs.declared.NodeEnd.{NodeEnd}
 use Rattle.formula.specs.declared.NodeEnd.the-variants.{At, Broken}
 
@@ -111,16 +110,16 @@ module _ (k d : ℕ) where
   unary-broken g n w unparsed = refl
   unary-broken g n w (parsed a t) = rw (w a)
 
-pub never-at : (i : ℕ) → At i ≡ Broken → ⊥
+pub never-at : (i : NodeFacts) → At i ≡ Broken → ⊥
 never-at i e = let z : _≡_ {A = ℕ} 0 1 = cc in omega arith
 
 -- an answer that is given under a test
-pub cond-at : (t : Bool) (i j : ℕ) → At i ≡ cond t (At j) Broken → (t ≡ true) × (i ≡ j)
-cond-at true i j e = (refl, (cc))
+pub cond-at : (t : Bool) (i : NodeFacts) (j : ℕ) → At i ≡ endIf t j → (t ≡ true) × (i .end ≡ j)
+cond-at true i j e = let s : i ≡ record { end = j } = cc in (refl, ap (λ (x : NodeFacts). x .end) s)
 cond-at false i j e = absurd (never-at i e)
 
-pub cond-broken : (t : Bool) (j : ℕ) → Broken ≡ cond t (At j) Broken → t ≡ false
-cond-broken true j e = absurd (never-at j (sym e))
+pub cond-broken : (t : Bool) (j : ℕ) → Broken ≡ endIf t j → t ≡ false
+cond-broken true j e = absurd (never-at (record { end = j }) (sym e))
 cond-broken false j e = refl
 
 -- what comes after a front that begins at j is the end of b
@@ -137,34 +136,14 @@ length-before b j l = omega (arith, length-drop j b)
 
 module _ (b : List ℕ) (k d n j : ℕ) (l : j ≤ length b) (g : Formula → Formula → Formula) (w : (a c : Formula) → allowedUnder k d (g a c) ≡ (allowedUnder k d a && allowedUnder k d c)) where
   -- a formula of two parts ends where its second part does, which begins where the first ends
-  pub binary-end : (i : ℕ) (r : NodeEnd) (p : Parsed) → parse n (drop j b) ≡ p → At i ≡ endOf k d (length b) p → r ≡ endOf k d (length b) (parse n (drop i b))
+  pub binary-end : (i : NodeFacts) (r : NodeEnd) (p : Parsed) → parse n (drop j b) ≡ p → At i ≡ endOf k d (length b) p → r ≡ endOf k d (length b) (parse n (drop (i .end) b))
       → r ≡ endOf k d (length b) (binary g (parse n) p)
   binary-end i r unparsed q e h = absurd (never-at i e)
   binary-end i r (parsed a t) q e h =
       let s = cond-at (allowedUnder k d a) i (length b - length t) e in
-      let u : drop i b ≡ t = rw (s .1) (rest-at b j (bytesOf a) t l (bytes-parse n (drop j b) a t q)) in
+      let u : drop (i .end) b ≡ t = rw (s .1) (rest-at b j (bytesOf a) t l (bytes-parse n (drop j b) a t q)) in
       h ∙ rw u (sym (unary-end k d (g a) d (length b) (λ c. w a c ∙ rw (s .0)) (parse n t)))
 
   pub binary-broken : (p : Parsed) → Broken ≡ endOf k d (length b) p → Broken ≡ endOf k d (length b) (binary g (parse n) p)
   binary-broken unparsed e = refl
   binary-broken (parsed a t) e = unary-broken k d (g a) (length b) (λ c. w a c ∙ rw (cond-broken (allowedUnder k d a) (length b - length t) e)) (parse n t)
-
-lt-or-le : (i n : ℕ) → (i < n) ⊎ (n ≤ i)
-lt-or-le i n = go (ltb i n) refl
-  where
-    go : (t : Bool) → ltb i n ≡ t → (i < n) ⊎ (n ≤ i)
-    go true e = inl (ltb-true i n e)
-    go false e = inr (ltb-false i n e)
-
--- a paired code is one of the two
-pub pair : (c x : ℕ) → c ≤ x → x ≤ suc c → (x ≡ c) ⊎ (x ≡ suc c)
-pair c x l m = ⊎-elim (λ e. inr e) (λ h. inl (omega arith)) (eq-or-lt-of-le m)
-
--- a formula that is one number ends after it
-pub numbered-end : (b : List ℕ) (k d j bound : ℕ) (g : ℕ → Formula) → ((p : ℕ) → allowedUnder k d (g p) ≡ ltb p bound) → numberBelow b j bound ≡ endOf k d (length b) (numbered g (drop j b))
-unfolding numberBelow
-numbered-end b k d j bound g w = go (lt-or-le j (length b))
-  where
-    go : (j < length b) ⊎ (length b ≤ j) → cond (ltb j (length b)) (cond (ltb (getD b j 0) bound) (At (j + 1)) Broken) Broken ≡ endOf k d (length b) (numbered g (drop j b))
-    go (inl l) = rw (lt-ltb j (length b) l, drop-cons b j 0 l, w (getD b j 0), length-before b (suc j) l, add-one)
-    go (inr l) = rw (le-ltb j (length b) l, drop-of-length-le b l)

@@ -1,131 +1,140 @@
 -- A law for each arm of `node`, and one for the whole part. Rests on Ends, RoundTrip and Check.
 --   told, forward: the answer that a match found; an answer is further on than the place, and within the part
---   ended, at-bottom .. at-other: each arm's answer is the end of the formula at the place
+--   at-bottom .. at-broken: each arm's answer is the end of the formula at the place
 --   used-up, left-over, broken, too-long: what the check answers for the whole part
-use Prim.Native.Nat.{ℕ, suc, _+_, _-_, _≤_, _<_}
+use Prim.Native.Nat.{ℕ, _+_, _-_, _≤_, _<_}
 use mathlib.Core.Path.{_≡_, refl, sym, ap, _∙_}
-use mathlib.Core.Bool.{_&&_}
-use mathlib.Core.Logic.{⊎-elim}
+use mathlib.Core.Bool.{Bool, true, false, _&&_}
 use mathlib.Core.List.{List, [], _∷_}
 use native.Mathlib.Nat.{zero-add}
-use native.Mathlib.Numerals.{add-one}
 use native.Mathlib.Omega.{arith}
 use lib.Dec.{ltb}
-use lib.ListN.{length, getD, drop, length-append, length-drop, drop-of-length-le}
-use lib.Seq.{drop-cons}
+use lib.ListN.{length, drop, length-append, length-drop}
+use lib.Seq.{drop-drop}
 use borrow.Author.Tests.{le-leb, lt-leb}
-use Rattle.theory.specs.Formula.{Formula, prop, negated, var, or, and, AX, EX, mu, nu, nestedBinders}
-use Rattle.formula.specs.Bytes.{bytesOf, Parsed, parsed, unparsed, numbered, unary, binary, byCode, parse, allowed, whole, formulaReading}
-use Rattle.formula.specs.RoundTrip.{parse-code, parse-nil, code-refused, bytes-parse, bytes-least}
-use Rattle.formula.specs.Check.{allowedUnder, endOf, NodeIs, numberBelow}
+use Rattle.theory.specs.Formula.{Formula, bottom, top, prop, negated, var, or, and, AX, EX, mu, nu, nestedBinders}
+use Rattle.model.specs.declared.Proposition.{Proposition}
+use Rattle.tokens.specs.declared.Token.{Token}
+use Rattle.tokens.specs.declared.Token.the-variants.{Bottom, Top, Literal, Variable, Two, Next, Fixpoint, End, Broken as Broken′}
+use Rattle.tokens.specs.Tokens.{tokenSize}
+use Rattle.tokens.specs.Sizes.{Stands, stands-within}
+use Rattle.formula.specs.Bytes.{bytesOf, Parsed, parsed, unparsed, unary, binary, parse, allowed, whole, formulaReading}
+use Rattle.formula.specs.RoundTrip.{bytes-parse, bytes-least}
+use Rattle.formula.specs.ByToken.{byToken, parse-token}
+use Rattle.formula.specs.Check.{allowedUnder, endIf, endOf, NodeIs}
 use Rattle.formula.specs.Answer.{checked}
 use Rattle.formula.specs.declared.FormulaCheck.the-variants.{Accepted, Refused}
+use Rattle.formula.specs.declared.NodeFacts.{NodeFacts}
 use Rattle.formula.specs.declared.NodeEnd.{NodeEnd}
 use Rattle.formula.specs.declared.NodeEnd.the-variants.{At, Broken}
-use Rattle.formula.proofs.Ends.{under-or, under-and, under-bottom, under-top, under-prop, under-negated, under-var, under-AX, under-EX, under-mu, under-nu, under-four, unary-end, never-at, cond-at, cond-broken, length-before, binary-end, binary-broken, pair, numbered-end}
+use Rattle.formula.proofs.Ends.{under-or, under-and, under-bottom, under-top, under-prop, under-negated, under-var, under-AX, under-EX, under-mu, under-nu, under-four, unary-end, never-at, cond-at, cond-broken, length-before, binary-end, binary-broken}
 
 -- ---- the arms of `node`
 
--- by the code at the position
-coded : (b : List ℕ) (at n c : ℕ) → at < length b → getD b at 0 ≡ c → length b ≤ n + at → parse n (drop at b) ≡ byCode (parse (n - 1)) c (drop (at + 1) b)
-coded b at n c l q h = rw (drop-cons b at 0 l, q, add-one) (parse-code n c (drop (suc at) b) (omega arith))
-
--- what comes after the code
-abbrev after : List ℕ → ℕ → List ℕ
-after b at = drop (at + 1) b
+-- by the token at the position
+coded : {b : List ℕ} {at after : ℕ} {t : Token} → Stands b at t after → (n : ℕ) → length b ≤ n + at
+    → parse n (drop at b) ≡ byToken (parse (n - 1)) t (drop after b)
+coded {b} {at} {after} {t} s n h =
+    parse-token n (drop at b) (omega (arith, length-drop at b))
+    ∙ ap (λ (u : Token). byToken (parse (n - 1)) u (drop (tokenSize u) (drop at b))) (s .token)
+    ∙ ap (byToken (parse (n - 1)) t) (drop-drop (tokenSize t) at b ∙ ap (λ (i : ℕ). drop i b) (sym (s .ends)))
 
 -- the answer that a match found
 pub told : {b : List ℕ} {at k d : ℕ} {r s : NodeEnd} → NodeIs b at k d r → r ≡ s → NodeIs b at k d s
 told h e = rw e at h
 
 -- the answer is further on than the position, and within the part
-pub forward : {b : List ℕ} {at k d : ℕ} (i : ℕ) → NodeIs b at k d (At i) → (at < i) × (i ≤ length b)
+pub forward : {b : List ℕ} {at k d : ℕ} (i : NodeFacts) → NodeIs b at k d (At i) → (at < i .end) × (i .end ≤ length b)
 forward {b} {at} {k} {d} i e = go (parse (length b) (drop at b)) refl (e .is (length b) (omega arith))
   where
-    go : (p : Parsed) → parse (length b) (drop at b) ≡ p → At i ≡ endOf k d (length b) p → (at < i) × (i ≤ length b)
+    go : (p : Parsed) → parse (length b) (drop at b) ≡ p → At i ≡ endOf k d (length b) p → (at < i .end) × (i .end ≤ length b)
     go unparsed q h = absurd (never-at i h)
     go (parsed a t) q h =
         let s = cond-at (allowedUnder k d a) i (length b - length t) h in
         let u = ap length (bytes-parse (length b) (drop at b) a t q) in
         omega (arith, u, length-drop at b, length-append (bytesOf a) t, bytes-least a)
 
-module _ {b : List ℕ} {at k d : ℕ} where
-  -- past the end there is no formula
-  pub ended : length b ≤ at → NodeIs b at k d Broken
-  ended l = record { is = λ n h. rw (drop-of-length-le b l, parse-nil n) }
+module _ {b : List ℕ} {at after k d : ℕ} where
+  arm : {t : Token} {r : NodeEnd} → Stands b at t after
+      → ((n : ℕ) → length b ≤ n + (at + 1) → r ≡ endOf k d (length b) (byToken (parse n) t (drop after b))) → NodeIs b at k d r
+  arm s f = record { is = λ n h. rw (coded s n h) (f (n - 1) (omega arith)) }
 
-  module _ (l : at < length b) where
-    arm : (c : ℕ) {r : NodeEnd} → ((n : ℕ) → length b ≤ n + (at + 1) → r ≡ endOf k d (length b) (byCode (parse n) c (after b at))) → getD b at 0 ≡ c → NodeIs b at k d r
-    arm c f q = record { is = λ n h. rw (coded b at n c l q h) (f (n - 1) (omega arith)) }
+  -- each kind of token: φ is a formula of one token, g makes a formula of its parts
+  leaf-arm : {t : Token} (φ : Formula) (x : Bool) → ((n : ℕ) (y : List ℕ) → byToken (parse n) t y ≡ parsed φ y)
+      → allowedUnder k d φ ≡ x → 1 ≤ tokenSize t → Stands b at t after → NodeIs b at k d (endIf x after)
+  leaf-arm φ x u w l s = arm s (λ n h. rw (u n (drop after b), w, length-before b after (stands-within s l .1)))
 
-    -- each kind of code, where c is the code and g makes the formula
-    number-arm : (c bound : ℕ) (g : ℕ → Formula) {r : NodeEnd} → ((n : ℕ) → byCode (parse n) c (after b at) ≡ numbered g (after b at)) → ((p : ℕ) → allowedUnder k d (g p) ≡ ltb p bound)
-        → r ≡ numberBelow b (at + 1) bound → getD b at 0 ≡ c → NodeIs b at k d r
-    number-arm c bound g u w e = arm c (λ n h. e ∙ rw (u n) (numbered-end b k d (at + 1) bound g w))
+  unary-arm : {t : Token} (d' : ℕ) (g : Formula → Formula) {r : NodeEnd} → ((n : ℕ) (y : List ℕ) → byToken (parse n) t y ≡ unary g (parse n y))
+      → ((f : Formula) → allowedUnder k d (g f) ≡ allowedUnder k d' f) → tokenSize t ≡ 1 → NodeIs b after k d' r → Stands b at t after → NodeIs b at k d r
+  unary-arm d' g u w l e s =
+      arm s (λ n h. e .is n (omega (arith, s .ends)) ∙ rw (u n (drop after b)) (sym (unary-end k d g d' (length b) w (parse n (drop after b)))))
 
-    unary-arm : (c d' : ℕ) (g : Formula → Formula) {r : NodeEnd} → ((n : ℕ) → byCode (parse n) c (after b at) ≡ unary g (parse n (after b at)))
-        → ((f : Formula) → allowedUnder k d (g f) ≡ allowedUnder k d' f) → NodeIs b (at + 1) k d' r → getD b at 0 ≡ c → NodeIs b at k d r
-    unary-arm c d' g u w e = arm c (λ n h. e .is n h ∙ rw (u n) (sym (unary-end k d g d' (length b) w (parse n (after b at)))))
+  module _ {t : Token} (g : Formula → Formula → Formula) (u : (n : ℕ) (y : List ℕ) → byToken (parse n) t y ≡ binary g (parse n) (parse n y))
+      (w : (f h : Formula) → allowedUnder k d (g f h) ≡ (allowedUnder k d f && allowedUnder k d h)) (l : tokenSize t ≡ 1) (s : Stands b at t after) where
+    binary-arm : {r : NodeEnd} (i : NodeFacts) → NodeIs b after k d (At i) → NodeIs b (i .end) k d r → NodeIs b at k d r
+    binary-arm {r} i e f =
+        arm s (λ n h.
+        let m : length b ≤ n + after = omega (arith, s .ends) in
+        rw (u n (drop after b)) (binary-end b k d n after (stands-within s (omega arith) .1) g w i r (parse n (drop after b)) refl (e .is n m) (f .is n (omega (arith, forward i e .0)))))
 
-    binary-arm : (c i : ℕ) (g : Formula → Formula → Formula) {r : NodeEnd} → ((n : ℕ) → byCode (parse n) c (after b at) ≡ binary g (parse n) (parse n (after b at)))
-        → ((f h : Formula) → allowedUnder k d (g f h) ≡ (allowedUnder k d f && allowedUnder k d h))
-        → NodeIs b (at + 1) k d (At i) → NodeIs b i k d r → getD b at 0 ≡ c → NodeIs b at k d r
-    binary-arm c i g {r} u w e f =
-        arm c (λ n h. rw (u n) (binary-end b k d n (at + 1) (omega arith) g w i r (parse n (after b at)) refl (e .is n h) (f .is n (omega (arith, forward i e .0)))))
+    broken-arm : NodeIs b after k d Broken → NodeIs b at k d Broken
+    broken-arm e = arm s (λ n h. rw (u n (drop after b)) (binary-broken b k d n after (stands-within s (omega arith) .1) g w (parse n (drop after b)) (e .is n (omega (arith, s .ends)))))
 
-    broken-arm : (c : ℕ) (g : Formula → Formula → Formula) → ((n : ℕ) → byCode (parse n) c (after b at) ≡ binary g (parse n) (parse n (after b at)))
-        → ((f h : Formula) → allowedUnder k d (g f h) ≡ (allowedUnder k d f && allowedUnder k d h))
-        → NodeIs b (at + 1) k d Broken → getD b at 0 ≡ c → NodeIs b at k d Broken
-    broken-arm c g u w e = arm c (λ n h. rw (u n) (binary-broken b k d n (at + 1) (omega arith) g w (parse n (after b at)) (e .is n h)))
+  -- the tokens
+  pub at-bottom : d ≤ 3 → Stands b at Bottom after → NodeIs b at k d (endIf true after)
+  unfolding byToken tokenSize
+  at-bottom s = leaf-arm bottom true (λ n y. refl) (under-bottom k d s) (omega arith)
 
-    -- the codes
-    pub at-bottom : d ≤ 3 → getD b at 0 ≡ 0 → NodeIs b at k d (At (at + 1))
-    unfolding byCode
-    at-bottom s = arm 0 (λ n h. rw (under-bottom k d s, length-before b (at + 1) (omega arith)))
+  pub at-top : d ≤ 3 → Stands b at Top after → NodeIs b at k d (endIf true after)
+  unfolding byToken tokenSize
+  at-top s = leaf-arm top true (λ n y. refl) (under-top k d s) (omega arith)
 
-    pub at-top : d ≤ 3 → getD b at 0 ≡ 1 → NodeIs b at k d (At (at + 1))
-    unfolding byCode
-    at-top s = arm 1 (λ n h. rw (under-top k d s, length-before b (at + 1) (omega arith)))
+  pub at-literal : (p : Proposition) (x : Bool) → d ≤ 3 → Stands b at (Literal p x) after → NodeIs b at k d (endIf (ltb (p .0) k) after)
+  unfolding byToken tokenSize
+  at-literal p false s = leaf-arm (prop (p .0)) _ (λ n y. refl) (under-prop k d s (p .0)) (omega arith)
+  at-literal p true s = leaf-arm (negated (p .0)) _ (λ n y. refl) (under-negated k d s (p .0)) (omega arith)
 
-    pub at-proposition : {r : NodeEnd} → d ≤ 3 → 2 ≤ getD b at 0 → getD b at 0 ≤ 3 → r ≡ numberBelow b (at + 1) k → NodeIs b at k d r
-    unfolding byCode
-    at-proposition s x y e =
-        ⊎-elim (number-arm 2 k prop (λ n. refl) (under-prop k d s) e) (number-arm 3 k negated (λ n. refl) (under-negated k d s) e) (pair 2 (getD b at 0) x y)
+  pub at-variable : (v : ℕ) → d ≤ 3 → Stands b at (Variable v) after → NodeIs b at k d (endIf (ltb v d) after)
+  unfolding byToken tokenSize
+  at-variable v s = leaf-arm (var v) _ (λ n y. refl) (under-var k d s v) (omega arith)
 
-    pub at-variable : {r : NodeEnd} → d ≤ 3 → r ≡ numberBelow b (at + 1) d → getD b at 0 ≡ 4 → NodeIs b at k d r
-    unfolding byCode
-    at-variable s e = number-arm 4 d var (λ n. refl) (under-var k d s) e
+  pub at-two : {r : NodeEnd} (x : Bool) → Stands b at (Two x) after
+      → (i : NodeFacts) → NodeIs b after k d (At i) → NodeIs b (i .end) k d r → NodeIs b at k d r
+  unfolding byToken tokenSize
+  at-two true s i e = binary-arm or (λ n y. refl) (under-or k d) refl s i e
+  at-two false s i e = binary-arm and (λ n y. refl) (under-and k d) refl s i e
 
-    pub at-two : {r : NodeEnd} (i : ℕ) → 5 ≤ getD b at 0 → getD b at 0 ≤ 6 → NodeIs b (at + 1) k d (At i) → NodeIs b i k d r → NodeIs b at k d r
-    unfolding byCode
-    at-two i x y e f =
-        ⊎-elim (binary-arm 5 i or (λ n. refl) (under-or k d) e f) (binary-arm 6 i and (λ n. refl) (under-and k d) e f) (pair 5 (getD b at 0) x y)
+  pub at-two-broken : (x : Bool) → Stands b at (Two x) after → NodeIs b after k d Broken → NodeIs b at k d Broken
+  unfolding byToken tokenSize
+  at-two-broken true s = broken-arm or (λ n y. refl) (under-or k d) refl s
+  at-two-broken false s = broken-arm and (λ n y. refl) (under-and k d) refl s
 
-    pub at-two-broken : 5 ≤ getD b at 0 → getD b at 0 ≤ 6 → NodeIs b (at + 1) k d Broken → NodeIs b at k d Broken
-    unfolding byCode
-    at-two-broken x y e =
-        ⊎-elim (broken-arm 5 or (λ n. refl) (under-or k d) e) (broken-arm 6 and (λ n. refl) (under-and k d) e) (pair 5 (getD b at 0) x y)
+  pub at-next : {r : NodeEnd} (x : Bool) → NodeIs b after k d r → Stands b at (Next x) after → NodeIs b at k d r
+  unfolding byToken tokenSize
+  at-next true = unary-arm d AX (λ n y. refl) (under-AX k d) refl
+  at-next false = unary-arm d EX (λ n y. refl) (under-EX k d) refl
 
-    pub at-next : {r : NodeEnd} → 7 ≤ getD b at 0 → getD b at 0 ≤ 8 → NodeIs b (at + 1) k d r → NodeIs b at k d r
-    unfolding byCode
-    at-next x y e = ⊎-elim (unary-arm 7 d AX (λ n. refl) (under-AX k d) e) (unary-arm 8 d EX (λ n. refl) (under-EX k d) e) (pair 7 (getD b at 0) x y)
+  pub at-fixpoint : {r : NodeEnd} (x : Bool) → NodeIs b after k (d + 1) r → Stands b at (Fixpoint x) after → NodeIs b at k d r
+  unfolding byToken tokenSize
+  at-fixpoint true = unary-arm (d + 1) mu (λ n y. refl) (under-mu k d) refl
+  at-fixpoint false = unary-arm (d + 1) nu (λ n y. refl) (under-nu k d) refl
 
-    pub at-binder : {r : NodeEnd} → 9 ≤ getD b at 0 → getD b at 0 ≤ 10 → NodeIs b (at + 1) k (d + 1) r → NodeIs b at k d r
-    unfolding byCode
-    at-binder x y e =
-        ⊎-elim (unary-arm 9 (d + 1) mu (λ n. refl) (under-mu k d) e) (unary-arm 10 (d + 1) nu (λ n. refl) (under-nu k d) e) (pair 9 (getD b at 0) x y)
+  -- a binder under three
+  pub at-fourth : (x : Bool) → 3 ≤ d → Stands b at (Fixpoint x) after → NodeIs b at k d Broken
+  at-fourth x s = at-fixpoint x (record { is = λ n h. no-end (parse n (drop after b)) })
+    where
+      no-end : (p : Parsed) → Broken ≡ endOf k (d + 1) (length b) p
+      no-end unparsed = refl
+      no-end (parsed f t) = rw (under-four k (d + 1) (omega arith) f)
 
-    -- a binder under three
-    pub at-fourth : 9 ≤ getD b at 0 → getD b at 0 ≤ 10 → 3 ≤ d → NodeIs b at k d Broken
-    at-fourth x y s = at-binder x y (record { is = λ n h. no-end (parse n (after b at)) })
-      where
-        no-end : (p : Parsed) → Broken ≡ endOf k (d + 1) (length b) p
-        no-end unparsed = refl
-        no-end (parsed f t) = rw (under-four k (d + 1) (omega arith) f)
+  -- no formula: past the end, and at a broken place
+  pub at-end : Stands b at End after → NodeIs b at k d Broken
+  unfolding byToken
+  at-end s = arm s (λ n h. refl)
 
-    -- a code that stands for no formula
-    pub at-other : 11 ≤ getD b at 0 → NodeIs b at k d Broken
-    at-other q = arm (getD b at 0) (λ n h. rw (code-refused (parse n) (getD b at 0) (after b at) q)) refl
+  pub at-broken : Stands b at Broken′ after → NodeIs b at k d Broken
+  unfolding byToken
+  at-broken s = arm s (λ n h. refl)
 
 -- ---- the whole part
 
@@ -139,7 +148,7 @@ module _ (b : List ℕ) (k : ℕ) (l : length b ≤ 255) where
   reading = rw (le-leb (length b) 255 l)
 
   -- a formula that keeps the rules and ends with the part; one that ends before it; none
-  pub used-up : (e : ℕ) → NodeIs b 0 k 0 (At e) → e ≡ length b → Accepted ≡ checked (formulaReading k b)
+  pub used-up : (e : NodeFacts) → NodeIs b 0 k 0 (At e) → e .end ≡ length b → Accepted ≡ checked (formulaReading k b)
   used-up e h q = rw reading (go (parse (length b) b) refl (h .is (length b) (omega arith)))
     where
       go : (p : Parsed) → parse (length b) b ≡ p → At e ≡ endOf k 0 (length b) p → Accepted ≡ checked (whole k p)
@@ -148,7 +157,7 @@ module _ (b : List ℕ) (k : ℕ) (l : length b ≤ 255) where
       go (parsed a (c ∷ t)) w s =
           absurd (omega (arith, cond-at (allowedUnder k 0 a) e (length b - length (c ∷ t)) s .1, ap length (bytes-parse (length b) b a (c ∷ t) w), length-append (bytesOf a) (c ∷ t)))
 
-  pub left-over : (e : ℕ) → NodeIs b 0 k 0 (At e) → (e ≡ length b → ⊥) → Refused ≡ checked (formulaReading k b)
+  pub left-over : (e : NodeFacts) → NodeIs b 0 k 0 (At e) → (e .end ≡ length b → ⊥) → Refused ≡ checked (formulaReading k b)
   left-over e h q = rw reading (go (parse (length b) b) (h .is (length b) (omega arith)))
     where
       go : (p : Parsed) → At e ≡ endOf k 0 (length b) p → Refused ≡ checked (whole k p)

@@ -1,14 +1,14 @@
 -- What the checker of formula parts answers, and what it answers at each position. Rests on Bytes.
---   allowedUnder: the rules under d binders; endOf: the end of a formula that keeps them
---   NodeIs, numberBelow: what the code answers at a place
+--   allowedUnder: the rules under d binders; endOf, by endIf: the end of a formula that keeps them
+--   NodeIs: what the code answers at a place
 --   accepted-read, refused-read: what a caller learns from the check's answer
 use Prim.Native.Nat.{ℕ, _+_, _-_, _≤_}
 use mathlib.Core.Path.{_≡_, refl}
 use mathlib.Core.Bool.{Bool, cond, _&&_}
 use mathlib.Core.List.{List}
 use native.Mathlib.Omega.{arith}
-use lib.Dec.{ltb, leb}
-use lib.ListN.{length, getD, drop}
+use lib.Dec.{leb}
+use lib.ListN.{length, drop}
 use Rattle.theory.specs.Formula.{Formula, boundBy, overProps, nestedBinders}
 use Rattle.formula.specs.Bytes.{Parsed, parsed, unparsed, parse, FormulaReading, read, refused}
 use Rattle.formula.specs.declared.FormulaCheck.the-variants.{Accepted, Refused}
@@ -22,19 +22,19 @@ use Rattle.formula.specs.Answer.{checked}
 unfoldable pub allowedUnder : ℕ → ℕ → Formula → Bool
 allowedUnder k d f = boundBy d f && overProps k f && leb (d + nestedBinders f) 3
 
+-- a formula that ends at a place, where a test is passed
+abbrev pub endIf : Bool → ℕ → NodeEnd
+endIf t i = cond t (At (record { end = i })) Broken
+
 -- where a formula ends, in a part of n bytes: before the bytes that are left
 abbrev pub endOf : ℕ → ℕ → ℕ → Parsed → NodeEnd
 endOf k d n unparsed = Broken
-endOf k d n (parsed f rest) = cond (allowedUnder k d f) (At (n - length rest)) Broken
+endOf k d n (parsed f rest) = endIf (allowedUnder k d f) (n - length rest)
 
 -- what a call answers for the formula that begins at a position, with k propositions and under d binders; n is any depth of the parse that is
 -- enough
 pub record NodeIs (b : List ℕ) (at k d : ℕ) (r : NodeEnd) : Type 0 where
   pub is : (n : ℕ) → length b ≤ n + at → r ≡ endOf k d (length b) (parse n (drop at b))
-
--- the end of a number at a position, which has to be below a bound
-unfoldable pub numberBelow : List ℕ → ℕ → ℕ → NodeEnd
-numberBelow b at bound = cond (ltb at (length b)) (cond (ltb (getD b at 0) bound) (At (at + 1)) Broken) Broken
 
 -- ---- what an answer says of the reading
 

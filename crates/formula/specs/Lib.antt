@@ -4,6 +4,7 @@ pub mod Bytes
 pub mod Answer
 -- ---- theorems
 pub mod RoundTrip
+pub mod ByToken
 pub mod Examples
 -- ---- for the code
 pub mod Check

@@ -1,5 +1,5 @@
 -- The parse and the bytes of a formula are inverse to one another, so that a formula part is read as φ exactly when it is the bytes
--- of φ, at most 255 of them, and φ is allowed. Rests on Bytes.
+-- of φ, at most 255 of them, and φ is allowed. Rests on Bytes and tokens' Sizes.
 --   reading-exactly: a part is read as φ exactly when it is the bytes of φ, at most 255, and φ is allowed
 --   parse-bytes, bytes-parse, bytes-injective: parse and bytes are inverse to one another
 --   code-refused: a code from 11 on; parse-code, parse-nil: the parse by the first byte; bytes-least: a formula has a byte
@@ -13,9 +13,10 @@ use native.Mathlib.Numerals.{sub-one}
 use native.Mathlib.Omega.{arith}
 use lib.Dec.{leb}
 use lib.ListN.{length, length-append}
-use borrow.Author.Tests.{ne-eqb, le-leb, leb-true}
+use borrow.Author.Tests.{le-leb, leb-true}
 use Rattle.theory.specs.Formula.{Formula, bottom, top, prop, negated, var, or, and, AX, EX, mu, nu, closed, overProps, nestedBinders}
 use Rattle.theory.specs.TestLaws.{and-l, and-r}
+use Rattle.tokens.specs.Sizes.{code-past}
 use Rattle.formula.specs.Bytes.{bytesOf, Parsed, parsed, unparsed, numbered, unary, binary, byCode, parse, allowed, whole, FormulaReading, read, refused, formulaReading}
 
 -- a formula is found or not
@@ -66,20 +67,7 @@ parse-bytes (nu f) d rest l = parse-code d 10 _ (omega arith) ∙ simp (parse-by
 -- 'Any code from 11 to 255 is refused'
 pub code-refused : (more : List ℕ → Parsed) (c : ℕ) (b : List ℕ) → 11 ≤ c → byCode more c b ≡ unparsed
 unfolding byCode
-code-refused more c b l =
-    simp (
-      ne-eqb c 0 (λ e. omega arith),
-      ne-eqb c 1 (λ e. omega arith),
-      ne-eqb c 2 (λ e. omega arith),
-      ne-eqb c 3 (λ e. omega arith),
-      ne-eqb c 4 (λ e. omega arith),
-      ne-eqb c 5 (λ e. omega arith),
-      ne-eqb c 6 (λ e. omega arith),
-      ne-eqb c 7 (λ e. omega arith),
-      ne-eqb c 8 (λ e. omega arith),
-      ne-eqb c 9 (λ e. omega arith),
-      ne-eqb c 10 (λ e. omega arith),
-    )
+code-refused more c b l = code-past c l _ _ _ _ _ _ _ _ _ _ _ _
 
 -- a reading that is another one's has its bytes
 same-bytes : (b : List ℕ) (f φ : Formula) (t rest : List ℕ) → parsed f t ≡ parsed φ rest → b ≡ bytesOf f ++ t → b ≡ bytesOf φ ++ rest

@@ -1,9 +1,13 @@
-// Formula parts: whether the rules of the formula are kept, in one pass over the bytes.
+// Formula parts: whether the rules of the formula are kept, in one pass over the tokens (tokens).
 ghost use mathlib.Core.Path.{_≡_};
 ghost use Prim.Native.Nat.{_≤_};
+ghost use lib.Dec.{ltb};
 ghost use Rattle.formula.specs.Bytes.{formulaReading};
-ghost use Rattle.formula.specs.Check.{numberBelow, NodeIs};
+ghost use Rattle.formula.specs.Check.{endIf, NodeIs};
 ghost use Rattle.formula.specs.Answer.{checked};
+use tokens::Token;
+use tokens::size;
+use tokens::token_at;
 
 // What the check of a formula part answers.
 pub enum FormulaCheck {
@@ -12,22 +16,23 @@ pub enum FormulaCheck {
     Refused,
 }
 
-// Where a formula inside a part ends, or that it breaks a rule.
+// What is known of a formula inside a part that keeps the rules: where it ends.
+struct NodeFacts {
+    end: usize,
+}
+
+// That, or that a rule is broken.
 enum NodeEnd {
-    At(usize),
+    At(NodeFacts),
     Broken,
 }
 
-// The number at a position, which is below a bound.
-fn number_below(f: &[u8], at: usize, bound: u8) -> NodeEnd
-    ensures { λ r. ⌜ r ≡ numberBelow (now (f .entry)) at bound ⌝ }
+// A number that has to be below a bound: the formula ends after it.
+fn number_below(number: u8, bound: u8, end: usize) -> NodeEnd
+    ensures { λ r. ⌜ r ≡ endIf (ltb number bound) end ⌝ }
 {
-    if at < f.len() {
-        if f[at] < bound {
-            NodeEnd::At(at + 1)
-        } else {
-            NodeEnd::Broken
-        }
+    if number < bound {
+        NodeEnd::At(NodeFacts { end: end })
     } else {
         NodeEnd::Broken
     }
@@ -38,33 +43,30 @@ fn node(f: &[u8], at: usize, k: u8, depth: u8) -> NodeEnd
     requires { ⌜ depth ≤ 3 ⌝ }
     ensures { λ r. ⌜ NodeIs (now (f .entry)) at k depth r ⌝ }
 {
-    if at < f.len() {
-        let code = f[at];
-        let next = at + 1;
-        match code {
-            0 => NodeEnd::At(next),
-            1 => NodeEnd::At(next),
-            2 | 3 => number_below(f, next, k),
-            4 => number_below(f, next, depth),
-            5 | 6 => {
-                let left = node(f, next, k, depth);
-                match left {
-                    NodeEnd::At(middle) => node(f, middle, k, depth),
-                    NodeEnd::Broken => NodeEnd::Broken,
-                }
+    let token = token_at(f, at);
+    let next = at + size(token);
+    match token {
+        Token::Bottom => NodeEnd::At(NodeFacts { end: next }),
+        Token::Top => NodeEnd::At(NodeFacts { end: next }),
+        Token::Literal { p, negated: _ } => number_below(p.0, k, next),
+        Token::Variable(v) => number_below(v, depth, next),
+        Token::Two { or: _ } => {
+            let first = node(f, next, k, depth);
+            match first {
+                NodeEnd::At(facts) => node(f, facts.end, k, depth),
+                NodeEnd::Broken => NodeEnd::Broken,
             }
-            7 | 8 => node(f, next, k, depth),
-            9 | 10 => {
-                if depth < 3 {
-                    node(f, next, k, depth + 1)
-                } else {
-                    NodeEnd::Broken
-                }
-            }
-            11..=255 => NodeEnd::Broken,
         }
-    } else {
-        NodeEnd::Broken
+        Token::Next { all: _ } => node(f, next, k, depth),
+        Token::Fixpoint { least: _ } => {
+            if depth < 3 {
+                node(f, next, k, depth + 1)
+            } else {
+                NodeEnd::Broken
+            }
+        }
+        Token::End => NodeEnd::Broken,
+        Token::Broken => NodeEnd::Broken,
     }
 }
 
@@ -75,8 +77,8 @@ pub fn check(part: &[u8], k: u8) -> FormulaCheck
     if part.len() <= 255 {
         let whole = node(part, 0, k, 0);
         match whole {
-            NodeEnd::At(end) => {
-                if end == part.len() {
+            NodeEnd::At(facts) => {
+                if facts.end == part.len() {
                     FormulaCheck::Accepted
                 } else {
                     FormulaCheck::Refused

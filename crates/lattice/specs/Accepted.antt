@@ -1,20 +1,16 @@
--- An accepted part is a distributive De Morgan lattice, and every such lattice is accepted. Rests on theory's Lattice, order's Sound and Exactly, Reading.
+-- An accepted part is a distributive De Morgan lattice, and every such lattice is accepted. Rests on theory's Lattice, order's Sound and Exactly,
+-- Reading, Numbered.
 --   accepted-is-lattice: the operations of an accepted part obey the laws
 --   lattice-exactly: accepted are exactly the parts of the right form that are such lattices; lattice-is-accepted is one direction
 --   accepted-sound: the accepted part is the one that the bytes give, and no refusal applies to it
---   ExplicitForm, explicit-out: the form test of an explicit part, as facts
---   formed: the same of any part, its number of elements and its complements
-use Prim.Native.Nat.{ℕ, _+_, _*_, _≤_, _<_}
+--   formed: the form test of any part, as facts on its number of elements and its complements
+use Prim.Native.Nat.{ℕ}
 use mathlib.Core.Path.{_≡_, refl, sym}
-use mathlib.Core.Bool.{Bool, true, false, cond, _&&_, _||_}
+use mathlib.Core.Bool.{Bool, true, false, cond, _||_}
 use mathlib.Core.Logic.{_↔_}
 use mathlib.Core.List.{List}
 use native.Mathlib.Omega.{arith}
-use borrow.Author.Tests.{ltb-true, leb-true, eqb-true}
-use lib.Dec.{ltb, leb, eqb}
-use lib.ListN.{length, getD}
-use Rattle.theory.specs.Test.{allBelow}
-use Rattle.theory.specs.TestLaws.{and-l, and-r, all-at}
+use lib.ListN.{getD}
 use Rattle.theory.specs.Lattice.{Laws}
 use Rattle.theory.specs.Part.{LatticePart, meetOf, joinOf, opsOf, explicitPart}
 use Rattle.refusal.specs.declared.Refusal.{Refusal}
@@ -23,29 +19,8 @@ use Rattle.order.specs.Ordered.{Formed, ordered-out, ordered-in, bounded-out, b
 use Rattle.order.specs.Sound.{LatticeSound, lawsOf}
 use Rattle.order.specs.Exactly.{lattice-ordered, lattice-bounded, lattice-distributive, lattice-complements, sound-lattice}
 use Rattle.lattice.specs.Panel.{panelPart}
+use Rattle.lattice.specs.Numbered.{explicit-out}
 use Rattle.lattice.specs.Reading.{LatticeReading, accepted, isPanel, latticeOf, explicitForm, latticeForm, partialOrder, bounded, distributive, complementRules, require, partReading, latticeReading}
-
--- the form test of an explicit part, as facts
-pub record ExplicitForm (n : ℕ) (b : List ℕ) : Type 0 where
-  pub some : 0 < n
-  pub most : n ≤ 64
-  pub exact : length b ≡ 1 + n + n * n
-  pub complements : (i : ℕ) → i < n → getD b (1 + i) 0 < n
-  pub orders : (i : ℕ) → i < n * n → getD b (1 + n + i) 0 < 2
-
-pub explicit-out : (n : ℕ) (b : List ℕ) → explicitForm n b ≡ true → ExplicitForm n b
-unfolding explicitForm
-explicit-out n b t4 =
-    let t3 = and-l (leb 1 n && leb n 64 && eqb (length b) (1 + n + n * n) && allBelow n (λ i. ltb (getD b (1 + i) 0) n)) _ t4 in
-    let t2 = and-l (leb 1 n && leb n 64 && eqb (length b) (1 + n + n * n)) _ t3 in
-    let t1 = and-l (leb 1 n && leb n 64) _ t2 in
-    record {
-      some = leb-true 1 n (and-l (leb 1 n) _ t1);
-      most = leb-true n 64 (and-r (leb 1 n) _ t1);
-      exact = eqb-true _ _ (and-r (leb 1 n && leb n 64) _ t2);
-      complements = λ i l. ltb-true _ _ (all-at n _ (and-r (leb 1 n && leb n 64 && eqb (length b) (1 + n + n * n)) _ t3) i l);
-      orders = λ i l. ltb-true _ _ (all-at (n * n) _ (and-r (leb 1 n && leb n 64 && eqb (length b) (1 + n + n * n) && allBelow n (λ i. ltb (getD b (1 + i) 0) n)) _ t4) i l);
-    }
 
 pub formed : (b : List ℕ) → latticeForm b ≡ true → Formed (latticeOf b)
 unfolding latticeForm latticeOf

@@ -1,9 +1,9 @@
--- What a part of the right form lets the code read: sizes, places and bytes. Rests on theory's Part, Panel, Reading, Accepted.
+-- What a part of the right form lets the code read: sizes, places and bytes. Rests on theory's Part, Panel, PanelTable, Reading, Accepted.
 --   part-panel, part-explicit: which part the bytes give
 --   form-explicit, form-out, form-panel, form-least: what the form says of the bytes
 --   form-complements, form-last: the tests of an explicit part, one after the other; square-le: n · n is at most 4,096
 --   OrderEntry, order-at: where an order entry stands, and what it is; explicit-complement: the same of a complement
---   panelEntry, PanelOrder, panel-at, panel-complement: the panel's
+--   panel-at, panel-complement: the panel's
 use Prim.Native.Nat.{ℕ, zero, suc, _+_, _*_, _-_, _/_, _%_, _≤_, _<_}
 use mathlib.Core.Path.{_≡_, refl, ap, _∙_}
 use mathlib.Core.Bool.{Bool, true, false}
@@ -17,9 +17,11 @@ use Rattle.theory.specs.Part.{explicitPart}
 use Rattle.theory.specs.Simulation.{one}
 use Rattle.theory.specs.Test.{allBelow}
 use Rattle.theory.specs.TestLaws.{and-l, not-passed, false-true, all-in}
-use Rattle.lattice.specs.Panel.{panelOrder, panelPart}
+use Rattle.lattice.specs.Panel.{panelPart}
+use Rattle.lattice.specs.PanelTable.{panelEntry}
 use Rattle.lattice.specs.Reading.{isPanel, latticeOf, explicitForm, latticeForm}
-use Rattle.lattice.specs.Accepted.{ExplicitForm, explicit-out}
+use Rattle.lattice.specs.Conditions.{ExplicitForm}
+use Rattle.lattice.specs.Numbered.{explicit-out}
 
 -- n² for n up to 64
 pub square-le : (n : ℕ) → n ≤ 64 → n * n ≤ 4096
@@ -95,14 +97,6 @@ order-at b n i j f p e l m =
       inside = omega (arith, w .exact);
       value = bit _ (w .orders _ c) ∙ ap one v;
     }
-
--- the panel's order, entry by entry
-abbrev pub panelEntry : ℕ → ℕ
-panelEntry k = one (panelOrder (k / 27) (k % 27))
-
--- these bytes are the panel's order
-pub record PanelOrder (b : List ℕ) : Type 0 where
-  pub at : (k : ℕ) → k < 729 → getD b k 0 ≡ panelEntry k
 
 pub panel-at : (b : List ℕ) (i j : ℕ) → isPanel b ≡ true → i < latticeOf b .size → j < latticeOf b .size → (i * 27 + j < 729) × (panelEntry (i * 27 + j) ≡ one (latticeOf b .order i j))
 panel-at b i j p l m =

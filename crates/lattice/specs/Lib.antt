@@ -4,9 +4,12 @@ pub mod Panel
 pub mod Reading
 pub mod Answer
 pub mod DeMorgan
+pub mod Conditions  -- what a part has to be, and which refusal is given exactly when
 -- ---- theorems
+pub mod Numbered  -- the refusals 4 to 8 are given so
 pub mod Accepted
 pub mod Caller
+pub mod PanelTable
 pub mod PanelLattice
 pub mod Examples
 -- ---- for the code

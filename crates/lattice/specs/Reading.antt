@@ -45,8 +45,7 @@ pub data LatticeReading : Type 0 where
 
 -- the refusal where its test fails, else what is found next
 unfoldable pub require : Bool → Refusal → LatticeReading → LatticeReading
-require true f next = next
-require false f next = refused f
+require t f next = cond t next (refused f)
 
 -- 'The first that applies is given, in this order'
 unfoldable pub partReading : LatticePart → LatticeReading

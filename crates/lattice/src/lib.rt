@@ -13,7 +13,7 @@ ghost use lib.ListN.{length};
 ghost use Rattle.theory.specs.Simulation.{one};
 ghost use Rattle.order.specs.Ordered.{Ordered};
 ghost use Rattle.lattice.specs.Reading.{isPanel, latticeOf, latticeForm, latticeReading, partReading};
-ghost use Rattle.lattice.specs.Form.{PanelOrder};
+ghost use Rattle.lattice.specs.PanelTable.{PanelOrder};
 ghost use Rattle.lattice.specs.Answer.{Answered};
 ghost use Rattle.lattice.specs.Tables.{FilledTo};
 ghost use Rattle.lattice.specs.Filling.{BoundsFilled};
@@ -114,7 +114,7 @@ fn fill_order(part: &[u8], t: &mut [u8; 12352])
 {
     let _ = entries(t);
     let n = size(part);
-    let order = panel::ORDER;
+    let order = panel::order();
     for k in 0..4096 {
         t[k] = order_entry(
             part,

@@ -1,14 +1,14 @@
 -- The listing of a case is what a desk answers that was last opened with it and is settled. Rests on Text, and for the proof on Settled,
--- Entries and desk's Demand3.
+-- Entries and desk's Demand3Holds.
 --   Answers, textOfAnswers: what a settled desk answers, and the text of it
 --   answers-are: it has such answers; listing-answered: whatever they are, the listing is their text
 use Prim.Native.Nat.{ℕ, _+_, _*_, _<_}
-use mathlib.Core.Path.{_≡_, sym, ap, ap₂, _∙_}
+use mathlib.Core.Path.{_≡_, refl, sym, ap, ap₂, _∙_}
 use mathlib.Core.Bool.{true}
+use mathlib.Core.Logic.{inl, inr}
 use mathlib.Core.List.{List, _++_}
 use native.Mathlib.Nat.{mul-add-div-right, mul-add-mod-self-right, div-eq-of-lt, mod-eq-of-lt, add-zero}
 use native.Mathlib.Omega.{arith}
-use borrow.Author.Tests.{lt-ltb}
 use lib.ListN.{length}
 use Rattle.theory.specs.Value.{wholeValue}
 use Rattle.theory.specs.Simulation.{SameTable, score}
@@ -18,11 +18,12 @@ use Rattle.rounds.specs.Table.{tableOf}
 use Rattle.rounds.specs.Round.{cell-lt}
 use Rattle.desk.specs.Desk.{Desk, Question, Call, Reply}
 use Rattle.desk.specs.Case.{ops, model1, model2, N1, N2, tableSize, modelIn, formulaIn, roundIn, entryAt, tableBytes, IsT}
-use Rattle.desk.specs.Perform.{asked, shownTo}
+use Rattle.desk.specs.Perform.{asked, showAnswer}
 use Rattle.desk.specs.Run.{run, LastOpening, answersSince, roundAfter}
 use Rattle.desk.specs.RefusedLaws.{open-accepted}
 use Rattle.desk.specs.Listed.{opening-T}
-use Rattle.desk.specs.Demand3.{Claim, listed, ranges, whole-next, score-next}
+use Rattle.desk.specs.Demand3.{Claim}
+use Rattle.desk.specs.Demand3Holds.{listed, ranges, whole-next, score-next}
 use Rattle.listing.specs.Text.{roundsWord, scoreWord, lastItem, each, rowsText, tableText, formulaText, formulaLine, formulasText, acceptedText, listingText}
 use Rattle.listing.specs.Writing.{each-cong}
 use Rattle.listing.specs.Entries.{rows-cong}
@@ -31,7 +32,7 @@ use Rattle.listing.specs.Settled.{listing-is}
 -- the answers of a desk that is settled: its round, the table that it shows, its score, and the formulas' values on models 1 and 2
 pub record Answers (c : Content) (d : Desk) (T : ℕ) (table : List ℕ) (e : ℕ) (v₁ v₂ : ℕ → ℕ) : Type 0 where
   pub round : d .standing .round ≡ T
-  pub show : shownTo d ≡ Reply.Shown table
+  pub show : showAnswer d ≡ Reply.Shown table
   pub score : asked Question.Score d ≡ Reply.Element e
   pub whole1 : (f : ℕ) → f < length (c .formulas) → asked (Question.Whole f 1) d ≡ Reply.Element (v₁ f)
   pub whole2 : (f : ℕ) → f < length (c .formulas) → asked (Question.Whole f 2) d ≡ Reply.Element (v₂ f)
@@ -62,17 +63,17 @@ module _ (c : Content) (T : ℕ) (answers : List Reply) (d : Desk) (w : Claim c 
   round-T : d .standing .round ≡ T
   round-T = w .round-is ∙ at-T
 
-  show-T : shownTo d ≡ Reply.Shown (tableBytes c (roundIn c T))
+  show-T : showAnswer d ≡ Reply.Shown (tableBytes c (roundIn c T))
   show-T = rw at-T at (w .show-next)
 
   score-T : asked Question.Score d ≡ Reply.Element (score (ops c) (model1 c) (model2 c) (roundIn c T))
   score-T = rw at-T at (score-next w)
 
   whole-1 : (f : ℕ) → f < length (c .formulas) → asked (Question.Whole f 1) d ≡ Reply.Element (wholeValue (ops c) (modelIn c 1) (formulaIn c f))
-  whole-1 f l = whole-next w f 1 (ranges w (Question.Whole f 1) ∙ rw (lt-ltb f (length (c .formulas)) l))
+  whole-1 f l = whole-next w f 1 (ranges w (Question.Whole f 1) .1 (l, (inl refl, tt)))
 
   whole-2 : (f : ℕ) → f < length (c .formulas) → asked (Question.Whole f 2) d ≡ Reply.Element (wholeValue (ops c) (modelIn c 2) (formulaIn c f))
-  whole-2 f l = whole-next w f 2 (ranges w (Question.Whole f 2) ∙ rw (lt-ltb f (length (c .formulas)) l))
+  whole-2 f l = whole-next w f 2 (ranges w (Question.Whole f 2) .1 (l, (inr refl, tt)))
 
   answers-T : Answers c d T (tableBytes c (roundIn c T)) (score (ops c) (model1 c) (model2 c) (roundIn c T)) (λ f. wholeValue (ops c) (modelIn c 1) (formulaIn c f)) (λ f. wholeValue (ops c) (modelIn c 2) (formulaIn c f))
   answers-T = record { round = round-T; show = show-T; score = score-T; whole1 = whole-1; whole2 = whole-2 }

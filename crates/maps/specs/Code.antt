@@ -1,8 +1,8 @@
--- What a code does, for the codes that come in pairs, and the maps that the functions write. Rests on theory's Value, operations' Table.
---   literal, bound, nextOf, startOf: what codes 2 and 3, 5 and 6, 7 and 8, 9 and 10 do
+-- What a node does, for those that come in pairs (a Bool says which), and the maps that the functions write. Rests on theory's Value, operations' Table.
+--   literal, bound, nextOf, startOf: a proposition negated or not, or and and, AX and EX, the least fixpoint and the greatest
 --   step, gather: what a transition gives to AX or EX, and the meet or join over all
 --   slotOf: the map of a variable
---   Literals, Combined, NextMap: the first entries of a map are those of codes 2 and 3, 5 and 6, 7 and 8
+--   Literals, Combined, NextMap: the first entries of a map are those of a proposition, of or or and, of AX or EX
 use Prim.Native.Nat.{ℕ}
 use mathlib.Core.Bool.{Bool, cond}
 use mathlib.Core.List.{List}
@@ -16,11 +16,11 @@ use Rattle.theory.specs.Value.{allNext, someNext}
 use Rattle.operations.specs.Table.{meetIn, joinIn, complementIn, opsIn}
 use Rattle.operations.specs.declared.Lattice.{Lattice}
 
--- '2 proposition; 3 negated proposition'
-unfoldable pub literal : List ℕ → ℕ → ℕ → ℕ
-literal t c a = cond (eqb c 2) a (complementIn t a)
+-- 'proposition; negated proposition': the complement where `negated`
+unfoldable pub literal : List ℕ → Bool → ℕ → ℕ
+literal t negated a = cond negated (complementIn t a) a
 
--- '5 or; 6 and': the join where `up`, else the meet
+-- 'or is join, and is meet': the join where `up`, else the meet
 unfoldable pub bound : List ℕ → Bool → ℕ → ℕ → ℕ
 bound t up a b = cond up (joinIn t a b) (meetIn t a b)
 
@@ -28,15 +28,15 @@ bound t up a b = cond up (joinIn t a b) (meetIn t a b)
 unfoldable pub step : List ℕ → Bool → ℕ → ℕ → ℕ
 step t all r x = cond all (joinIn t (complementIn t r) x) (meetIn t r x)
 
--- '7 AX; 8 EX'
-unfoldable pub nextOf : Ops ℕ → Model ℕ → ℕ → (ℕ → ℕ) → ℕ → ℕ
-nextOf O M c f q = cond (eqb c 7) (allNext O M f q) (someNext O M f q)
+-- AX (all), or EX
+unfoldable pub nextOf : Ops ℕ → Model ℕ → Bool → (ℕ → ℕ) → ℕ → ℕ
+nextOf O M all f q = cond all (allNext O M f q) (someNext O M f q)
 
 -- over the first n of the values v and f: the meet of v → f (all), or the join of v met with f
 unfoldable pub gather : Ops ℕ → Bool → ℕ → (ℕ → ℕ) → (ℕ → ℕ) → ℕ
 gather O all n v f = cond all (bigMeet O n (λ i. imp O (v i) (f i))) (bigJoin O n (λ i. O .meet (v i) (f i)))
 
--- '9 least fixpoint; 10 greatest fixpoint': the iteration begins at bottom, or at top. So do a join and a meet
+-- the iteration of a least fixpoint begins at bottom, that of a greatest at top. So do a join and a meet
 unfoldable pub startOf : Lattice → Bool → ℕ
 startOf l least = cond least (l .bottom .0) (l .top .0)
 
@@ -47,13 +47,13 @@ slotOf near mid far v = cond (eqb v 0) near (cond (eqb v 1) mid far)
 -- ---- the first entries of the map `out`
 
 -- at the states of m, proposition p or its complement
-abbrev pub Literals : List ℕ → List ℕ → ℕ → ℕ → List ℕ → Type 0
-Literals t m c p out = Filled (λ q. literal t c (modelOf m .label q p)) (getD m 0 0) out
+abbrev pub Literals : List ℕ → List ℕ → Bool → ℕ → List ℕ → Type 0
+Literals t m negated p out = Filled (λ q. literal t negated (modelOf m .label q p)) (getD m 0 0) out
 
--- the joins (code 5) or the meets of those of x and y
-abbrev pub Combined : List ℕ → ℕ → List ℕ → List ℕ → ℕ → List ℕ → Type 0
-Combined t c x y n out = Filled (λ q. bound t (eqb c 5) (getD x q 0) (getD y q 0)) n out
+-- the joins (up) or the meets of those of x and y
+abbrev pub Combined : List ℕ → Bool → List ℕ → List ℕ → ℕ → List ℕ → Type 0
+Combined t up x y n out = Filled (λ q. bound t up (getD x q 0) (getD y q 0)) n out
 
--- at the states of m, AX (code 7) or EX of the map x
-abbrev pub NextMap : List ℕ → Lattice → List ℕ → ℕ → List ℕ → List ℕ → Type 0
-NextMap t l m c x out = Filled (nextOf (opsIn t l) (modelOf m) c (λ s. getD x s 0)) (getD m 0 0) out
+-- at the states of m, AX (all) or EX of the map x
+abbrev pub NextMap : List ℕ → Lattice → List ℕ → Bool → List ℕ → List ℕ → Type 0
+NextMap t l m all x out = Filled (nextOf (opsIn t l) (modelOf m) all (λ s. getD x s 0)) (getD m 0 0) out

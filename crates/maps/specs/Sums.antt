@@ -6,7 +6,6 @@ use mathlib.Core.Path.{_≡_, refl, ap, _∙_}
 use mathlib.Core.Bool.{Bool, true, false, not}
 use mathlib.Core.List.{List}
 use native.Mathlib.Nat.{le-refl}
-use lib.Dec.{eqb}
 use lib.ListN.{getD}
 use Rattle.theory.specs.Lattice.{Ops, imp}
 use Rattle.theory.specs.Loop.{fold, fold-cong, folded-meet, folded-join}
@@ -30,13 +29,13 @@ sum-gather t l true n v f e = rw e (folded-meet (opsIn t l) (record { eq = refl 
 sum-gather t l false n v f e = rw e (folded-join (opsIn t l) (record { eq = refl }) (le-refl n) (le-refl n))
 
 -- over all transitions from a state it is AX or EX there
-pub gather-next : (O : Ops ℕ) (M : Model ℕ) (c : ℕ) (f : ℕ → ℕ) (q : ℕ) {n : ℕ} → n ≡ M .states → gather O (eqb c 7) n (M .transition q) f ≡ nextOf O M c f q
+pub gather-next : (O : Ops ℕ) (M : Model ℕ) (all : Bool) (f : ℕ → ℕ) (q : ℕ) {n : ℕ} → n ≡ M .states → gather O all n (M .transition q) f ≡ nextOf O M all f q
 unfolding gather nextOf allNext someNext
-gather-next O M c f q e = rw e
+gather-next O M all f q e = rw e
 
-pub sum-next : (t : List ℕ) (l : Lattice) (m x : List ℕ) (c q : ℕ) {first n : ℕ} → first ≡ startOf l (not (eqb c 7)) → n ≡ getD m 0 0
-    → sumOf t (eqb c 7) first m (transitionRow m q) x n ≡ nextOf (opsIn t l) (modelOf m) c (λ s. getD x s 0) q
-sum-next t l m x c q {first} {n} e k =
-    fold-cong (bound t (not (eqb c 7))) first _ _ n (λ i b. ap (λ (a : ℕ). step t (eqb c 7) a (getD x i 0)) (transition-at m q _ i refl))
-    ∙ sum-gather t l (eqb c 7) n (modelOf m .transition q) _ e
-    ∙ gather-next (opsIn t l) (modelOf m) c (λ s. getD x s 0) q k
+pub sum-next : (t : List ℕ) (l : Lattice) (m x : List ℕ) (all : Bool) (q : ℕ) {first n : ℕ} → first ≡ startOf l (not all) → n ≡ getD m 0 0
+    → sumOf t all first m (transitionRow m q) x n ≡ nextOf (opsIn t l) (modelOf m) all (λ s. getD x s 0) q
+sum-next t l m x all q {first} {n} e k =
+    fold-cong (bound t (not all)) first _ _ n (λ i b. ap (λ (a : ℕ). step t all a (getD x i 0)) (transition-at m q _ i refl))
+    ∙ sum-gather t l all n (modelOf m .transition q) _ e
+    ∙ gather-next (opsIn t l) (modelOf m) all (λ s. getD x s 0) q k

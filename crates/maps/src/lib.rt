@@ -79,32 +79,32 @@ pub fn variable(
     next
 }
 
-// The value of a proposition (code 2) or its complement.
-fn literal(t: &[u8; 12352], code: u8, e: Element) -> Element
-    ensures { λ r. ⌜ r .0 ≡ literal (now (t .entry)) code (e .0) ⌝ }
+// The value of a proposition, or its complement.
+fn literal(t: &[u8; 12352], negated: bool, e: Element) -> Element
+    ensures { λ r. ⌜ r .0 ≡ literal (now (t .entry)) negated (e .0) ⌝ }
 {
-    if code == 2 {
-        return e;
+    if negated {
+        return operations::complement(t, e);
     }
-    operations::complement(t, e)
+    e
 }
 
-// A proposition (code 2) or a negated one.
+// A proposition, negated or not.
 pub fn literals(
     t: &[u8; 12352],
     m: &[u8],
-    code: u8,
+    negated: bool,
     p: Proposition,
     next: usize,
     out: &mut [u8; 64],
 ) -> usize
     requires { ⌜ ModelShape (now m) × (p .0 < getD (now m) 1 0) ⌝ }
-    ensures { λ r. ⌜ (r ≡ next) × Literals (now (t .entry)) (now (m .entry)) code (p .0) (now (out .exit)) ⌝ }
+    ensures { λ r. ⌜ (r ≡ next) × Literals (now (t .entry)) (now (m .entry)) negated (p .0) (now (out .exit)) ⌝ }
 {
     let n = model::states(m);
     *out = [0u8; 64];
     for q in 0..n {
-        out[q] = literal(t, code, model::label(m, state(q), p)).0;
+        out[q] = literal(t, negated, model::label(m, state(q), p)).0;
     }
     next
 }
@@ -119,12 +119,11 @@ fn bound(t: &[u8; 12352], up: bool, a: Element, b: Element) -> Element
     operations::meet(t, a, b)
 }
 
-// The join (code 5) or the meet of two maps.
-pub fn combined(t: &[u8; 12352], n: usize, code: u8, x: &[u8; 64], y: &[u8; 64], out: &mut [u8; 64])
+// The join (up) or the meet of two maps.
+pub fn combined(t: &[u8; 12352], n: usize, up: bool, x: &[u8; 64], y: &[u8; 64], out: &mut [u8; 64])
     requires { ⌜ n ≤ 64 ⌝ }
-    ensures { λ _. ⌜ Combined (now (t .entry)) code (now (x .entry)) (now (y .entry)) n (now (out .exit)) ⌝ }
+    ensures { λ _. ⌜ Combined (now (t .entry)) up (now (x .entry)) (now (y .entry)) n (now (out .exit)) ⌝ }
 {
-    let up = code == 5;
     *out = [0u8; 64];
     for q in 0..n {
         out[q] = bound(t, up, Element(x[q]), Element(y[q])).0;
@@ -178,20 +177,19 @@ pub fn gathered(
     so_far
 }
 
-// AX (code 7) or EX of a map, by the tables.
+// AX (all) or EX of a map, by the tables.
 pub fn next_by_tables(
     t: &[u8; 12352],
     l: Lattice,
     m: &[u8],
-    code: u8,
+    all: bool,
     x: &[u8; 64],
     out: &mut [u8; 64],
 )
     requires { ⌜ ModelShape (now m) ⌝ }
-    ensures { λ _. ⌜ NextMap (now (t .entry)) l (now (m .entry)) code (now (x .entry)) (now (out .exit)) ⌝ }
+    ensures { λ _. ⌜ NextMap (now (t .entry)) l (now (m .entry)) all (now (x .entry)) (now (out .exit)) ⌝ }
 {
     let n = model::states(m);
-    let all = code == 7;
     let first = start_of(l, !all);
     *out = [0u8; 64];
     for q in 0..n {

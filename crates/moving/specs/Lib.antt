@@ -4,3 +4,4 @@ pub mod Answer
 -- ---- for the code
 pub mod Opened
 pub mod Stepped
+pub mod Finished

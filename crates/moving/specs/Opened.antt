@@ -21,7 +21,7 @@ use Rattle.theory.specs.Lists.{written}
 use Rattle.desk.specs.Desk.{Desk, Standing, Call, Reply}
 use Rattle.desk.specs.Refused.{short, numberReply}
 use Rattle.desk.specs.Moved.{opened}
-use Rattle.desk.specs.Perform.{After, answer, moved, lentLeft}
+use Rattle.desk.specs.Perform.{After, answer, moved, lentAfter}
 use Rattle.desk.specs.RefusedLaws.{is-short, open-long, perform-refused, perform-accepted}
 use Rattle.examination.specs.Answer.{Does}
 
@@ -57,7 +57,7 @@ openedTo e = record { reply = Reply.Opened; desk = e; lent = [] }
 
 module _ (b : List ℕ) (d : Desk) (z : Sizes) (t : List ℕ) (s : short d ≡ false) (a : AcceptedCase b z t) where
   pub accepted-open : (n : ℕ) (store first second : List ℕ) → n ≡ z .states1 * z .states2 → store ≡ written 0 (gapless (partsOf b)) (d .store) → first ≡ written 0 (replicate n (z .lattice .top .0)) (d .first) → second ≡ written 0 (replicate n (z .lattice .top .0)) (d .second) → Does (Call.Open b) d Reply.Opened (record { standing = freshStanding (z .states1) (z .states2); store = store; first = first; second = second })
-  unfolding answer moved lentLeft opened
+  unfolding answer moved lentAfter opened
   accepted-open n store first second m es e1 e2 =
       perform-accepted (Call.Open b) d (a .holds) (open-long b d s ∙ a .reads)
       ∙ ap openedTo (sym (rw (es, e1, e2, m, accepted-case b (a .holds) (a .reads) .parts, a .sizes)))

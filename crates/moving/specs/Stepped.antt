@@ -22,7 +22,7 @@ use Rattle.desk.specs.Desk.{Desk, Standing, Call, Reply}
 use Rattle.desk.specs.Case.{latticeSize, model1, model2, N1, N2, operator, tableSize}
 use Rattle.desk.specs.View.{shownTable}
 use Rattle.desk.specs.Moved.{changedNow, movedOn, worked, stepped, stepAnswer}
-use Rattle.desk.specs.Perform.{After, answer, moved, lentLeft}
+use Rattle.desk.specs.Perform.{After, answer, moved, lentAfter}
 use Rattle.desk.specs.RefusedLaws.{in-store, perform-accepted}
 use Rattle.examination.specs.Answer.{Does}
 use Rattle.examination.specs.Held.{HeldDesk}
@@ -95,7 +95,7 @@ module _ {d : Desk} {z : Sizes} {t : List ℕ} (h : HeldDesk d z t) where
   unmoved x = record { reply = x; desk = d; lent = [] }
 
   held-step : (e : Desk) → stepped (h .case .holds) d ≡ e → Does Call.Step d (stepAnswer (e .standing)) e
-  unfolding answer moved lentLeft
+  unfolding answer moved lentAfter
   held-step e p = perform-accepted Call.Step d (h .case .holds) (in-store Call.Step d (h .case .holds) refl (h .kept)) ∙ ap afterStep p
 
   pub settled-step : d .standing .settled ≡ true → Does Call.Step d (Reply.Settled (d .standing .round)) d

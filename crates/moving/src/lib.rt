@@ -1,10 +1,14 @@
-// The two calls that move the standing on, with the standing by value: each gives the standing after it beside its answer.
+// The two calls that move the standing on, and the rest of a round in one call, with the standing by value: each gives the standing after
+// it beside its answer.
 //   opening: `open`
 //   stepping: `step`
+//   finishing: `finish_round`, which is so many steps
+mod finishing;
 mod opening;
 mod stepping;
 
 use examination::Standing;
+pub use finishing::finish_round;
 pub use opening::open;
 use refusal::Refusal;
 pub use stepping::step;
@@ -21,7 +25,7 @@ pub struct Opened {
     pub answer: OpenAnswer,
 }
 
-// What step answers.
+// What step answers, and the last step of a round that is finished.
 pub enum StepAnswer {
     Refused(Refusal),
     Row,
@@ -29,7 +33,7 @@ pub enum StepAnswer {
     Settled(u32),
 }
 
-// What step gives: the standing after it, and its answer.
+// What step and finish_round give: the standing after it, and its answer.
 pub struct Stepped {
     pub standing: Standing,
     pub answer: StepAnswer,

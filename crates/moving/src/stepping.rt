@@ -10,7 +10,7 @@ ghost use mathlib.Core.Path.{_≡_};
 ghost use Prim.Native.Nat.{_<_};
 ghost use mathlib.Core.Bool.{_||_};
 ghost use Rattle.desk.specs.Desk.{Call};
-ghost use Rattle.desk.specs.Moved.{stepAnswer};
+ghost use Rattle.desk.specs.Moved.{nextRound, stepAnswer};
 ghost use Rattle.examination.specs.Read.{standingOf, deskOf};
 ghost use Rattle.examination.specs.Answer.{Does};
 ghost use Rattle.moving.specs.Answer.{stepReply};
@@ -34,13 +34,29 @@ fn work_row(
     rowcodes::row(t, l, m1, m2, whole, other, row)
 }
 
-fn either(a: bool, b: bool) -> bool
+pub fn either(a: bool, b: bool) -> bool
     ensures { λ r. ⌜ r ≡ (a || b) ⌝ }
 {
     if a {
         return true;
     }
     b
+}
+
+// The standing after the last row of a round that has changed something, or has not.
+pub fn next_round(s: Standing, changed: bool) -> Standing
+    requires { ⌜ s .round < 16777216 ⌝ }
+    ensures { λ r. ⌜ standingOf r ≡ nextRound changed (standingOf s) ⌝ }
+{
+    Standing {
+        states1: s.states1,
+        states2: s.states2,
+        round: s.round + 1,
+        row: 0,
+        changed: false,
+        settled: !changed,
+        second_whole: !s.second_whole,
+    }
 }
 
 // The standing after a row that differed, or did not.
@@ -50,15 +66,7 @@ fn moved_on(s: Standing, differs: bool) -> Standing
 {
     let changed = either(s.changed, differs);
     if s.row + 1 == s.states1 {
-        return Standing {
-            states1: s.states1,
-            states2: s.states2,
-            round: s.round + 1,
-            row: 0,
-            changed: false,
-            settled: !changed,
-            second_whole: !s.second_whole,
-        };
+        return next_round(s, changed);
     }
     Standing {
         states1: s.states1,
@@ -72,7 +80,7 @@ fn moved_on(s: Standing, differs: bool) -> Standing
 }
 
 // Row, Round(r) or Settled(T), by the standing that the step leaves.
-fn answer_of(s: Standing) -> StepAnswer
+pub fn answer_of(s: Standing) -> StepAnswer
     ensures { λ r. ⌜ stepReply r ≡ stepAnswer (standingOf s) ⌝ }
 {
     if s.settled {

@@ -13,7 +13,6 @@ use mathlib.Core.List.{List}
 use native.Mathlib.Nat.{le-refl}
 use native.Mathlib.Omega.{arith}
 use lib.Bits.{bitAnd, bitOr}
-use lib.Dec.{eqb}
 use lib.ListN.{length, getD}
 use Rattle.theory.specs.Lattice.{imp, bigMeet, bigJoin}
 use Rattle.theory.specs.Lists.{written}
@@ -147,13 +146,12 @@ step-means {m = m} p false q n at b g e i k =
 
 -- the element of a sum of words is AX or EX of the map x, whose words y are
 pub coded-next : {t : List ℕ} {l : Lattice} {m codes words x y : List ℕ} → Prepared t l m codes words → ElementsOf l m x → (n : ℕ) (before : List ℕ) → y ≡ written 0 (wordsOf codes x 0 n) before
-    → n ≤ length before → (c q at first : ℕ) → first ≡ wordOf codes (startOf l (not (eqb c 7))) → at ≡ placeOf (eqb c 7) + q * n → n ≡ getD m 0 0
-    → q < getD m 0 0 → firstOf codes (wordSum (eqb c 7) first words at y n) ≡ nextOf (opsIn t l) (modelOf m) c (λ s. getD x s 0) q
-coded-next {t} {l} {m} {codes} {x = x} {y} p u n before v fits c q at first f a g b =
-    let all = eqb c 7 in
+    → n ≤ length before → (all : Bool) (q at first : ℕ) → first ≡ wordOf codes (startOf l (not all)) → at ≡ placeOf all + q * n → n ≡ getD m 0 0
+    → q < getD m 0 0 → firstOf codes (wordSum all first words at y n) ≡ nextOf (opsIn t l) (modelOf m) all (λ s. getD x s 0) q
+coded-next {t} {l} {m} {codes} {x = x} {y} p u n before v fits all q at first f a g b =
     let first-means : Means l codes first (startOf l (not all)) = rw f (means-word (p .coded) (startOf l (not all)) (start-element (p .elements) (not all))) in
     means-first (p .coded) (gather-means (p .coded) all n _ _ (modelOf m .transition q) (λ s. getD x s 0) first-means (step-means p all q n at b g a) map-means)
-    ∙ gather-next (opsIn t l) (modelOf m) c (λ s. getD x s 0) q g
+    ∙ gather-next (opsIn t l) (modelOf m) all (λ s. getD x s 0) q g
   where
     map-means : (i : ℕ) → i < n → Means l codes (getD y i 0) (getD x i 0)
     map-means i k =

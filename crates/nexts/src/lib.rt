@@ -88,7 +88,7 @@ fn place(all: bool) -> usize
     0
 }
 
-// AX (code 7) or EX of a map of elements, by codes.
+// AX (all) or EX of a map of elements, by codes.
 fn next_by_codes(
     t: &[u8; 12352],
     l: Lattice,
@@ -96,15 +96,14 @@ fn next_by_codes(
     codes: &[u64; 64],
     words: &[u64],
     y: &mut [u64; 64],
-    code: u8,
+    all: bool,
     x: &[u8; 64],
     out: &mut [u8; 64],
 )
     requires { ⌜ ModelShape (now m) × Prepared (now t) l (now m) (now codes) (now words) × (length (now words) ≡ 8192) × ElementsOf l (now m) (now x) ⌝ }
-    ensures { λ _. ⌜ NextMap (now (t .entry)) l (now (m .entry)) code (now (x .entry)) (now (out .exit)) ⌝ }
+    ensures { λ _. ⌜ NextMap (now (t .entry)) l (now (m .entry)) all (now (x .entry)) (now (out .exit)) ⌝ }
 {
     let n = model::states(m);
-    let all = code == 7;
     let from = place(all);
     let first = codes[(start_of(l, !all).0 % 64) as usize];
     codes::encode(codes, x, 0, n, y, 0);
@@ -115,7 +114,7 @@ fn next_by_codes(
     }
 }
 
-// AX (code 7) or EX of a map.
+// AX (all) or EX of a map.
 pub fn next_values(
     t: &[u8; 12352],
     l: Lattice,
@@ -123,17 +122,17 @@ pub fn next_values(
     codes: &[u64; 64],
     words: &[u64],
     y: &mut [u64; 64],
-    code: u8,
+    all: bool,
     x: &[u8; 64],
     out: &mut [u8; 64],
 )
     requires { ⌜ ModelShape (now m) × Coding (now t) l (now m) (now codes) (now words) ⌝ }
-    ensures { λ _. ⌜ NextMap (now (t .entry)) l (now (m .entry)) code (now (x .entry)) (now (out .exit)) ⌝ }
+    ensures { λ _. ⌜ NextMap (now (t .entry)) l (now (m .entry)) all (now (x .entry)) (now (out .exit)) ⌝ }
 {
     if words.len() == 8192 {
         if operations::below(x, 0, model::states(m), l.size) {
-            return next_by_codes(t, l, m, codes, words, y, code, x, out);
+            return next_by_codes(t, l, m, codes, words, y, all, x, out);
         }
     }
-    next_by_tables(t, l, m, code, x, out)
+    next_by_tables(t, l, m, all, x, out)
 }

@@ -1,3 +1,2 @@
--- What the proofs of `reader` share: laws of tokens, and the struct in the walks.
-pub mod Laws
+-- What the walks of `reader` share: the struct.
 mod Struct

@@ -1,5 +1,3 @@
--- `reader`: what stands at a place of a formula part, and the tokens of a formula. Definitions first, then the theorems on them.
--- ---- what a reader must believe
-pub mod Tokens
+-- `reader`: going through a formula part. What stands at a place is in tokens/Tokens.
 -- ---- theorems
 pub mod Through

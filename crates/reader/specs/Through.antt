@@ -1,17 +1,17 @@
 -- Reading a formula's bytes token by token gives the formula's nodes in prefix order, and ends where its bytes end.
--- Rests on Tokens and formula's Bytes.
-use Prim.Native.Nat.{ℕ, zero, suc, _+_, _<_}
+-- Rests on tokens' Tokens and formula's Bytes.
+use Prim.Native.Nat.{ℕ, zero, suc, _+_}
 use mathlib.Core.Path.{_≡_, refl, sym, ap, _∙_}
 use mathlib.Core.List.{List, [], _∷_, _++_, append-assoc, append-nil}
 use native.Mathlib.Nat.{zero-add}
 use native.Mathlib.Omega.{arith}
-use lib.ListN.{length, getD, drop, length-append, List·getD-append}
+use lib.ListN.{length, drop, length-append}
 use lib.Seq.{drop-drop, drop-at}
 use Rattle.theory.specs.Formula.{Formula, bottom, top, prop, negated, var, or, and, AX, EX, mu, nu}
 use Rattle.formula.specs.Bytes.{bytesOf}
-use Rattle.reader.specs.declared.Token.{Token}
-use Rattle.reader.specs.declared.Token.the-variants.{Bottom, Top, Proposition, Negated, Variable, Or, And, AllNext, SomeNext, Least, Greatest, End}
-use Rattle.reader.specs.Tokens.{propositionOf, tokenByCode, tokenOf, tokenSize, tokenAt, tokenEnd, placeFrom, tokensOf}
+use Rattle.tokens.specs.declared.Token.{Token}
+use Rattle.tokens.specs.declared.Token.the-variants.{End}
+use Rattle.tokens.specs.Tokens.{tokenByCode, tokenOf, tokenSize, tokenAt, tokenEnd, nodeOf, tokensOf}
 
 -- n tokens from the place `at` on, each read where the one before it ends
 unfoldable pub tokensFrom : ℕ → List ℕ → ℕ → List Token
@@ -49,18 +49,18 @@ two-parts f g n rest p q =
     rw (e, append-assoc (bytesOf f) (bytesOf g) rest, append-assoc (tokensOf f) (tokensOf g) (leftTokens n rest), p (length (tokensOf g) + n) (bytesOf g ++ rest), q)
 
 left-bytes : (φ : Formula) (n : ℕ) (rest : List ℕ) → leftTokens (length (tokensOf φ) + n) (bytesOf φ ++ rest) ≡ tokensOf φ ++ leftTokens n rest
-unfolding leftTokens tokenOf tokenByCode tokenSize bytesOf tokensOf
-left-bytes bottom n rest = stepped 0 n (0 ∷ rest) ∙ zero-front n Bottom rest
-left-bytes top n rest = stepped 0 n (1 ∷ rest) ∙ zero-front n Top rest
-left-bytes (prop p) n rest = stepped 0 n (2 ∷ p ∷ rest) ∙ zero-front n (Proposition (propositionOf p)) rest
-left-bytes (negated p) n rest = stepped 0 n (3 ∷ p ∷ rest) ∙ zero-front n (Negated (propositionOf p)) rest
-left-bytes (var v) n rest = stepped 0 n (4 ∷ v ∷ rest) ∙ zero-front n (Variable v) rest
-left-bytes (or f g) n rest = stepped _ n _ ∙ ap (λ (t : List Token). Or ∷ t) (two-parts f g n rest (left-bytes f) (left-bytes g n rest))
-left-bytes (and f g) n rest = stepped _ n _ ∙ ap (λ (t : List Token). And ∷ t) (two-parts f g n rest (left-bytes f) (left-bytes g n rest))
-left-bytes (AX f) n rest = stepped _ n _ ∙ ap (λ (t : List Token). AllNext ∷ t) (left-bytes f n rest)
-left-bytes (EX f) n rest = stepped _ n _ ∙ ap (λ (t : List Token). SomeNext ∷ t) (left-bytes f n rest)
-left-bytes (mu f) n rest = stepped _ n _ ∙ ap (λ (t : List Token). Least ∷ t) (left-bytes f n rest)
-left-bytes (nu f) n rest = stepped _ n _ ∙ ap (λ (t : List Token). Greatest ∷ t) (left-bytes f n rest)
+unfolding leftTokens tokenOf tokenByCode tokenSize bytesOf nodeOf tokensOf
+left-bytes bottom n rest = stepped 0 n (0 ∷ rest) ∙ zero-front n (nodeOf bottom) rest
+left-bytes top n rest = stepped 0 n (1 ∷ rest) ∙ zero-front n (nodeOf top) rest
+left-bytes (prop p) n rest = stepped 0 n (2 ∷ p ∷ rest) ∙ zero-front n (nodeOf (prop p)) rest
+left-bytes (negated p) n rest = stepped 0 n (3 ∷ p ∷ rest) ∙ zero-front n (nodeOf (negated p)) rest
+left-bytes (var v) n rest = stepped 0 n (4 ∷ v ∷ rest) ∙ zero-front n (nodeOf (var v)) rest
+left-bytes (or f g) n rest = stepped _ n _ ∙ ap (λ (t : List Token). nodeOf (or f g) ∷ t) (two-parts f g n rest (left-bytes f) (left-bytes g n rest))
+left-bytes (and f g) n rest = stepped _ n _ ∙ ap (λ (t : List Token). nodeOf (and f g) ∷ t) (two-parts f g n rest (left-bytes f) (left-bytes g n rest))
+left-bytes (AX f) n rest = stepped _ n _ ∙ ap (λ (t : List Token). nodeOf (AX f) ∷ t) (left-bytes f n rest)
+left-bytes (EX f) n rest = stepped _ n _ ∙ ap (λ (t : List Token). nodeOf (EX f) ∷ t) (left-bytes f n rest)
+left-bytes (mu f) n rest = stepped _ n _ ∙ ap (λ (t : List Token). nodeOf (mu f) ∷ t) (left-bytes f n rest)
+left-bytes (nu f) n rest = stepped _ n _ ∙ ap (λ (t : List Token). nodeOf (nu f) ∷ t) (left-bytes f n rest)
 
 -- 'A reader goes through a formula part with its place in it': from the place where a formula begins, whatever stands before and after
 -- it, the tokens read one after the other are the formula's nodes in prefix order, and the next place is where its bytes end
@@ -76,16 +76,3 @@ tokens-read front φ rest n =
 pub tokens-of-part : (φ : Formula) → tokensFrom (length (tokensOf φ) + 1) (bytesOf φ) 0 ≡ tokensOf φ ++ (End ∷ [])
 unfolding leftTokens tokenOf
 tokens-of-part φ = left-tokens (length (tokensOf φ) + 1) (bytesOf φ) 0 ∙ ap (leftTokens (length (tokensOf φ) + 1)) (sym (append-nil (bytesOf φ))) ∙ left-bytes φ 1 []
-
--- ---- the n-th token
-
-nth-from : (m n : ℕ) (f : List ℕ) (at : ℕ) → n < m → tokenAt f (placeFrom n f at) ≡ getD (tokensFrom m f at) n End
-unfolding tokensFrom placeFrom
-nth-from zero n f at l = absurd (omega arith)
-nth-from (suc m) zero f at l = refl
-nth-from (suc m) (suc n) f at l = nth-from m n f (tokenEnd f at) (omega arith)
-
--- the n-th token of a part that is the bytes of a formula is the formula's n-th node in prefix order
-pub nth-token : (φ : Formula) (n : ℕ) → n < length (tokensOf φ) → tokenAt (bytesOf φ) (placeFrom n (bytesOf φ) 0) ≡ getD (tokensOf φ) n End
-nth-token φ n l =
-    nth-from (length (tokensOf φ) + 1) n (bytesOf φ) 0 (omega arith) ∙ rw (tokens-of-part φ) (List·getD-append (tokensOf φ) (End ∷ []) End n l)

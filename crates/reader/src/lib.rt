@@ -1,121 +1,11 @@
-// Going through a formula part token by token: the code at a place with its number, and where the next one begins.
-// The work is in functions over a slice and a place. `FormulaReader` holds both, and the functions over it are short, since each is
+// Going through a formula part token by token, with a struct that holds the part's bytes and a place. The work is in functions over a slice
+// and a place (tokens), by which `formula::check` and the valuer go as well. The functions over `FormulaReader` are short, since each is
 // proved by hand.
 ghost use mathlib.Core.Path.{_≡_};
-ghost use Prim.Native.Nat.{_+_};
-ghost use Rattle.reader.specs.Tokens.{tokenAt, tokenEnd, tokenSize, placeFrom};
-use model::Proposition;
-
-// What stands at a place of a formula part: a code with its number, if it has one; the part's end; or neither.
-pub enum Token {
-    Bottom,
-    Top,
-    Proposition(Proposition),
-    Negated(Proposition),
-    // The count of binders between the variable and its own.
-    Variable(u8),
-    Or,
-    And,
-    AllNext,
-    SomeNext,
-    Least,
-    Greatest,
-    End,
-    // A code from 11 to 255, or a code without the number that belongs to it.
-    Broken,
-}
-
-// The token at a place.
-pub fn token_at(f: &[u8], at: usize) -> Token
-    ensures { λ r. ⌜ r ≡ tokenAt (now (f .entry)) at ⌝ }
-{
-    if at < f.len() {
-        let code = f[at];
-        let next = at + 1;
-        match code {
-            0 => Token::Bottom,
-            1 => Token::Top,
-            2 | 3 => {
-                if next < f.len() {
-                    let p = Proposition(f[next]);
-                    if code == 2 {
-                        Token::Proposition(p)
-                    } else {
-                        Token::Negated(p)
-                    }
-                } else {
-                    Token::Broken
-                }
-            }
-            4 => {
-                if next < f.len() {
-                    Token::Variable(f[next])
-                } else {
-                    Token::Broken
-                }
-            }
-            5 | 6 => { if code == 5 { Token::Or } else { Token::And } }
-            7 | 8 => {
-                if code == 7 {
-                    Token::AllNext
-                } else {
-                    Token::SomeNext
-                }
-            }
-            9 | 10 => {
-                if code == 9 {
-                    Token::Least
-                } else {
-                    Token::Greatest
-                }
-            }
-            11..=255 => Token::Broken,
-        }
-    } else {
-        Token::End
-    }
-}
-
-// How many bytes a token has: its code, and its number if it has one. The end and a broken place have none.
-pub fn size(t: Token) -> usize
-    ensures { λ r. ⌜ r ≡ tokenSize t ⌝ }
-{
-    match t {
-        Token::Proposition(_) => 2,
-        Token::Negated(_) => 2,
-        Token::Variable(_) => 2,
-        Token::End => 0,
-        Token::Broken => 0,
-        Token::Bottom => 1,
-        Token::Top => 1,
-        Token::Or => 1,
-        Token::And => 1,
-        Token::AllNext => 1,
-        Token::SomeNext => 1,
-        Token::Least => 1,
-        Token::Greatest => 1,
-    }
-}
-
-// Where the token at a place ends and the next one begins; the end of the part and a broken place are not passed.
-pub fn token_end(f: &[u8], at: usize) -> usize
-    ensures { λ r. ⌜ r ≡ tokenEnd (now (f .entry)) at ⌝ }
-{
-    at + size(token_at(f, at))
-}
-
-// The token after n others, counted from the beginning of a part. Past the end it is the end, and past a broken place broken.
-pub fn nth(f: &[u8], n: usize) -> Token
-    ensures { λ r. ⌜ r ≡ tokenAt (now (f .entry)) (placeFrom n (now (f .entry)) 0) ⌝ }
-{
-    let mut at: usize = 0;
-    let mut left = n;
-    while left > 0 {
-        at = token_end(f, at);
-        left -= 1;
-    }
-    token_at(f, at)
-}
+ghost use Rattle.tokens.specs.Tokens.{tokenAt, tokenEnd};
+use tokens::Token;
+use tokens::token_at;
+use tokens::token_end;
 
 // A formula part with a place in it.
 pub struct FormulaReader<'a> {
@@ -145,11 +35,4 @@ pub fn advance<'a>(r: FormulaReader<'a>) -> FormulaReader<'a>
         bytes: r.bytes,
         at: token_end(r.bytes, r.at),
     }
-}
-
-// The token that a part begins with, read by a reader made for it. Its callers need no walk.
-pub fn first(f: &[u8]) -> Token
-    ensures { λ r. ⌜ r ≡ tokenAt (now (f .entry)) 0 ⌝ }
-{
-    peek(new(f))
 }

@@ -4,6 +4,7 @@ pub mod Table
 -- ---- theorems
 pub mod Round
 pub mod Share
+pub mod Rest
 -- ---- for the code
 pub mod Row
 pub mod Entry

@@ -1,8 +1,8 @@
 // The values of formulas at the states of a model: a valuer of nodes and a fixpoint iteration that call each other, over a function for
-// each kind of node (maps, nexts). A map from states to elements is an array of 64, of which the first N entries count. t and l are a lattice's
-// tables and numbers (operations), m is a model part (model), f a formula part (formula). A map is written into the lent array `out`, so that
-// a level of nesting takes little of the stack. Where the lattice has codes (codes) and an estimate says that they save steps,
-// AX and EX go by them (nexts).
+// each kind of node (maps, nexts); the token at a place says which (tokens). A map from states to elements is an array of 64, of which the
+// first N entries count. t and l are a lattice's tables and numbers (operations), m is a model part (model), f a formula part (formula). A map
+// is written into the lent array `out`, so that a level of nesting takes little of the stack. Where the lattice has codes (codes) and an
+// estimate says that they save steps, AX and EX go by them (nexts).
 mod estimate;
 
 use estimate::worth;
@@ -13,12 +13,14 @@ use maps::literals;
 use maps::same;
 use maps::start_of;
 use maps::variable;
-use model::Proposition;
 use model::State;
 use nexts::next_values;
 use nexts::prepare;
 use operations::Element;
 use operations::Lattice;
+use tokens::Token;
+use tokens::size;
+use tokens::token_at;
 ghost use mathlib.Core.Path.{_≡_};
 ghost use Prim.Native.Nat.{_<_};
 ghost use lib.ListN.{getD};
@@ -61,31 +63,32 @@ fn value_node(
     ensures { λ r. ⌜ Node (now (t .entry)) l (now (m .entry)) (now (f .entry)) at
         (now (near .entry)) (now (mid .entry)) (now (far .entry)) (now (out .exit)) r ⌝ }
 {
-    let code = f[at];
-    let here = at + 1;
+    let token = token_at(f, at);
+    let here = at + size(token);
     let mut x = [0u8; 64];
-    match code {
-        0 => constant(l.bottom, here, out),
-        1 => constant(l.top, here, out),
-        2 | 3 => literals(t, m, code, Proposition(f[here]), here + 1, out),
-        4 => variable(near, mid, far, f[here], here + 1, out),
-        5 | 6 => {
+    match token {
+        Token::Bottom => constant(l.bottom, here, out),
+        Token::Top => constant(l.top, here, out),
+        Token::Literal { p, negated } => literals(t, m, negated, p, here, out),
+        Token::Variable(v) => variable(near, mid, far, v, here, out),
+        Token::Two { or } => {
             let mut y = [0u8; 64];
             let second = value_node(t, l, m, f, here, codes, words, w, near, mid, far, &mut x);
             let next = value_node(t, l, m, f, second, codes, words, w, near, mid, far, &mut y);
-            combined(t, model::states(m), code, &x, &y, out);
+            combined(t, model::states(m), or, &x, &y, out);
             next
         }
-        7 | 8 => {
+        Token::Next { all } => {
             let next = value_node(t, l, m, f, here, codes, words, w, near, mid, far, &mut x);
-            next_values(t, l, m, codes, words, w, code, &x, out);
+            next_values(t, l, m, codes, words, w, all, &x, out);
             next
         }
-        9 | 10 => {
-            let start = start_of(l, code == 9);
+        Token::Fixpoint { least } => {
+            let start = start_of(l, least);
             iterate(t, l, m, f, here, codes, words, w, near, mid, start, out)
         }
-        11..=255 => here,
+        Token::End => here,
+        Token::Broken => here,
     }
 }
 

@@ -3,6 +3,7 @@
 use crate::cases::Setting;
 use crate::desks::{self, Proved, Second};
 use crate::measure::{in_turn, Side, Times};
+use compare::conversions;
 use koelchair::{Element, State};
 use second::Reply;
 
@@ -21,9 +22,9 @@ impl Calls {
     pub fn new(setting: Setting) -> Calls {
         let case = setting.case();
         let (mut proved, mut second) = (Proved::new(), Second::new());
-        assert_eq!(desks::opened(proved.open(&case)), second.open(&case));
+        assert_eq!(conversions::opened(proved.open(&case)), second.open(&case));
         for _ in 0..setting.states1 + setting.states1 / 2 {
-            assert_eq!(desks::stepped(proved.step()), second.step());
+            assert_eq!(conversions::stepped(proved.step()), second.step());
         }
         desks::assert_same(&proved, &second);
         let mut settling = koelchair::Desk::open(&case).expect("an accepted case");
@@ -56,7 +57,7 @@ impl Calls {
             call: |desk: &mut Second| desk.open(&self.case),
         };
         in_turn(repeat, proved, second, |ours, answer, theirs, reply| {
-            assert_eq!(desks::opened(answer), reply);
+            assert_eq!(conversions::opened(answer), reply);
             desks::assert_same(ours, theirs);
         })
     }
@@ -81,7 +82,7 @@ impl Calls {
             },
         };
         in_turn(repeat, proved, second, |ours, answer, theirs, reply| {
-            assert_eq!(desks::stepped(answer), reply);
+            assert_eq!(conversions::stepped(answer), reply);
             desks::assert_same(ours, theirs);
         })
     }
@@ -112,8 +113,8 @@ impl Calls {
     pub fn show(&self, repeat: usize) -> Times {
         self.asked(
             repeat,
-            |d| koelchair::show(&d.standing, &d.store, &d.first, &d.second),
-            desks::shown,
+            |d| d.lent().show(),
+            conversions::shown,
             |d| second::show(&d.standing, &d.store, &d.first, &d.second),
         )
     }
@@ -121,23 +122,20 @@ impl Calls {
     /// A formula at the last state of model 2.
     pub fn value(&self, repeat: usize, formula: u8) -> Times {
         let state = self.setting.states2 - 1;
-        let proved = |d: &Proved| {
-            let (store, first, second) = (&d.store, &d.first, &d.second);
-            koelchair::value(&d.standing, store, first, second, formula, 2, State(state))
-        };
+        let proved = |d: &Proved| d.lent().value(formula, 2, State(state));
         let second = |d: &Second| {
             let (store, first, second) = (&d.store, &d.first, &d.second);
             second::value(&d.standing, store, first, second, formula, 2, state)
         };
-        self.asked(repeat, proved, desks::element, second)
+        self.asked(repeat, proved, conversions::element, second)
     }
 
     /// A formula on model 2.
     pub fn whole(&self, repeat: usize, formula: u8) -> Times {
         self.asked(
             repeat,
-            |d| koelchair::whole(&d.standing, &d.store, &d.first, &d.second, formula, 2),
-            desks::element,
+            |d| d.lent().whole(formula, 2),
+            conversions::element,
             |d| second::whole(&d.standing, &d.store, &d.first, &d.second, formula, 2),
         )
     }
@@ -145,8 +143,8 @@ impl Calls {
     pub fn score(&self, repeat: usize) -> Times {
         self.asked(
             repeat,
-            |d| koelchair::score(&d.standing, &d.store, &d.first, &d.second),
-            desks::element,
+            |d| d.lent().score(),
+            conversions::element,
             |d| second::score(&d.standing, &d.store, &d.first, &d.second),
         )
     }
@@ -154,15 +152,12 @@ impl Calls {
     /// The entries at or above the element in the middle of the numbers.
     pub fn share(&self, repeat: usize) -> Times {
         let element = self.setting.lattice.size() / 2;
-        let proved = |d: &Proved| {
-            let (store, first, second) = (&d.store, &d.first, &d.second);
-            koelchair::share(&d.standing, store, first, second, Element(element))
-        };
+        let proved = |d: &Proved| d.lent().share(Element(element));
         let second = |d: &Second| {
             let (store, first, second) = (&d.store, &d.first, &d.second);
             second::share(&d.standing, store, first, second, element)
         };
-        self.asked(repeat, proved, desks::per_cent, second)
+        self.asked(repeat, proved, conversions::per_cent, second)
     }
 
     /// The settled table, which is a simulation, so that every row is looked at.
@@ -170,8 +165,8 @@ impl Calls {
         let table = &self.settled;
         self.asked(
             repeat,
-            |d| koelchair::judge(&d.standing, &d.store, &d.first, &d.second, table),
-            desks::says,
+            |d| d.lent().judge(table),
+            conversions::says,
             |d| second::judge(&d.standing, &d.store, &d.first, &d.second, table),
         )
     }

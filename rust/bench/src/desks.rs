@@ -1,6 +1,7 @@
-//! A desk for each of the two implementations, and their answers in one form, so that these can be compared.
+//! A desk for each of the two implementations, and whether they are the same.
 
-use koelchair::{Element, Refusal, StepAnswer};
+use compare::conversions::to_second;
+use koelchair::{DeskMut, DeskRef, Refusal, StepAnswer};
 use second::Reply;
 
 /// A standing with its store and tables.
@@ -35,14 +36,31 @@ impl<S: Copy + Default> Desk<S> {
 }
 
 impl Proved {
+    /// For the calls that read.
+    pub fn lent(&self) -> DeskRef<'_> {
+        DeskRef {
+            standing: self.standing,
+            store: &self.store,
+            first: &self.first,
+            second: &self.second,
+        }
+    }
+
+    fn lent_mut(&mut self) -> DeskMut<'_> {
+        DeskMut {
+            standing: &mut self.standing,
+            store: &mut self.store,
+            first: &mut self.first,
+            second: &mut self.second,
+        }
+    }
+
     pub fn open(&mut self, case: &[u8]) -> Result<(), Refusal> {
-        let (first, second) = (&mut self.first, &mut self.second);
-        koelchair::open(&mut self.standing, case, &mut self.store, first, second)
+        self.lent_mut().open(case)
     }
 
     pub fn step(&mut self) -> Result<StepAnswer, Refusal> {
-        let (first, second) = (&mut self.first, &mut self.second);
-        koelchair::step(&mut self.standing, &self.store, first, second)
+        self.lent_mut().step()
     }
 }
 
@@ -60,55 +78,8 @@ impl Second {
 
 /// Stops unless both desks have the same standing and the same tables. The layout of a store is each implementation's own.
 pub fn assert_same(proved: &Proved, second: &Second) {
-    let ours = proved.standing;
-    let theirs = second::Standing {
-        states1: ours.states1,
-        states2: ours.states2,
-        round: ours.round,
-        row: ours.row,
-        changed: ours.changed,
-        settled: ours.settled,
-        second_whole: ours.second_whole,
-    };
-    assert_eq!(theirs, second.standing, "the standings differ");
+    let ours = to_second(proved.standing);
+    assert_eq!(ours, second.standing, "the standings differ");
     assert!(proved.first == second.first, "the first tables differ");
     assert!(proved.second == second.second, "the second tables differ");
-}
-
-fn reply<T>(answer: Result<T, Refusal>, accepted: impl Fn(T) -> Reply) -> Reply {
-    match answer {
-        Ok(given) => accepted(given),
-        Err(refusal) => Reply::Refused {
-            number: refusal.number(),
-            part: refusal.part(),
-        },
-    }
-}
-
-pub fn opened(answer: Result<(), Refusal>) -> Reply {
-    reply(answer, |()| Reply::Opened)
-}
-
-pub fn stepped(answer: Result<StepAnswer, Refusal>) -> Reply {
-    reply(answer, |step| match step {
-        StepAnswer::Row => Reply::Row,
-        StepAnswer::Round(round) => Reply::Round(round),
-        StepAnswer::Settled(rounds) => Reply::Settled(rounds),
-    })
-}
-
-pub fn shown(answer: &[u8]) -> Reply {
-    Reply::Shown(answer.to_vec())
-}
-
-pub fn element(answer: Result<Element, Refusal>) -> Reply {
-    reply(answer, |element| Reply::Element(element.0))
-}
-
-pub fn per_cent(answer: Result<u8, Refusal>) -> Reply {
-    reply(answer, Reply::PerCent)
-}
-
-pub fn says(answer: Result<bool, Refusal>) -> Reply {
-    reply(answer, Reply::Says)
 }

@@ -173,7 +173,7 @@ fn lattice(random: &mut Random, most: usize) -> (Lattice, Vec<u8>) {
     }
 }
 
-/// A directory and the parts, with gaps of random bytes: gaps[i] before part i, and the last one at the end.
+/// A directory and the parts, with gaps of random bytes: `gaps[i]` before part i, and the last one at the end.
 pub fn laid(random: &mut Random, parts: &[Vec<u8>], gaps: &[usize]) -> Vec<u8> {
     let mut directory = vec![parts.len() as u8];
     let mut rest = Vec::new();

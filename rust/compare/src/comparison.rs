@@ -46,7 +46,7 @@ impl Pair<'_> {
 
     /// Makes a call of both.
     pub fn call(&mut self, call: Call) -> Result<Reply, Difference> {
-        let settled_before = self.proved.standing.settled;
+        let before = self.proved.standing;
         let proved = calls::proved(&mut self.proved, &call);
         let second = calls::by_second(&mut self.second, &call);
         if self.print {
@@ -55,7 +55,7 @@ impl Pair<'_> {
         if proved != second || self.proved != self.second {
             return Err(self.difference(&call, &proved, &second));
         }
-        self.counts.call(&call, &proved, settled_before);
+        self.counts.call(&call, &proved, &before);
         self.place += 1;
         Ok(proved)
     }

@@ -1,6 +1,7 @@
 //! How often each refusal and each answer was met. Rests on calls.
 
 use crate::calls::Call;
+use koelchair::Standing;
 use second::Reply;
 
 const REFUSALS: [&str; 13] = [
@@ -33,8 +34,17 @@ const ANSWERS: [&str; 10] = [
 const SETTLED_EARLY: &str = "desk settled at round 1 or 2";
 const SETTLED_LATE: &str = "desk settled at a later round";
 const SETTLED_AGAIN: &str = "settled desk stepped again";
+const FINISHED: &str = "round finished in one call";
+const FINISHED_HALF: &str = "half-worked round finished in one call";
 const CALLS: &str = "calls";
-const OTHERS: [&str; 4] = [SETTLED_EARLY, SETTLED_LATE, SETTLED_AGAIN, CALLS];
+const OTHERS: [&str; 6] = [
+    SETTLED_EARLY,
+    SETTLED_LATE,
+    SETTLED_AGAIN,
+    FINISHED,
+    FINISHED_HALF,
+    CALLS,
+];
 
 /// A number for each name, in the order of the lists above.
 #[derive(Clone, Debug)]
@@ -81,12 +91,17 @@ impl Counts {
         entry.expect("a name of the lists above").1 += times;
     }
 
-    /// Counts a call, its answer, and whether it settled a desk or found it settled.
-    pub fn call(&mut self, call: &Call, reply: &Reply, settled_before: bool) {
+    /// Counts a call, its answer, whether it settled a desk or found it settled, and the rounds finished in one call.
+    pub fn call(&mut self, call: &Call, reply: &Reply, before: &Standing) {
         self.add(CALLS, 1);
         self.add(name(reply), 1);
-        if let (Call::Step, &Reply::Settled(round)) = (call, reply) {
-            self.add(settled(round, settled_before), 1);
+        if let (Call::Step | Call::FinishRound, &Reply::Settled(round)) = (call, reply) {
+            self.add(settled(round, before.settled), 1);
+        }
+        let finished = matches!(reply, Reply::Round(_) | Reply::Settled(_)) && !before.settled;
+        if matches!(call, Call::FinishRound) && finished {
+            let half = before.row > 0;
+            self.add(if half { FINISHED_HALF } else { FINISHED }, 1);
         }
     }
 

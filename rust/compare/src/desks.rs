@@ -2,7 +2,7 @@
 
 use crate::cases::Shape;
 use crate::generator::Random;
-use koelchair::Standing;
+use koelchair::{DeskMut, DeskRef, Standing};
 
 pub const STORE_LENGTH: usize = 24_576;
 pub const TABLE_LENGTH: usize = 4_096;
@@ -19,6 +19,26 @@ pub struct Desk {
 }
 
 impl Desk {
+    /// For the proved library's calls that read.
+    pub fn lent(&self) -> DeskRef<'_> {
+        DeskRef {
+            standing: self.standing,
+            store: &self.store,
+            first: &self.first,
+            second: &self.second,
+        }
+    }
+
+    /// For its calls that move the desk on.
+    pub fn lent_mut(&mut self) -> DeskMut<'_> {
+        DeskMut {
+            standing: &mut self.standing,
+            store: &mut self.store,
+            first: &mut self.first,
+            second: &mut self.second,
+        }
+    }
+
     /// The table that is whole.
     pub fn whole(&self) -> &[u8] {
         if self.standing.second_whole {

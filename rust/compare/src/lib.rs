@@ -5,6 +5,7 @@
 //! - lattices, non_lattices, models, formulas: the parts of a case, within the rules and not
 //! - cases, damage: whole cases, within the rules, and aimed at the refusals 1 to 10
 //! - desks, alterations: desks of any content, and desks altered from outside
+//! - conversions: standings and answers of the one implementation in the types of the other, which the benchmark takes too
 //! - calls, arguments: a call made of either implementation, and what it is made with
 //! - comparison, counts, lists: both made and compared, what was met, and the lists
 //!
@@ -16,6 +17,7 @@ pub mod arguments;
 pub mod calls;
 pub mod cases;
 pub mod comparison;
+pub mod conversions;
 pub mod counts;
 pub mod damage;
 pub mod desks;

@@ -208,8 +208,14 @@ impl List<'_> {
         }
     }
 
+    /// A step, or the rest of the round in one call.
     fn step(&mut self) -> Result<(), Difference> {
-        self.pair.call(Call::Step).map(drop)
+        let call = if self.random.one_in(8) {
+            Call::FinishRound
+        } else {
+            Call::Step
+        };
+        self.pair.call(call).map(drop)
     }
 
     fn question(&mut self) -> Result<(), Difference> {

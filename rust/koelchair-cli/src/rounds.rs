@@ -3,14 +3,9 @@
 use crate::progress::Progress;
 use koelchair::{Desk, StepAnswer};
 
-/// Works the rest of the round. The one place where this tool steps a desk.
+/// Works the rest of the round, in one call of the library. The one place where this tool moves a desk.
 pub fn finish_round(desk: &mut Desk) -> StepAnswer {
-    loop {
-        match desk.step() {
-            StepAnswer::Row => {}
-            answer => return answer,
-        }
-    }
+    desk.finish_round()
 }
 
 /// Works rounds until the desk is settled, and gives T. Before each round and after the last, `seen` gets the desk.

@@ -1,10 +1,11 @@
 //! A desk that owns its standing, its store and both tables.
 
-use crate::{Element, Refusal, Standing, State, StepAnswer, STORE_LENGTH, TABLE_LENGTH};
+use crate::{DeskMut, DeskRef, Element, Refusal, Sizes, Standing, State, StepAnswer};
+use crate::{STORE_LENGTH, TABLE_LENGTH};
 use std::fmt;
 
 /// A desk with an accepted case. It owns its standing, store and tables, which only its calls alter, so that by demand 3 none
-/// of its calls is refused with 11 or 12.
+/// of its calls is refused with 11 or 12. The crate's page has an example.
 #[derive(Clone)]
 pub struct Desk {
     standing: Standing,
@@ -13,7 +14,7 @@ pub struct Desk {
     second: Box<[u8]>,
 }
 
-/// Why a call of a desk is never refused: what only open made and these calls moved on keeps the rules.
+/// Why a call of a desk is never refused with 11 or 12: what only open made and these calls moved on keeps the rules.
 const KEPT: &str = "a desk that only its calls moved on keeps the rules of 11 and 12";
 
 impl Desk {
@@ -35,31 +36,25 @@ impl Desk {
     ///
     /// Refused with 1 to 10; then the desk stays as it was.
     pub fn replace(&mut self, case: &[u8]) -> Result<(), Refusal> {
-        crate::open(
-            &mut self.standing,
-            case,
-            &mut self.store,
-            &mut self.first,
-            &mut self.second,
-        )
+        self.lent_mut().open(case)
     }
 
     /// Works the next row of the next round in the table that is not shown; after the last row the new table is the shown one.
     /// A settled desk answers [`StepAnswer::Settled`] again and is left unchanged.
     pub fn step(&mut self) -> StepAnswer {
-        crate::step(
-            &mut self.standing,
-            &self.store,
-            &mut self.first,
-            &mut self.second,
-        )
-        .expect(KEPT)
+        self.lent_mut().step().expect(KEPT)
     }
 
-    /// Steps until the desk is settled, and gives T, the least t above 0 for which round t equals round t − 1.
+    /// Works the rows of the round that are left, as so many steps do, and answers as the last of them. A settled desk answers
+    /// [`StepAnswer::Settled`] again and is left unchanged.
+    pub fn finish_round(&mut self) -> StepAnswer {
+        self.lent_mut().finish_round().expect(KEPT)
+    }
+
+    /// Works rounds until the desk is settled, and gives T, the least t above 0 for which round t equals round t − 1.
     pub fn settle(&mut self) -> u32 {
         loop {
-            if let StepAnswer::Settled(rounds) = self.step() {
+            if let StepAnswer::Settled(rounds) = self.finish_round() {
                 return rounds;
             }
         }
@@ -67,69 +62,70 @@ impl Desk {
 
     /// The shown table, of N1·N2 bytes; entry (q1, q2) is byte q1·N2 + q2. Its round is that of the standing.
     pub fn show(&self) -> &[u8] {
-        crate::show(&self.standing, &self.store, &self.first, &self.second)
+        self.lent().show()
     }
 
     /// A formula's element at a state of model 1 or 2. Formulas are numbered from 0.
     ///
     /// Refused with 13 where the formula, the model or the state is not in the case.
     pub fn value(&self, formula: u8, model: u8, state: State) -> Result<Element, Refusal> {
-        let Desk {
-            standing,
-            store,
-            first,
-            second,
-        } = self;
-        crate::value(standing, store, first, second, formula, model, state)
+        self.lent().value(formula, model, state)
     }
 
     /// A formula's element on the whole of model 1 or 2.
     ///
     /// Refused with 13 where the formula or the model is not in the case.
     pub fn whole(&self, formula: u8, model: u8) -> Result<Element, Refusal> {
-        let Desk {
-            standing,
-            store,
-            first,
-            second,
-        } = self;
-        crate::whole(standing, store, first, second, formula, model)
+        self.lent().whole(formula, model)
     }
 
     /// The score of the shown table.
     pub fn score(&self) -> Element {
-        crate::score(&self.standing, &self.store, &self.first, &self.second).expect(KEPT)
+        self.lent().score().expect(KEPT)
     }
 
     /// The per cent of shown entries at or above an element, rounded to whole per cent, halves up.
     ///
     /// Refused with 13 where the element is not of the lattice.
     pub fn share(&self, element: Element) -> Result<u8, Refusal> {
-        let Desk {
-            standing,
-            store,
-            first,
-            second,
-        } = self;
-        crate::share(standing, store, first, second, element)
+        self.lent().share(element)
     }
 
     /// Whether a table of N1·N2 elements is a simulation.
     ///
     /// Refused with 13 where the table has another length or a byte that is no element.
     pub fn judge(&self, table: &[u8]) -> Result<bool, Refusal> {
-        let Desk {
-            standing,
-            store,
-            first,
-            second,
-        } = self;
-        crate::judge(standing, store, first, second, table)
+        self.lent().judge(table)
+    }
+
+    /// What the desk holds.
+    pub fn sizes(&self) -> Sizes {
+        self.lent().sizes().expect(KEPT)
     }
 
     /// Where the desk stands.
     pub fn standing(&self) -> Standing {
         self.standing
+    }
+
+    /// The desk with its store and both tables, for reading.
+    pub fn lent(&self) -> DeskRef<'_> {
+        DeskRef {
+            standing: self.standing,
+            store: &self.store,
+            first: &self.first,
+            second: &self.second,
+        }
+    }
+
+    /// For the calls alone: who writes otherwise may spoil the desk.
+    fn lent_mut(&mut self) -> DeskMut<'_> {
+        DeskMut {
+            standing: &mut self.standing,
+            store: &mut self.store,
+            first: &mut self.first,
+            second: &mut self.second,
+        }
     }
 }
 

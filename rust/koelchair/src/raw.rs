@@ -3,19 +3,24 @@
 //! A slice is passed as its pointer and its length. The proved functions read and write within these lengths alone, keep no pointer,
 //! use no memory that outlives a call, and write only where a slice is exclusive here.
 
-use crate::{Standing, LISTING_LENGTH};
+use crate::{DeskMut, DeskRef, Standing, LISTING_LENGTH};
 
-/// An answer in numbers: `kind` says which, and the fields that this kind does not use are 0.
+/// An answer in numbers: `kind` says which, and the fields that this kind does not use are 0 or false. No kind uses `byte`, `second`,
+/// `flag1` and `flag2` yet.
 #[repr(C)]
-#[derive(Clone, Copy, Debug)]
+#[derive(Clone, Copy, Debug, Default)]
 pub struct Answer {
     pub kind: u8,
     pub number: u8,
     pub part: u8,
+    pub byte: u8,
     pub value: u32,
+    pub second: u32,
+    pub flag1: bool,
+    pub flag2: bool,
 }
 
-/// What open and step give: the standing after the call, and the answer.
+/// What open, step and finish_round give: the standing after the call, and the answer.
 #[repr(C)]
 pub struct Moved {
     pub standing: Standing,
@@ -29,13 +34,18 @@ pub struct Shown {
     pub length: usize,
 }
 
-/// What every call but open reads: the standing, the store and both tables.
-#[derive(Clone, Copy)]
-pub struct Parts<'a> {
-    pub standing: Standing,
-    pub store: &'a [u8],
-    pub first: &'a [u8],
-    pub second: &'a [u8],
+/// What a desk holds: the elements of its lattice, the propositions and the states of its models, and its formulas. A refused desk has the
+/// refusal's number and part, and zeros; any other has number and part 0.
+#[repr(C)]
+#[derive(Clone, Copy, Debug, Default)]
+pub struct DeskSizes {
+    pub number: u8,
+    pub part: u8,
+    pub elements: u8,
+    pub propositions: u8,
+    pub states1: u8,
+    pub states2: u8,
+    pub formulas: u8,
 }
 
 extern "C" {
@@ -52,6 +62,16 @@ extern "C" {
     ) -> Moved;
 
     fn koelchair_step(
+        standing: Standing,
+        store: *const u8,
+        store_length: usize,
+        first: *mut u8,
+        first_length: usize,
+        second: *mut u8,
+        second_length: usize,
+    ) -> Moved;
+
+    fn koelchair_finish_round(
         standing: Standing,
         store: *const u8,
         store_length: usize,
@@ -129,179 +149,109 @@ extern "C" {
         table_length: usize,
     ) -> Answer;
 
+    fn koelchair_sizes(
+        standing: Standing,
+        store: *const u8,
+        store_length: usize,
+        first: *const u8,
+        first_length: usize,
+        second: *const u8,
+        second_length: usize,
+    ) -> DeskSizes;
+
     fn koelchair_listing(case: *const u8, case_length: usize, text: *mut u8) -> usize;
 }
 
-pub fn open(
-    standing: Standing,
-    case: &[u8],
-    store: &mut [u8],
-    first: &mut [u8],
-    second: &mut [u8],
-) -> Moved {
+/// A call that reads: the function, the desk, and its other arguments.
+macro_rules! ask {
+    ($function:ident, $desk:expr $(, $argument:expr)*) => {{
+        let DeskRef { standing, store, first, second } = $desk;
+        // SAFETY: each pointer and length are those of one slice, and all are only read.
+        unsafe {
+            $function(
+                standing,
+                store.as_ptr(), store.len(),
+                first.as_ptr(), first.len(),
+                second.as_ptr(), second.len(),
+                $($argument),*
+            )
+        }
+    }};
+}
+
+pub fn open(desk: &mut DeskMut, case: &[u8]) -> Moved {
     // SAFETY: each pointer and length are those of one slice; the three that are written are exclusive.
     unsafe {
         koelchair_open(
-            standing,
+            *desk.standing,
             case.as_ptr(),
             case.len(),
-            store.as_mut_ptr(),
-            store.len(),
-            first.as_mut_ptr(),
-            first.len(),
-            second.as_mut_ptr(),
-            second.len(),
+            desk.store.as_mut_ptr(),
+            desk.store.len(),
+            desk.first.as_mut_ptr(),
+            desk.first.len(),
+            desk.second.as_mut_ptr(),
+            desk.second.len(),
         )
     }
 }
 
-pub fn step(standing: Standing, store: &[u8], first: &mut [u8], second: &mut [u8]) -> Moved {
+pub fn step(desk: &mut DeskMut) -> Moved {
     // SAFETY: each pointer and length are those of one slice; the two tables, which are written, are exclusive.
     unsafe {
         koelchair_step(
-            standing,
-            store.as_ptr(),
-            store.len(),
-            first.as_mut_ptr(),
-            first.len(),
-            second.as_mut_ptr(),
-            second.len(),
+            *desk.standing,
+            desk.store.as_ptr(),
+            desk.store.len(),
+            desk.first.as_mut_ptr(),
+            desk.first.len(),
+            desk.second.as_mut_ptr(),
+            desk.second.len(),
         )
     }
 }
 
-pub fn show(parts: Parts) -> Shown {
-    let Parts {
-        standing,
-        store,
-        first,
-        second,
-    } = parts;
-    // SAFETY: each pointer and length are those of one slice, and all are only read.
+pub fn finish_round(desk: &mut DeskMut) -> Moved {
+    // SAFETY: each pointer and length are those of one slice; the two tables, which are written, are exclusive.
     unsafe {
-        koelchair_show(
-            standing,
-            store.as_ptr(),
-            store.len(),
-            first.as_ptr(),
-            first.len(),
-            second.as_ptr(),
-            second.len(),
+        koelchair_finish_round(
+            *desk.standing,
+            desk.store.as_ptr(),
+            desk.store.len(),
+            desk.first.as_mut_ptr(),
+            desk.first.len(),
+            desk.second.as_mut_ptr(),
+            desk.second.len(),
         )
     }
 }
 
-pub fn value(parts: Parts, formula: u8, model: u8, state: u8) -> Answer {
-    let Parts {
-        standing,
-        store,
-        first,
-        second,
-    } = parts;
-    // SAFETY: each pointer and length are those of one slice, and all are only read.
-    unsafe {
-        koelchair_value(
-            standing,
-            store.as_ptr(),
-            store.len(),
-            first.as_ptr(),
-            first.len(),
-            second.as_ptr(),
-            second.len(),
-            formula,
-            model,
-            state,
-        )
-    }
+pub fn show(desk: DeskRef) -> Shown {
+    ask!(koelchair_show, desk)
 }
 
-pub fn whole(parts: Parts, formula: u8, model: u8) -> Answer {
-    let Parts {
-        standing,
-        store,
-        first,
-        second,
-    } = parts;
-    // SAFETY: each pointer and length are those of one slice, and all are only read.
-    unsafe {
-        koelchair_whole(
-            standing,
-            store.as_ptr(),
-            store.len(),
-            first.as_ptr(),
-            first.len(),
-            second.as_ptr(),
-            second.len(),
-            formula,
-            model,
-        )
-    }
+pub fn value(desk: DeskRef, formula: u8, model: u8, state: u8) -> Answer {
+    ask!(koelchair_value, desk, formula, model, state)
 }
 
-pub fn score(parts: Parts) -> Answer {
-    let Parts {
-        standing,
-        store,
-        first,
-        second,
-    } = parts;
-    // SAFETY: each pointer and length are those of one slice, and all are only read.
-    unsafe {
-        koelchair_score(
-            standing,
-            store.as_ptr(),
-            store.len(),
-            first.as_ptr(),
-            first.len(),
-            second.as_ptr(),
-            second.len(),
-        )
-    }
+pub fn whole(desk: DeskRef, formula: u8, model: u8) -> Answer {
+    ask!(koelchair_whole, desk, formula, model)
 }
 
-pub fn share(parts: Parts, element: u8) -> Answer {
-    let Parts {
-        standing,
-        store,
-        first,
-        second,
-    } = parts;
-    // SAFETY: each pointer and length are those of one slice, and all are only read.
-    unsafe {
-        koelchair_share(
-            standing,
-            store.as_ptr(),
-            store.len(),
-            first.as_ptr(),
-            first.len(),
-            second.as_ptr(),
-            second.len(),
-            element,
-        )
-    }
+pub fn score(desk: DeskRef) -> Answer {
+    ask!(koelchair_score, desk)
 }
 
-pub fn judge(parts: Parts, table: &[u8]) -> Answer {
-    let Parts {
-        standing,
-        store,
-        first,
-        second,
-    } = parts;
-    // SAFETY: each pointer and length are those of one slice, and all are only read.
-    unsafe {
-        koelchair_judge(
-            standing,
-            store.as_ptr(),
-            store.len(),
-            first.as_ptr(),
-            first.len(),
-            second.as_ptr(),
-            second.len(),
-            table.as_ptr(),
-            table.len(),
-        )
-    }
+pub fn share(desk: DeskRef, element: u8) -> Answer {
+    ask!(koelchair_share, desk, element)
+}
+
+pub fn judge(desk: DeskRef, table: &[u8]) -> Answer {
+    ask!(koelchair_judge, desk, table.as_ptr(), table.len())
+}
+
+pub fn sizes(desk: DeskRef) -> DeskSizes {
+    ask!(koelchair_sizes, desk)
 }
 
 /// Writes the listing at the front of `text`, and gives its length.

@@ -1,15 +1,21 @@
 -- The proof of `formula::node`, which calls itself: the measure is the bytes from the position on. Each return is a law of the arm.
-use Prim.Native.Nat.{ℕ, _<_, _-_}
+use Prim.Native.Nat.{ℕ, _+_, _<_, _-_}
+use mathlib.Core.Path.{_≡_, refl, ap, _∙_}
 use lib.ListN.{length}
 use native.Mathlib.Omega.{arith}
 use borrow.Author.Needs.{needs}
-use Rattle.formula.proofs.Laws.{told, forward, ended, at-bottom, at-top, at-proposition, at-variable, at-two, at-two-broken, at-next, at-binder, at-fourth, at-other}
+use Rattle.tokens.specs.declared.Token.{Token}
+use Rattle.tokens.specs.Tokens.{tokenSize}
+use Rattle.tokens.specs.Sizes.{end-most, Stands, stands, stands-within}
+use Rattle.formula.proofs.Laws.{told, forward, at-bottom, at-top, at-literal, at-variable, at-two, at-two-broken, at-next, at-fixpoint, at-fourth, at-end, at-broken}
 use borrow.Fn.Kinds.{In}
 use borrow.Fn.PlainCycle.{Measures, is, falls, and}
 use Rattle.formula.proofs.node.Reads as node
 use Rattle.formula.proofs.node.Kinds as node-kinds
 use Rattle.formula.proofs.+node.Lts-node as node-lts
 use Rattle.formula.proofs.number_below.Reads as number-below-reads
+use Rattle.tokens.proofs.size.Reads as size-reads
+use Rattle.tokens.proofs.token_at.Reads as token-at-reads
 use Rattle.formula.proofs.+node.{statement}
 use Rattle.formula.proofs.+node.Tie.{close}
 
@@ -24,51 +30,80 @@ node-below t = and 1 node-kinds.ps (falls 1 node-kinds.ps _<_ μ-node t) node.Pr
 
 -- what the callees ask and give, at the measure t
 abbrev claims : ℕ → node-lts.Claims
-claims t = (number-below-reads.Asked, number-below-reads.Learnt, node-below t, node.Post)
+claims t = (token-at-reads.Asked, token-at-reads.Learnt, size-reads.Asked, size-reads.Learnt, number-below-reads.Asked, number-below-reads.Learnt, node-below t, node.Post)
+
+-- what stands at the place, once it is read and matched
+stood : (t : ℕ) (s : node-lts.After-size (claims t) (node-at t) node.Post) (u : Token) → s .before .token-at .result ≡ u
+    → Stands (s .before .before .before .args .f .now) (s .before .before .before .args .at) u (s .before .before .before .args .at + s .size .result)
+stood t s u m = stands (s .before .token-at .ensures) (s .size .ensures) m
+
+-- a token of one byte, within the part, so that a call at the next place has fewer bytes left
+fewer : (t : ℕ) (s : node-lts.After-size (claims t) (node-at t) node.Post) (u : Token) → s .before .token-at .result ≡ u → tokenSize u ≡ 1
+    → length (s .before .before .before .args .f .now) - (s .before .before .before .args .at + s .size .result) < t
+fewer t s u m l = let w = stood t s u m in omega (arith, w .ends, stands-within w (omega arith) .0, s .before .before .before .pre .0)
+
+node-add-next : (t : ℕ) → node-lts.Need-add-next (claims t) (node-at t) node.Post
+node-add-next t c =
+    let e = c .size .ensures ∙ ap tokenSize (c .before .token-at .ensures) in
+    omega (arith, e, end-most (c .before .before .before .args .f .now) (c .before .before .before .args .at))
+
+node-node-requires : (t : ℕ) → node-lts.Need-node-requires (claims t) (node-at t) node.Post
+unfolding tokenSize
+node-node-requires t c κs = (fewer t (c .before .before) _ (c .enum-told3 .given .1) refl, c .before .before .before .before .before .pre .1)
 
 node-node-requires-2 : (t : ℕ) → node-lts.Need-node-requires-2 (claims t) (node-at t) node.Post
+unfolding tokenSize
 node-node-requires-2 t c κs =
-    let h = forward _ (told (c .before .before .before .node .ensures) (c .before .left .given .1)) in (omega arith, c .before .before .before .before .before .before .before .before .before .before .pre .1)
+    let h = forward _ (told (c .before .before .before .node .ensures) (c .before .first .given .1)) in
+    let s = c .before .before .before .before .before .before in
+    (omega (arith, h, fewer t s _ (c .before .before .before .before .enum-told3 .given .1) refl), s .before .before .before .pre .1)
+
+node-node-requires-3 : (t : ℕ) → node-lts.Need-node-requires-3 (claims t) (node-at t) node.Post
+unfolding tokenSize
+node-node-requires-3 t c κs = (fewer t (c .before .before) _ (c .enum-told5 .given .1) refl, c .before .before .before .before .before .pre .1)
+
+node-node-requires-4 : (t : ℕ) → node-lts.Need-node-requires-4 (claims t) (node-at t) node.Post
+unfolding tokenSize
+node-node-requires-4 t c κs = (fewer t (c .before .before .before) _ (c .before .enum-told6 .given .1) refl, omega arith)
 
 node-returns : (t : ℕ) → node-lts.Need-returns (claims t) (node-at t) node.Post
-node-returns t c = at-bottom (c .before .before .if1 .taken) (c .before .before .before .before .pre .1) (c .match .keys1)
+node-returns t c = at-bottom (c .before .before .before .before .before .pre .1) (stood t (c .before .before) _ (c .enum-told .given .1))
 
 node-returns-2 : (t : ℕ) → node-lts.Need-returns-2 (claims t) (node-at t) node.Post
-node-returns-2 t c = at-top (c .before .before .if1 .taken) (c .before .before .before .before .pre .1) (c .match .keys2)
+node-returns-2 t c = at-top (c .before .before .before .before .before .pre .1) (stood t (c .before .before) _ (c .enum-told2 .given .1))
 
 node-returns-3 : (t : ℕ) → node-lts.Need-returns-3 (claims t) (node-at t) node.Post
-node-returns-3 t c = at-variable (c .before .before .before .if1 .taken) (c .before .before .before .before .before .pre .1) (c .number-below .ensures) (c .before .match .keys3)
+node-returns-3 t c = let s = c .before .before .before .before in rw (c .number-below .ensures) (at-literal _ _ (s .before .before .before .pre .1) (stood t s _ (c .before .before .token .given .1)))
 
 node-returns-4 : (t : ℕ) → node-lts.Need-returns-4 (claims t) (node-at t) node.Post
-node-returns-4 t c = at-proposition (c .before .before .before .before .if1 .taken) (c .before .before .before .before .before .before .pre .1) (omega arith) (omega arith) (c .number-below2 .ensures)
+node-returns-4 t c = let s = c .before .before .before .before in rw (c .number-below2 .ensures) (at-variable _ (s .before .before .before .pre .1) (stood t s _ (c .before .before .token2 .given .1)))
 
 node-returns-5 : (t : ℕ) → node-lts.Need-returns-5 (claims t) (node-at t) node.Post
 node-returns-5 t c =
-    at-two (c .before .before .before .before .before .before .before .before .before .if1 .taken) _ (omega arith) (omega arith)
-    (told (c .before .before .before .before .node .ensures) (c .before .before .left .given .1)) (c .node2 .ensures)
+    at-two _ (stood t (c .before .before .before .before .before .before .before) _ (c .before .before .before .before .before .enum-told3 .given .1)) _ (told (c .before .before .before .before .node .ensures) (c .before .before .first .given .1)) (c .node2 .ensures)
 
 node-returns-6 : (t : ℕ) → node-lts.Need-returns-6 (claims t) (node-at t) node.Post
-node-returns-6 t c =
-    at-two-broken (c .before .before .before .before .before .before .before .if1 .taken) (omega arith) (omega arith) (told (c .before .before .node .ensures) (c .enum-told .given .1))
+node-returns-6 t c = at-two-broken _ (stood t (c .before .before .before .before .before) _ (c .before .before .before .enum-told3 .given .1)) (told (c .before .before .node .ensures) (c .enum-told4 .given .1))
 
 node-returns-7 : (t : ℕ) → node-lts.Need-returns-7 (claims t) (node-at t) node.Post
-node-returns-7 t c = at-next (c .before .before .before .before .before .before .if1 .taken) (omega arith) (omega arith) (c .node3 .ensures)
+node-returns-7 t c = at-next _ (c .node3 .ensures) (stood t (c .before .before .before) _ (c .before .enum-told5 .given .1))
 
 node-returns-8 : (t : ℕ) → node-lts.Need-returns-8 (claims t) (node-at t) node.Post
-node-returns-8 t c = at-binder (c .before .before .before .before .before .before .before .before .if1 .taken) (omega arith) (omega arith) (c .node4 .ensures)
+node-returns-8 t c = at-fixpoint _ (c .node4 .ensures) (stood t (c .before .before .before .before) _ (c .before .before .enum-told6 .given .1))
 
 node-returns-9 : (t : ℕ) → node-lts.Need-returns-9 (claims t) (node-at t) node.Post
-node-returns-9 t c = at-fourth (c .before .before .before .before .before .before .before .if1 .taken) (omega arith) (omega arith) (c .if6 .left)
+node-returns-9 t c = at-fourth _ (c .if1 .left) (stood t (c .before .before .before) _ (c .before .enum-told6 .given .1))
 
 node-returns-10 : (t : ℕ) → node-lts.Need-returns-10 (claims t) (node-at t) node.Post
-node-returns-10 t c = at-other (c .before .before .before .before .before .before .if1 .taken) (omega arith)
+node-returns-10 t c = at-end (stood t (c .before .before) _ (c .enum-told7 .given .1))
 
 node-returns-11 : (t : ℕ) → node-lts.Need-returns-11 (claims t) (node-at t) node.Post
-node-returns-11 t c = ended (c .if1 .left)
+node-returns-11 t c = at-broken (stood t (c .before .before) _ (c .enum-told8 .given .1))
 
 pub +node-spec : {M : Type 1} → statement M
-+node-spec = close μ-node λ t. node-lts.spec (claims t) (node-at t) node.Post (λ c. search needs) (λ c. search needs)
-    (λ c κs. search needs) (λ c κs. search needs) (λ c κs. search needs) (λ c. search needs) (node-node-requires-2 t)
-    (λ c. search needs) (λ c κs. search needs) (λ c. search needs) (λ c κs. search needs) (node-returns t)
-    (node-returns-2 t) (node-returns-3 t) (node-returns-4 t) (node-returns-5 t) (node-returns-6 t) (node-returns-7 t)
-    (node-returns-8 t) (node-returns-9 t) (node-returns-10 t) (node-returns-11 t)
++node-spec = close μ-node λ t. node-lts.spec (claims t) (node-at t) node.Post (λ c κs. search needs) (λ c κs. search needs) (node-add-next t)
+    (λ c. search needs) (λ c. search needs) (λ c. search needs) (λ c κs. search needs) (λ c. search needs) (λ c κs. search needs)
+    (λ c. search needs) (node-node-requires t) (λ c. search needs) (node-node-requires-2 t) (λ c. search needs) (λ c. search needs)
+    (node-node-requires-3 t) (λ c. search needs) (λ c. search needs) (node-node-requires-4 t) (λ c. search needs) (λ c. search needs)
+    (node-returns t) (node-returns-2 t) (node-returns-3 t) (node-returns-4 t) (node-returns-5 t) (node-returns-6 t)
+    (node-returns-7 t) (node-returns-8 t) (node-returns-9 t) (node-returns-10 t) (node-returns-11 t)

@@ -5,10 +5,12 @@ use Rattle.formula.proofs.check.Statement.{statement}
 use Rattle.formula.proofs.check.Tie as tie
 
 returns : tie.Need-returns
-returns c = used-up _ _ (c .before .before .before .before .before .if1 .taken) _ (told (c .before .before .before .before .node .ensures) (c .before .before .whole .given .1)) (c .if2 .taken)
+returns c =
+    used-up _ _ (c .before .before .before .before .before .before .if1 .taken) _ (told (c .before .before .before .before .before .node .ensures) (c .before .before .before .whole .given .1)) (c .if2 .taken)
 
 returns-2 : tie.Need-returns-2
-returns-2 c = left-over _ _ (c .before .before .before .before .before .if1 .taken) _ (told (c .before .before .before .before .node .ensures) (c .before .before .whole .given .1)) (c .if2 .left)
+returns-2 c =
+    left-over _ _ (c .before .before .before .before .before .before .if1 .taken) _ (told (c .before .before .before .before .before .node .ensures) (c .before .before .before .whole .given .1)) (c .if2 .left)
 
 returns-3 : tie.Need-returns-3
 returns-3 c = broken _ _ (c .before .before .before .if1 .taken) (told (c .before .before .node .ensures) (c .enum-told .given .1))

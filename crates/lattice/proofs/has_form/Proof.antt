@@ -7,7 +7,7 @@ use borrow.Author.Tests.{not-true, not-false}
 use borrow.Author.Needs.{needs}
 use Rattle.theory.specs.TestLaws.{not-passed}
 use Rattle.lattice.specs.Reading.{isPanel, latticeForm}
-use Rattle.lattice.specs.Accepted.{ExplicitForm}
+use Rattle.lattice.specs.Conditions.{ExplicitForm}
 use Rattle.lattice.specs.Form.{square-le, form-panel, form-least, form-out, form-complements, form-last}
 use Rattle.lattice.proofs.has_form.Statement.{statement}
 use Rattle.lattice.proofs.has_form.Tie as tie

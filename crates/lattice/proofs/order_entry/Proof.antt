@@ -5,7 +5,8 @@ use native.Mathlib.Omega.{arith}
 use borrow.Author.Needs.{needs}
 use Rattle.theory.specs.Simulation.{one}
 use Rattle.lattice.specs.Reading.{latticeOf}
-use Rattle.lattice.specs.Form.{OrderEntry, form-explicit, order-at, panel-at, panelEntry}
+use Rattle.lattice.specs.Form.{OrderEntry, form-explicit, order-at, panel-at}
+use Rattle.lattice.specs.PanelTable.{panelEntry}
 use Rattle.lattice.proofs.order_entry.Statement.{statement}
 use Rattle.lattice.proofs.order_entry.Tie as tie
 

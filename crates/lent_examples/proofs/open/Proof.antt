@@ -1,10 +1,10 @@
 -- `lent_examples::open` meets its contract, which asks and says nothing: a walk of its MIR. The standing is lent to `lent::open` for a lifetime that
 -- is made for the call, and is taken back. All that the proof knows of `lent::open` is that it meets its contract. Assumes nothing.
-use Rattle.lent_examples.proofs.Lending.{St, sv, standing-typed, lies, taken, ends, slice, Bytes}
-use Rattle.lent_examples.proofs.Lending.{_≡_, refl, ap, [], _∷_, List, ℕ, Holds, length, URA, fullShare, named, Val, WT, hasTy, vptr, SProp, ent, emp, via, fst∗, id⊢, Lft, Share, GName, ftrue, fat, flft, flent, Memory, Routine, Heap, Calls, Loops, WpFn, Tables, Atoms, Fun, Lfts, Shares, givenOf, tables, tablesOf, FmC, fmOf, WpFn-mono}
-use Rattle.lent_examples.proofs.Lending.{Given, Item, ‵, raw, some, later, given, learn, _⊛_, ⋆, _$_, _∵_, !, qed, by, move, keep, drop, use1, use2, use3, split, join, pick, rewrite, fsplit, fjoin, feqL, suffices, frame, await, done, lft-new, lft-end}
-use Rattle.lent_examples.proofs.Lending.{look, init, forget, stop, hop, fld, from, load, addr, of-opd, and-then, no-more, assigns, land, returns, enter, alloc1, alloc0, params1, pass1, pass0, free1, free0, agg, whole, sub, look-in, Body}
-use Rattle.lent_examples.proofs.Lending.{RattleType, owns, mem, Is, shows, u8, RefT, MutRef, ShrSlice, MutSlice, Room, finally, slice-vals, shr-slice-tells, mut-slice-tells, shr-slice-lawful, shr-slice-copy, lends-ref, ref-back, only, owned, peeks, nothing, onEntry, Args, Vals, Meets, tripleOf, Contract, Triple, calls-at, ensured, lasts, atExit, entered, cited, Stays, stay-none, stay-none-slice, gave-slice, walkOf, goes-none, goes-none-slice, goes-gave-slice, Walks, ends-at, walked, walk-meets, yes}
+use Rattle.lent_examples.proofs.Lending.{St, sv, standing-typed, out, lent-out, back, taken, ends, slice, Bytes}
+use Rattle.lent_examples.proofs.Lending.{_≡_, refl, ap, [], _∷_, List, ℕ, Holds, length, URA, fullShare, named, Val, WT, hasTy, vptr, SProp, ent, emp, via, fst∗, id⊢, Lft, Share, GName, ftrue, fat, flft, Memory, Routine, Heap, Calls, Loops, WpFn, Tables, Atoms, Fun, Lfts, Shares, givenOf, tables, tablesOf, FmC, fmOf, WpFn-mono}
+use Rattle.lent_examples.proofs.Lending.{Given, Item, ‵, raw, some, later, learn, _⊛_, ⋆, _$_, _∵_, !, qed, by, move, keep, drop, use1, use2, use3, split, join, pick, rewrite, fsplit, fjoin, feqL, suffices, frame, await, done, lft-new, lft-end}
+use Rattle.lent_examples.proofs.Lending.{look, init, forget, stop, hop, fld, from, load, addr, of-opd, and-then, no-more, assigns, land, returns, enter, alloc1, alloc0, params1, pass1, pass0, free1, free0, agg, whole, sub, look-in}
+use Rattle.lent_examples.proofs.Lending.{RattleType, owns, mem, Is, shows, u8, RefT, MutRef, ShrSlice, MutSlice, Room, finally, slice-vals, shr-slice-tells, mut-slice-tells, shr-slice-lawful, shr-slice-copy, ref-back, only, owned, peeks, nothing, onEntry, Args, Vals, Meets, tripleOf, Contract, Triple, calls-at, ensured, lasts, atExit, entered, cited, Stays, stay-none, stay-none-slice, gave-slice, walkOf, goes-none, goes-none-slice, goes-gave-slice, Walks, ends-at, walked, walk-meets, yes}
 use denote.Struct.Laws as LL
 use denote.Enum.Laws as LE
 use Rattle.examination.specs.declared.Standing.{Standing}
@@ -122,8 +122,7 @@ module _ {M : Type 1} (𝓤 : URA M) (H : Heap 𝓤) (A : Atoms 𝓤) (W : Given
         assigns ! (addr ! (from ! (fld ! refl (hop ! (look-in ! 28 (sub ! 0 refl (whole !))) (stop !))))) (from ! (stop !)) (init ! 12 refl (tt, tt)) $
         assigns ! (agg ! (and-then ! (load ! (from ! (stop !)) (look ! 12 refl)) (and-then ! (load ! (from ! (fld ! refl (stop !))) (look-in ! 28 (sub ! 1 refl (whole !)))) (no-more !)))) (from ! (stop !)) (init ! 10 refl (tt, (tt, (record { fits = room4 .0 }, tt)))) $
         -- the standing is lent for a lifetime that is made for the call
-        lft-new ! tt (λ α. move ! (27 ∷ []) $ use1 W (‵ (mem St .lies x0 l6 0)) (lies 𝓤 H A W x0 l6 f0) $
-        use1 W (later (some (λ (γ : GName). ‵ (MutRef (named 0) (α ∷ []) St .own (at l6 γ) (vptr l6 0 ∷ [])) ⊛ ‵ (flent (α ∷ []) (Body (mem St) l6 0 γ))))) (lends-ref 𝓤 H A W St (named 0) (α ∷ []) x0 l6 0) $
+        lft-new ! tt (λ α. move ! (27 ∷ []) $ use1 W (out 𝓤 H A W x0 α l6) (lent-out 𝓤 H A W x0 α l6 f0) $
         await ! tt $ pick ! (λ γ. split ! $
         move ! (10 ∷ []) $
         use1 W (‵ (ShrSlice (named 0) κ0 u8 .own x1 (slice x1 ∷ [])) ⊛ ‵ (ShrSlice (named 0) κ0 u8 .own x1 (slice x1 ∷ []))) (shr-slice-copy 𝓤 H A W (named 0) κ0 u8 .twice x1 (slice x1 ∷ [])) $
@@ -141,7 +140,7 @@ module _ {M : Type 1} (𝓤 : URA M) (H : Heap 𝓤) (A : Atoms 𝓤) (W : Given
         feqL ! (λ e4. move ! (1 ∷ []) $ drop ! $ move ! (5 ∷ []) $ split ! $ split ! $ move ! (1 ∷ []) $ split ! $ move ! (1 ∷ []) $ split ! $ move ! (1 ∷ []) $
         split ! $ move ! (1 ∷ []) $ split ! $ move ! (1 ∷ []) $ drop ! $ move ! (4 ∷ []) $ lft-end ! tt $ move ! (0 ∷ 12 ∷ 10 ∷ []) $
         use3 W (later (‵ (mem St .lies (zs .0) l6 0))) (ref-back 𝓤 H A W St (α ∷ []) γ (zs .0) l6 0) $ await ! tt $
-        use1 W (given (Is St (zs .0) (sv (zs .0))) (‵ (fat fullShare T′.mir l6 0 (only (sv (zs .0)))))) (taken 𝓤 H A W (zs .0) l6) $
+        use1 W (back 𝓤 H A W l6 (zs .0)) (taken 𝓤 H A W (zs .0) l6) $
         learn ! (λ iz. move ! (5 ∷ []) $ peeks ! Res (Is Res) (shows 𝓤 H A Res) r (w ∷ []) (λ ir.
         land ! (from ! (stop !)) (init ! 27 refl (res-typed r w ir)) $
         rewrite ! 27 (λ (u : Val). ‵ (fat fullShare R-laws.mir l7 0 u)) (ap only (LE.tells R-type.the-type R-laws.the-laws r _ ir)) refl $

@@ -1,10 +1,10 @@
 -- `lent_examples::shown` meets its contract, which asks and says nothing: a walk of its MIR. The standing is lent to `lent::show` for a lifetime that
 -- is made for the call, and is taken back. All that the proof knows of `lent::show` is that it meets its contract. Assumes nothing.
-use Rattle.lent_examples.proofs.Lending.{St, sv, standing-typed, lies, taken, ends, slice, Bytes}
-use Rattle.lent_examples.proofs.Lending.{refl, [], _∷_, List, ℕ, Holds, URA, fullShare, named, Val, WT, hasTy, vptr, SProp, ent, emp, via, fst∗, id⊢, Lft, Share, GName, ftrue, fat, flft, flent, Memory, Routine, Heap, Calls, Loops, WpFn, Tables, Atoms, Fun, Lfts, Shares, givenOf, tables, tablesOf, FmC, fmOf, WpFn-mono}
-use Rattle.lent_examples.proofs.Lending.{Given, Item, ‵, raw, some, later, given, learn, _⊛_, ⋆, _$_, _∵_, !, qed, by, move, keep, drop, use1, use2, use3, split, join, pick, fsplit, fjoin, suffices, frame, await, done, lft-new, lft-end}
-use Rattle.lent_examples.proofs.Lending.{look, init, forget, stop, from, load, addr, of-opd, and-then, no-more, assigns, land, returns, enter, alloc1, alloc0, params1, pass1, pass0, free1, free0, Body}
-use Rattle.lent_examples.proofs.Lending.{RattleType, owns, mem, Is, shows, u8, RefT, MutRef, ShrSlice, slice-vals, shr-slice-tells, shr-slice-lawful, shr-slice-copy, lends-ref, ref-back, only, owned, peeks, nothing, onEntry, Args, Vals, Meets, tripleOf, Contract, Triple, calls-at, ensured, lasts, atExit, entered, cited, Stays, stay-none, stay-none-slice, walkOf, goes-none, goes-none-slice, Walks, ends-at, walked, walk-meets, yes}
+use Rattle.lent_examples.proofs.Lending.{St, sv, standing-typed, out, lent-out, back, taken, ends, slice, Bytes}
+use Rattle.lent_examples.proofs.Lending.{refl, [], _∷_, List, ℕ, Holds, URA, fullShare, named, Val, WT, hasTy, vptr, SProp, ent, emp, via, fst∗, id⊢, Lft, Share, GName, ftrue, flft, Memory, Routine, Heap, Calls, Loops, WpFn, Tables, Atoms, Fun, Lfts, Shares, givenOf, tables, tablesOf, FmC, fmOf, WpFn-mono}
+use Rattle.lent_examples.proofs.Lending.{Given, Item, ‵, raw, some, later, learn, _⊛_, ⋆, _$_, _∵_, !, qed, by, move, keep, drop, use1, use2, use3, split, join, pick, fsplit, fjoin, suffices, frame, await, done, lft-new, lft-end}
+use Rattle.lent_examples.proofs.Lending.{look, init, forget, stop, from, load, addr, of-opd, and-then, no-more, assigns, land, returns, enter, alloc1, alloc0, params1, pass1, pass0, free1, free0}
+use Rattle.lent_examples.proofs.Lending.{RattleType, owns, mem, Is, shows, u8, RefT, MutRef, ShrSlice, slice-vals, shr-slice-tells, shr-slice-lawful, shr-slice-copy, ref-back, only, owned, peeks, nothing, onEntry, Args, Vals, Meets, tripleOf, Contract, Triple, calls-at, ensured, lasts, atExit, entered, cited, Stays, stay-none, stay-none-slice, walkOf, goes-none, goes-none-slice, Walks, ends-at, walked, walk-meets, yes}
 use denote.Struct.Laws as LL
 use Rattle.examination.specs.declared.Standing.{Standing}
 use Rattle.examination.proofs.Standing as T
@@ -99,8 +99,7 @@ module _ {M : Type 1} (𝓤 : URA M) (H : Heap 𝓤) (A : Atoms 𝓤) (W : Given
         assigns ! (of-opd ! (load ! (from ! (stop !)) (look ! 15 refl))) (from ! (stop !)) (init ! 7 refl (typed x0 f0)) $
         assigns ! (addr ! (from ! (stop !))) (from ! (stop !)) (init ! 5 refl (tt, tt)) $
         -- the standing is lent for a lifetime that is made for the call
-        lft-new ! tt (λ α. move ! (8 ∷ []) $ use1 W (‵ (mem St .lies x0 l5 0)) (lies 𝓤 H A W x0 l5 f0) $
-        use1 W (later (some (λ (γ : GName). ‵ (MutRef (named 0) (α ∷ []) St .own (at l5 γ) (vptr l5 0 ∷ [])) ⊛ ‵ (flent (α ∷ []) (Body (mem St) l5 0 γ))))) (lends-ref 𝓤 H A W St (named 0) (α ∷ []) x0 l5 0) $
+        lft-new ! tt (λ α. move ! (8 ∷ []) $ use1 W (out 𝓤 H A W x0 α l5) (lent-out 𝓤 H A W x0 α l5 f0) $
         await ! tt $ pick ! (λ γ. split ! $
         move ! (7 ∷ []) $
         use1 W (‵ (ShrSlice (named 0) κ0 u8 .own x1 (slice x1 ∷ [])) ⊛ ‵ (ShrSlice (named 0) κ0 u8 .own x1 (slice x1 ∷ []))) (shr-slice-copy 𝓤 H A W (named 0) κ0 u8 .twice x1 (slice x1 ∷ [])) $
@@ -121,7 +120,7 @@ module _ {M : Type 1} (𝓤 : URA M) (H : Heap 𝓤) (A : Atoms 𝓤) (W : Given
         move ! (1 ∷ []) $ drop ! $ move ! (4 ∷ []) $ split ! $ split ! $ move ! (1 ∷ []) $ split ! $ move ! (1 ∷ []) $ split ! $ move ! (1 ∷ []) $ drop ! $
         move ! (2 ∷ []) $ lft-end ! tt $ move ! (0 ∷ 11 ∷ 7 ∷ []) $
         use3 W (later (‵ (mem St .lies (zs .0) l5 0))) (ref-back 𝓤 H A W St (α ∷ []) γ (zs .0) l5 0) $ await ! tt $
-        use1 W (given (Is St (zs .0) (sv (zs .0))) (‵ (fat fullShare T′.mir l5 0 (only (sv (zs .0)))))) (taken 𝓤 H A W (zs .0) l5) $
+        use1 W (back 𝓤 H A W l5 (zs .0)) (taken 𝓤 H A W (zs .0) l5) $
         learn ! (λ iz. move ! (3 ∷ []) $ peeks ! Res (Is Res) (shows 𝓤 H A Res) r (w ∷ []) (λ ir.
         land ! (from ! (stop !)) (init ! 21 refl (shr-slice-lawful 𝓤 H A W (named 1) κ1 u8 .typed r _ ir .0)) $
         returns ! (look ! 21 refl) $ forget ! 10 refl $ forget ! 1 refl $ forget ! 13 refl $ forget ! 15 refl $ forget ! 17 refl $ forget ! 19 refl $

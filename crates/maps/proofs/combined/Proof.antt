@@ -11,10 +11,10 @@ use Rattle.maps.proofs.combined.Statement.{statement}
 use Rattle.maps.proofs.combined.Tie as tie
 
 abbrev Inv-loop : tie.InvT-loop
-Inv-loop t n code x y out₀ up q₀ out q = (q ≤ n) × (length out ≡ 64) × Filled (λ s. bound t up (getD x s 0) (getD y s 0)) q out
+Inv-loop t n up x y out₀ q₀ out q = (q ≤ n) × (length out ≡ 64) × Filled (λ s. bound t up (getD x s 0) (getD y s 0)) q out
 
 abbrev μ-loop : tie.MeasureT-loop
-μ-loop t n code x y out₀ up q₀ out q = n - q
+μ-loop t n up x y out₀ q₀ out q = n - q
 
 loop-holds : tie.Need-loop-holds Inv-loop μ-loop
 loop-holds c = (omega arith, refl, filled-none)

@@ -12,10 +12,10 @@ use Rattle.maps.proofs.literals.Statement.{statement}
 use Rattle.maps.proofs.literals.Tie as tie
 
 abbrev Inv-loop : tie.InvT-loop
-Inv-loop t m code p next out₀ n q₀ out q = (q ≤ n) × (length out ≡ 64) × Filled (λ s. literal t code (modelOf m .label s (p .0))) q out
+Inv-loop t m negated p next out₀ n q₀ out q = (q ≤ n) × (length out ≡ 64) × Filled (λ s. literal t negated (modelOf m .label s (p .0))) q out
 
 abbrev μ-loop : tie.MeasureT-loop
-μ-loop t m code p next out₀ n q₀ out q = n - q
+μ-loop t m negated p next out₀ n q₀ out q = n - q
 
 loop-holds : tie.Need-loop-holds Inv-loop μ-loop
 loop-holds c = (omega arith, refl, filled-none)

@@ -12,10 +12,10 @@ use Rattle.maps.proofs.next_by_tables.Statement.{statement}
 use Rattle.maps.proofs.next_by_tables.Tie as tie
 
 abbrev Inv-loop : tie.InvT-loop
-Inv-loop t m code x out₀ n all first q₀ out q = (q ≤ n) × (length out ≡ 64) × Filled (λ q. sumOf t all (first .0) m (transitionRow m q) x n) q out
+Inv-loop t m all x out₀ n first q₀ out q = (q ≤ n) × (length out ≡ 64) × Filled (λ q. sumOf t all (first .0) m (transitionRow m q) x n) q out
 
 abbrev μ-loop : tie.MeasureT-loop
-μ-loop t m code x out₀ n all first q₀ out q = n - q
+μ-loop t m all x out₀ n first q₀ out q = n - q
 
 loop-holds : tie.Need-loop-holds Inv-loop μ-loop
 loop-holds c = (omega arith, refl, filled-none)
@@ -35,7 +35,7 @@ returns : tie.Need-returns Inv-loop μ-loop
 returns c =
     let a = c .before .before .before .before .before .before .args in
     filled-as (c .before .loop .inv .2) (omega arith)
-    (λ q b. sum-next (a .t .now) (a .l) (a .m .now) (a .x .now) (a .code) q (c .before .before .before .start-of .ensures) (c .before .before .before .before .states .ensures))
+    (λ q b. sum-next (a .t .now) (a .l) (a .m .now) (a .x .now) (a .all) q (c .before .before .before .start-of .ensures) (c .before .before .before .before .states .ensures))
 
 pub next-by-tables-spec : {M : Type 1} → statement M
 next-by-tables-spec =

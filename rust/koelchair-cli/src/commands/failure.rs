@@ -49,7 +49,8 @@ impl Failure {
                 first + &more
             }
             Failure::Refused(_, refusal, _) => {
-                format!("refused {} {}: {refusal}", refusal.number(), refusal.part())
+                let (number, part) = (refusal.number(), refusal.part());
+                format!("refused {number} {part}: {}", refusal.words())
             }
         }
     }
@@ -93,7 +94,7 @@ fn refusal_json(refusal: Refusal) -> String {
     object(&[
         ("number", refusal.number().to_string()),
         ("part", refusal.part().to_string()),
-        ("message", string(&refusal.to_string())),
+        ("message", string(refusal.words())),
     ])
 }
 
@@ -112,7 +113,7 @@ fn usage_text(arguments: &[String], message: &str) -> String {
 /// A refusal in words, with its number, its part, and where in the text that part stands.
 pub fn refusal_text(text: &Text, refusal: Refusal) -> String {
     let (number, part) = (refusal.number(), refusal.part());
-    let mut said = format!("refused {number} {part}: {refusal}\n");
+    let mut said = format!("refused {number} {part}: {}\n", refusal.words());
     if let Some(span) = text.place(number, part) {
         let note = match number {
             1 | 2 if !text.byte_places.is_empty() => "the bytes begin here".to_string(),

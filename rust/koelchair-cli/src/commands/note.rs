@@ -15,15 +15,15 @@ pub fn note(case: &Case, bytes: &[u8], refusal: Refusal) -> Option<String> {
         Refusal::NoPartialOrder => no_partial_order(lattice),
         Refusal::NoMeetOrJoin => no_meet_or_join(lattice),
         Refusal::NotDistributive => not_distributive(lattice),
-        Refusal::Complement => complement(lattice),
-        Refusal::Model(part @ (1 | 2)) => {
+        Refusal::BadComplement => complement(lattice),
+        Refusal::BadModel(part @ (1 | 2)) => {
             let states = case.models[usize::from(part) - 1].size();
             let k = case.propositions.len();
             Some(format!(
                 "states: {states} (1 to 64); propositions: {k} (0 to 16)"
             ))
         }
-        Refusal::Formula(part) => formula(case, usize::from(part)),
+        Refusal::BadFormula(part) => formula(case, usize::from(part)),
         _ => None,
     }
 }

@@ -1,6 +1,6 @@
 //! The cases that the tests take, made from their parts, and a desk of lent buffers.
 
-use koelchair::{Refusal, Standing, StepAnswer, STORE_LENGTH, TABLE_LENGTH};
+use koelchair::{DeskMut, DeskRef, Standing, STORE_LENGTH, TABLE_LENGTH};
 
 /// 0 below 1.
 pub const L2: [u8; 7] = [2, 1, 0, 1, 1, 0, 1];
@@ -82,30 +82,27 @@ impl Lent {
     /// A desk that has opened this case.
     pub fn opened(case: &[u8]) -> Lent {
         let mut desk = Lent::of(0, 0);
-        desk.open(case).expect("an accepted case");
+        desk.lent_mut().open(case).expect("an accepted case");
         desk
     }
 
-    pub fn open(&mut self, case: &[u8]) -> Result<(), Refusal> {
-        koelchair::open(
-            &mut self.standing,
-            case,
-            &mut self.store,
-            &mut self.first,
-            &mut self.second,
-        )
+    /// For the calls that read.
+    pub fn lent(&self) -> DeskRef<'_> {
+        DeskRef {
+            standing: self.standing,
+            store: &self.store,
+            first: &self.first,
+            second: &self.second,
+        }
     }
 
-    pub fn step(&mut self) -> Result<StepAnswer, Refusal> {
-        koelchair::step(
-            &mut self.standing,
-            &self.store,
-            &mut self.first,
-            &mut self.second,
-        )
-    }
-
-    pub fn show(&self) -> &[u8] {
-        koelchair::show(&self.standing, &self.store, &self.first, &self.second)
+    /// For the calls that move the desk on.
+    pub fn lent_mut(&mut self) -> DeskMut<'_> {
+        DeskMut {
+            standing: &mut self.standing,
+            store: &mut self.store,
+            first: &mut self.first,
+            second: &mut self.second,
+        }
     }
 }

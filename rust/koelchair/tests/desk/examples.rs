@@ -1,20 +1,20 @@
-//! Worked examples 1, 2, 4 and 6 of document 01 and its listing, by the desk and by the functions.
+//! Worked examples 1, 2, 4 and 6 of document 01 and its listing, by the desk that owns its buffers and by the one that is lent them.
 
 use crate::cases::{self, Lent};
-use koelchair::{Desk, Element, State, StepAnswer};
+use koelchair::{Desk, Element, Sizes, State, StepAnswer};
 
-/// The answers of all steps up to the settling one, each with the table shown after it. The desk and the functions, over longer
-/// buffers with other content, must give the same.
+/// The answers of all steps up to the settling one, each with the table shown after it. The desk and one that is lent
+/// longer buffers with other content must give the same.
 fn steps(case: &[u8]) -> Vec<(StepAnswer, Vec<u8>)> {
     let mut desk = Desk::open(case).expect("an accepted case");
     let mut lent = Lent::of(0xA5, 3);
-    assert_eq!(lent.open(case), Ok(()));
+    assert_eq!(lent.lent_mut().open(case), Ok(()));
     let mut seen = Vec::new();
     loop {
         assert_eq!(desk.standing(), lent.standing);
-        assert_eq!(desk.show(), lent.show());
+        assert_eq!(desk.show(), lent.lent().show());
         let answer = desk.step();
-        assert_eq!(lent.step(), Ok(answer));
+        assert_eq!(lent.lent_mut().step(), Ok(answer));
         seen.push((answer, desk.show().to_vec()));
         if let StepAnswer::Settled(_) = answer {
             break;
@@ -29,7 +29,7 @@ fn steps(case: &[u8]) -> Vec<(StepAnswer, Vec<u8>)> {
 
 /// Bytes past N1·N2 of a table and past 24,576 of the store are as they were.
 fn assert_kept_beyond(lent: &Lent) {
-    let count = lent.show().len();
+    let count = lent.lent().show().len();
     assert!(lent.first[count..].iter().all(|&byte| byte == 0xA5));
     assert!(lent.second[count..].iter().all(|&byte| byte == 0xA5));
     let beyond = &lent.store[koelchair::STORE_LENGTH..];
@@ -95,22 +95,19 @@ fn example_4() {
 }
 
 #[test]
-fn example_4_by_the_functions() {
-    let lent = Lent::opened(&cases::example_4());
-    let (standing, store, first, second) = (&lent.standing, &lent.store, &lent.first, &lent.second);
-    let value = |model| koelchair::value(standing, store, first, second, 0, model, State(0));
+fn example_4_lent() {
+    let mut lent = Lent::opened(&cases::example_4());
+    let desk = lent.lent();
+    let value = |model| desk.value(0, model, State(0));
     assert_eq!(value(2), Ok(Element(1)));
     assert_eq!(value(1), Ok(Element(0)));
-    let whole = |model| koelchair::whole(standing, store, first, second, 0, model);
+    let whole = |model| desk.whole(0, model);
     assert_eq!(whole(2), Ok(Element(1)));
     assert_eq!(whole(1), Ok(Element(0)));
-    assert_eq!(
-        koelchair::score(standing, store, first, second),
-        Ok(Element(1))
-    );
-    let judge = |table: &[u8]| koelchair::judge(standing, store, first, second, table);
-    assert_eq!(judge(&[0; 4]), Ok(true));
-    assert_eq!(judge(&[1, 0, 0, 0]), Ok(false));
+    assert_eq!(desk.score(), Ok(Element(1)));
+    assert_eq!(desk.judge(&[0; 4]), Ok(true));
+    assert_eq!(desk.judge(&[1, 0, 0, 0]), Ok(false));
+    assert_eq!(lent.lent_mut().shared().score(), Ok(Element(1)));
 }
 
 #[test]
@@ -123,12 +120,32 @@ fn example_6() {
         assert_eq!(desk.share(Element(1)), Ok(per_cent), "{ones} in 8");
         let mut lent = Lent::opened(&cases::eighths(ones));
         while !lent.standing.settled {
-            lent.step().unwrap();
+            lent.lent_mut().step().unwrap();
         }
-        let (store, first, second) = (&lent.store, &lent.first, &lent.second);
-        let share = koelchair::share(&lent.standing, store, first, second, Element(1));
+        let share = lent.lent().share(Element(1));
         assert_eq!(share, Ok(per_cent), "{ones} in 8");
     }
+}
+
+#[test]
+fn what_a_desk_holds() {
+    let desk = Desk::open(&cases::example_4()).unwrap();
+    let held = Sizes {
+        elements: 2,
+        propositions: 1,
+        states1: 2,
+        states2: 2,
+        formulas: 1,
+    };
+    assert_eq!(desk.sizes(), held);
+    let eighths = Lent::opened(&cases::eighths(3));
+    let held = Sizes {
+        states1: 8,
+        states2: 1,
+        formulas: 0,
+        ..held
+    };
+    assert_eq!(eighths.lent().sizes(), Ok(held));
 }
 
 #[test]

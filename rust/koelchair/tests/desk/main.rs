@@ -1,5 +1,7 @@
-//! The desk and the functions on the worked examples of document 01, and what they refuse.
+//! A desk that owns its buffers and one that is lent them, on the worked examples of document 01, and what they refuse.
 
 mod cases;
 mod examples;
+mod finishing;
 mod refusals;
+mod sizes;

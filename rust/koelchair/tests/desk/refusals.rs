@@ -25,10 +25,13 @@ fn refused_cases() -> Vec<(Vec<u8>, Refusal)> {
         (lattice(&[2, 1, 0, 1, 1, 1, 1]), Refusal::NoPartialOrder),
         (lattice(&[2, 1, 0, 1, 0, 0, 1]), Refusal::NoMeetOrJoin),
         (lattice(&diamond), Refusal::NotDistributive),
-        (lattice(&[2, 0, 1, 1, 1, 0, 1]), Refusal::Complement),
-        (case(&[&L2, &[1, 0, 2, 0], model]), Refusal::Model(1)),
-        (case(&[&L2, model, &[1, 1, 1, 1, 0]]), Refusal::Model(2)),
-        (case(&[&L2, model, model, &[1], &[11]]), Refusal::Formula(4)),
+        (lattice(&[2, 0, 1, 1, 1, 0, 1]), Refusal::BadComplement),
+        (case(&[&L2, &[1, 0, 2, 0], model]), Refusal::BadModel(1)),
+        (case(&[&L2, model, &[1, 1, 1, 1, 0]]), Refusal::BadModel(2)),
+        (
+            case(&[&L2, model, model, &[1], &[11]]),
+            Refusal::BadFormula(4),
+        ),
     ]
 }
 
@@ -37,9 +40,9 @@ fn a_refused_case_alters_nothing() {
     for (bytes, refusal) in refused_cases() {
         assert_eq!(Desk::open(&bytes).unwrap_err(), refusal);
         let mut lent = Lent::opened(&cases::example_4());
-        lent.step().unwrap();
+        lent.lent_mut().step().unwrap();
         let before = lent.clone();
-        assert_eq!(lent.open(&bytes), Err(refusal));
+        assert_eq!(lent.lent_mut().open(&bytes), Err(refusal));
         assert_eq!(lent, before, "{refusal}");
     }
 }
@@ -59,20 +62,16 @@ fn a_refused_case_leaves_the_former_desk() {
 /// All calls but open are refused thus, show is empty, and nothing is altered.
 fn assert_refused(desk: &Lent, refusal: Refusal) {
     let mut stepped = desk.clone();
-    assert_eq!(stepped.step(), Err(refusal));
+    assert_eq!(stepped.lent_mut().step(), Err(refusal));
     assert_eq!(&stepped, desk);
+    let desk = desk.lent();
     assert!(desk.show().is_empty());
-    let (standing, store, first, second) = (&desk.standing, &desk.store, &desk.first, &desk.second);
-    let value = koelchair::value(standing, store, first, second, 0, 1, State(0));
-    assert_eq!(value, Err(refusal));
-    let whole = koelchair::whole(standing, store, first, second, 0, 1);
-    assert_eq!(whole, Err(refusal));
-    let score = koelchair::score(standing, store, first, second);
-    assert_eq!(score, Err(refusal));
-    let share = koelchair::share(standing, store, first, second, Element(0));
-    assert_eq!(share, Err(refusal));
-    let judge = koelchair::judge(standing, store, first, second, &[0; 4]);
-    assert_eq!(judge, Err(refusal));
+    assert_eq!(desk.value(0, 1, State(0)), Err(refusal));
+    assert_eq!(desk.whole(0, 1), Err(refusal));
+    assert_eq!(desk.score(), Err(refusal));
+    assert_eq!(desk.share(Element(0)), Err(refusal));
+    assert_eq!(desk.judge(&[0; 4]), Err(refusal));
+    assert_eq!(desk.sizes(), Err(refusal));
 }
 
 #[test]
@@ -84,8 +83,8 @@ fn a_short_desk() {
         cut(&mut desk);
         assert_refused(&desk, Refusal::ShortDesk);
         let before = desk.clone();
-        assert_eq!(desk.open(&example), Err(Refusal::ShortDesk));
-        assert_eq!(desk.open(&[]), Err(Refusal::ShortDesk));
+        assert_eq!(desk.lent_mut().open(&example), Err(Refusal::ShortDesk));
+        assert_eq!(desk.lent_mut().open(&[]), Err(Refusal::ShortDesk));
         assert_eq!(desk, before);
     };
     shorter(|desk| desk.store.truncate(STORE_LENGTH - 1));
@@ -120,7 +119,7 @@ fn a_spoiled_desk() {
     let mut within = whole.clone();
     within.standing.round = 4;
     within.first[4] = 2;
-    assert_eq!(within.show(), [1; 4]);
+    assert_eq!(within.lent().show(), [1; 4]);
 }
 
 #[test]
@@ -149,8 +148,15 @@ fn arguments_out_of_range() {
 fn what_a_refusal_says() {
     let refusal = Desk::open(&case(&[&L3, &[1, 0, 3, 0], &[1, 0, 0, 0]])).unwrap_err();
     assert_eq!((refusal.number(), refusal.part()), (9, 1));
+    assert_eq!(refusal.name(), "BadModel");
+    assert_eq!(
+        refusal.words(),
+        "the model has a wrong length, size, value or count of propositions"
+    );
     assert_eq!(
         refusal.to_string(),
-        "the model in part 1 has a wrong length, size, value or count of propositions"
+        format!("{} (part 1 of the case)", refusal.words())
     );
+    let short = Lent::of(0, 0).lent().score().unwrap_err();
+    assert_eq!(short.to_string(), "the desk breaks a rule");
 }

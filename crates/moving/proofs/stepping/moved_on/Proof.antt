@@ -1,6 +1,6 @@
 -- `moving::moved_on` meets its contract: by whether the row was the last.
 use Prim.Native.Nat.{_+_}
-use mathlib.Core.Path.{_≡_}
+use mathlib.Core.Path.{_≡_, _∙_}
 use mathlib.Core.Bool.{Bool, _||_}
 use Rattle.desk.specs.Desk.{Standing}
 use Rattle.desk.specs.Moved.{nextRound, nextRow}
@@ -20,8 +20,8 @@ other-row s differs now e q = rw (e, ne-eqb _ _ q)
 
 returns : tie.Need-returns
 returns c =
-    let a = c .before .before .before .before .before .before .args in
-    last-row (standingOf (a .s)) (a .differs) (c .before .before .before .before .before .either .result) (c .before .before .before .before .before .either .ensures) (c .before .before .if1 .taken)
+    let a = c .before .before .before .before .before .args in
+    c .next-round .ensures ∙ last-row (standingOf (a .s)) (a .differs) (c .before .before .before .before .either .result) (c .before .before .before .before .either .ensures) (c .before .if1 .taken)
 
 returns-2 : tie.Need-returns-2
 returns-2 c =
@@ -30,5 +30,5 @@ returns-2 c =
 
 pub moved-on-spec : {M : Type 1} → statement M
 moved-on-spec =
-    tie.close (tie.spec (λ c κs. search needs) (λ c. search needs) (λ c. search needs) returns (λ c. search needs)
+    tie.close (tie.spec (λ c κs. search needs) (λ c. search needs) (λ c κs. search needs) returns (λ c. search needs)
     returns-2)

@@ -1,0 +1,26 @@
+// The rest of a round in one call.
+use crate::Moved;
+use crate::numbers::stepped;
+use calls::Standing;
+ghost use Rattle.examination.specs.Read.{deskOf};
+ghost use Rattle.exports.specs.Finished.{TellsFinished};
+
+// Works the rows of the round that are left, as so many steps do.
+#[no_mangle]
+pub extern "C" fn koelchair_finish_round(
+    s: Standing,
+    store: &[u8],
+    first: &mut [u8],
+    second: &mut [u8],
+) -> Moved
+    ensures { λ r. ⌜ TellsFinished (deskOf s (now (store .entry)) (now (first .entry)) (now (second .entry)))
+        (r .answer) (deskOf (r .standing) (now (store .entry)) (now (first .exit)) (now (second .exit))) ⌝ }
+{
+    let o = calls::finish_round(s, store, first, second);
+    let next = o.standing;
+    let a = o.answer;
+    Moved {
+        standing: next,
+        answer: stepped(a),
+    }
+}

@@ -1,0 +1,2 @@
+-- What the walk of `three` rests on.
+mod Calls

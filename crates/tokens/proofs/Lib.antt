@@ -1,0 +1,2 @@
+-- Laws of `tokens`.
+pub mod Laws

@@ -1,0 +1,112 @@
+"""Tests of the Python module on worked examples 1 and 4 of examples/c, and on what it refuses. check.sh runs them."""
+
+import pathlib
+import re
+import unittest
+
+import koelchair
+
+ROOT = pathlib.Path(__file__).resolve().parents[3]
+
+
+def example(number):
+    """The bytes of a case of examples/c."""
+    (file,) = (ROOT / "examples/c").glob(f"example{number}.*")
+    return file.read_bytes()
+
+
+class Examples(unittest.TestCase):
+    def test_example_1(self):
+        desk = koelchair.Desk(example(1))
+        self.assertEqual(desk.rows(), [[2]])
+        self.assertEqual(desk.sizes(), koelchair.Sizes(3, 1, 1, 1, 1))
+        self.assertEqual(desk.step(), koelchair.Step("round", 1))
+        self.assertEqual(desk.step(), koelchair.Step("settled", 2))
+        self.assertEqual(desk.step(), koelchair.Step("settled", 2))
+        self.assertEqual((desk.rows(), desk.score()), ([[1]], 1))
+        self.assertEqual((desk.value(0, 1, 0), desk.whole(0, 2)), (1, 1))
+        self.assertEqual((desk.share(1), desk.share(2)), (100, 0))
+        self.assertEqual((desk.judge(desk.show()), desk.judge([2])), (True, False))
+
+    def test_example_4(self):
+        desk = koelchair.Desk(example(4))
+        self.assertEqual(desk.step(), koelchair.Step("row", None))
+        self.assertEqual(desk.step(), koelchair.Step("round", 1))
+        self.assertEqual(desk.rows(), [[1, 0], [0, 0]])
+        standing = desk.standing
+        self.assertEqual((standing.round, standing.row, standing.second_whole), (1, 0, True))
+        self.assertEqual(desk.settle(), 3)
+        self.assertEqual(desk.show(), bytes(4))
+        self.assertEqual((desk.standing.settled, standing.settled), (True, False))
+        self.assertEqual((desk.whole(0, 1), desk.whole(0, 2)), (0, 1))
+
+    def test_another_case_replaces_the_former(self):
+        desk = koelchair.Desk(example(4))
+        desk.settle()
+        desk.open(example(1))
+        self.assertEqual((desk.standing.round, desk.settle()), (0, 2))
+
+    def test_listing(self):
+        lines = "rounds 3\nrow 0: 0 0\nrow 1: 0 0\nscore 0\nformula 0: 0 1\n"
+        self.assertEqual(koelchair.listing(example(4)), lines)
+        self.assertEqual(koelchair.listing(b""), "refused 1 255\n")
+
+
+class Refusals(unittest.TestCase):
+    def refused(self, call, number, part, words):
+        with self.assertRaises(koelchair.Refused) as raised:
+            call()
+        refusal = raised.exception
+        self.assertEqual((refusal.number, refusal.part, refusal.words), (number, part, words))
+        return str(refusal)
+
+    def test_no_case(self):
+        said = self.refused(lambda: koelchair.Desk(b""), 1, None, "the case is empty or over 32,768 bytes")
+        self.assertEqual(said, "refused 1 255: the case is empty or over 32,768 bytes")
+
+    def test_a_refused_case_leaves_the_desk(self):
+        desk = koelchair.Desk(example(4))
+        desk.settle()
+        words = "the part is empty, overlaps what stands before it, or ends beyond the case"
+        said = self.refused(lambda: desk.open(example(1)[:-1]), 3, 3, words)
+        self.assertEqual(said, f"refused 3 3: {words} (part 3 of the case)")
+        self.assertEqual((desk.standing.round, desk.standing.settled, desk.show()), (3, True, bytes(4)))
+
+    def test_out_of_range(self):
+        desk = koelchair.Desk(example(4))
+        words = "a formula, model, state or element is out of range, or the table to be judged is no table of elements of this size"
+        for call in [
+            lambda: desk.value(1, 1, 0),
+            lambda: desk.value(0, 3, 0),
+            lambda: desk.value(0, 2, 2),
+            lambda: desk.whole(255, 1),
+            lambda: desk.share(2),
+            lambda: desk.judge([0, 0, 0]),
+            lambda: desk.judge(b""),
+        ]:
+            self.refused(call, 13, None, words)
+
+    def test_no_byte(self):
+        desk = koelchair.Desk(example(4))
+        for call in [
+            lambda: desk.value(256, 1, 0),
+            lambda: desk.value(0, 257, 0),
+            lambda: desk.value(0, 1, -1),
+            lambda: desk.whole(0, 258),
+            lambda: desk.share(256),
+            lambda: desk.judge([0, 0, 0, 256]),
+        ]:
+            self.assertRaises(ValueError, call)
+
+
+class Header(unittest.TestCase):
+    def test_version_and_lengths(self):
+        header = (ROOT / "include/koelchair.h").read_text()
+        defined = dict(re.findall(r"#define KOELCHAIR_(\w+) (\S+)", header))
+        self.assertEqual(f'"{koelchair.VERSION}"', defined["VERSION"])
+        for name in ["STORE_LENGTH", "TABLE_LENGTH", "LISTING_LENGTH"]:
+            self.assertEqual(str(getattr(koelchair, name)), defined[name])
+
+
+if __name__ == "__main__":
+    unittest.main()

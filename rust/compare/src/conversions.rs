@@ -1,0 +1,86 @@
+//! What the proved library takes and gives, in the types of the second implementation: standings both ways, and answers.
+
+use koelchair::{Element, Refusal, StepAnswer};
+use second::Reply;
+
+/// The standing for the second implementation.
+pub fn to_second(standing: koelchair::Standing) -> second::Standing {
+    let koelchair::Standing {
+        states1,
+        states2,
+        round,
+        row,
+        changed,
+        settled,
+        second_whole,
+    } = standing;
+    second::Standing {
+        states1,
+        states2,
+        round,
+        row,
+        changed,
+        settled,
+        second_whole,
+    }
+}
+
+/// The standing for the proved library.
+pub fn to_proved(standing: second::Standing) -> koelchair::Standing {
+    let second::Standing {
+        states1,
+        states2,
+        round,
+        row,
+        changed,
+        settled,
+        second_whole,
+    } = standing;
+    koelchair::Standing {
+        states1,
+        states2,
+        round,
+        row,
+        changed,
+        settled,
+        second_whole,
+    }
+}
+
+fn reply<T>(answer: Result<T, Refusal>, accepted: impl Fn(T) -> Reply) -> Reply {
+    match answer {
+        Ok(given) => accepted(given),
+        Err(refusal) => Reply::Refused {
+            number: refusal.number(),
+            part: refusal.part(),
+        },
+    }
+}
+
+pub fn opened(answer: Result<(), Refusal>) -> Reply {
+    reply(answer, |()| Reply::Opened)
+}
+
+pub fn stepped(answer: Result<StepAnswer, Refusal>) -> Reply {
+    reply(answer, |step| match step {
+        StepAnswer::Row => Reply::Row,
+        StepAnswer::Round(round) => Reply::Round(round),
+        StepAnswer::Settled(rounds) => Reply::Settled(rounds),
+    })
+}
+
+pub fn shown(answer: &[u8]) -> Reply {
+    Reply::Shown(answer.to_vec())
+}
+
+pub fn element(answer: Result<Element, Refusal>) -> Reply {
+    reply(answer, |element| Reply::Element(element.0))
+}
+
+pub fn per_cent(answer: Result<u8, Refusal>) -> Reply {
+    reply(answer, Reply::PerCent)
+}
+
+pub fn says(answer: Result<bool, Refusal>) -> Reply {
+    reply(answer, Reply::Says)
+}

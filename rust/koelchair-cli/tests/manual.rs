@@ -1,0 +1,71 @@
+//! The manual page koelchair.1 names every sub-command and option that the tool's help names, and no other, and has its version.
+
+mod common;
+
+use common::{folder, run, text};
+use std::collections::BTreeSet;
+
+/// The page, its dashes as they are printed.
+fn page() -> String {
+    text(&folder("koelchair.1")).replace("\\-", "-")
+}
+
+/// What the tool prints for these arguments.
+fn said(arguments: &[&str]) -> String {
+    let ran = run(arguments, &[]);
+    assert_eq!((ran.status, ran.err.as_str()), (0, ""), "{arguments:?}");
+    ran.text()
+}
+
+/// The sub-commands that the tool's help lists.
+fn commands() -> BTreeSet<String> {
+    said(&["--help"])
+        .lines()
+        .filter_map(|line| line.strip_prefix("  koelchair "))
+        .filter_map(|usage| usage.split_whitespace().next())
+        .map(str::to_string)
+        .collect()
+}
+
+/// The options with two dashes that stand in a text.
+fn options(text: &str) -> BTreeSet<String> {
+    let in_option = |letter: char| letter.is_ascii_lowercase() || letter == '-';
+    text.split(|letter| !in_option(letter))
+        .filter(|word| word.starts_with("--") && word.len() > 2)
+        .map(str::to_string)
+        .collect()
+}
+
+#[test]
+fn the_page_has_the_commands() {
+    let page = page();
+    let begin = page.find(".SH COMMANDS").expect("the commands");
+    let end = page.find(".SH OPTIONS").expect("the options");
+    let named: BTreeSet<String> = page[begin..end]
+        .lines()
+        .filter_map(|line| line.strip_prefix(".B "))
+        .filter(|word| !word.starts_with('-'))
+        .map(str::to_string)
+        .collect();
+    assert_eq!(named, commands());
+    for command in commands() {
+        let usage = format!(".SY koelchair\n{command}\n");
+        assert!(page.contains(&usage), "no synopsis of {command}");
+    }
+}
+
+#[test]
+fn the_page_has_the_options() {
+    let helps = commands().iter().fold(said(&["--help"]), |all, command| {
+        all + &said(&[command, "--help"])
+    });
+    let mut expected = options(&helps);
+    expected.insert("--help".to_string());
+    assert_eq!(options(&page()), expected);
+}
+
+#[test]
+fn the_page_has_the_version() {
+    let version = said(&["--version"]);
+    assert!(page().contains(&format!("\"{}\"", version.trim_end())));
+}
