@@ -1,2 +1,3 @@
 -- What the calls do and answer, in the desk's terms.
-pub mod Answer
+-- ---- what a reader must believe
+pub mod Answer  -- the definitions of examination, moving and asking, passed on

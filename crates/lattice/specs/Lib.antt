@@ -1,20 +1,20 @@
 -- The lattice part. Definitions first, then the theorems on them.
 -- ---- what a reader must believe
-pub mod Panel
-pub mod Reading
-pub mod Answer
-pub mod DeMorgan
+pub mod Panel  -- the panel lattice
+pub mod Reading  -- the first of the refusals 4 to 8 that applies, or the part accepted
+pub mod Answer  -- what the check of a part answers, and leaves in the tables
+pub mod DeMorgan  -- what a distributive De Morgan lattice is: order's definition, passed on
 pub mod Conditions  -- what a part has to be, and which refusal is given exactly when
 -- ---- theorems
 pub mod Numbered  -- the refusals 4 to 8 are given so
-pub mod Accepted
-pub mod Caller
-pub mod PanelTable
-pub mod PanelLattice
-pub mod Examples
+pub mod Accepted  -- accepted are exactly the distributive De Morgan lattices
+pub mod Caller  -- what a caller of the check learns from the answer
+pub mod PanelTable  -- the rule of the panel's 729 order entries
+pub mod PanelLattice  -- the panel lattice is accepted
+pub mod Examples  -- the lattices of the worked examples are accepted
 -- ---- for the code
-pub mod Form
-pub mod Tables
-pub mod Filling
-pub mod ByCodes
-pub mod Check
+pub mod Form  -- sizes, places and bytes of a part of the right form
+pub mod Tables  -- what belongs at each place of a lattice's tables
+pub mod Filling  -- the loop that fills the meets and the joins
+pub mod ByCodes  -- guesses that pass the tests by codes are the meets and joins of a distributive lattice
+pub mod Check  -- the steps of the check, and the answer after each

@@ -1,10 +1,10 @@
 -- Tables held as bytes. Definitions first, then the theorems on them.
 -- ---- what a reader must believe
-pub mod Table
+pub mod Table  -- a table of bytes, a row written into one, the test for a simulation, the contracts' terms
 -- ---- theorems
-pub mod Round
-pub mod Share
-pub mod Rest
+pub mod Round  -- rows worked one by one are a round; the test is passed exactly by simulations
+pub mod Share  -- share by the tables is the theory's
+pub mod Rest  -- the rows of a round from a given one on
 -- ---- for the code
-pub mod Row
-pub mod Entry
+pub mod Row  -- where a row stands, and what a loop over its entries has done so far
+pub mod Entry  -- the parts of an entry, and score, from what the loops find
