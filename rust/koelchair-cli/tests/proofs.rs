@@ -1,5 +1,5 @@
-//! Names and files that the tables of docs/PROOFS.md give are there: a name is defined in one of the files of its row, a name such
-//! as `lattice::check` is a function of that crate, and a row without a file has names that some crate defines.
+//! Names and files that the tables of docs/PROOFS.md, STORE.md and STYLE.md give are there: a name is defined in one of the files of
+//! its row, a name such as `lattice::check` by the code of that crate, and the names of a row without a file by some crate.
 
 mod common;
 
@@ -129,20 +129,32 @@ fn anywhere(crates: &Path, name: &str) -> bool {
 #[test]
 fn names_are_in_the_files_of_their_row() {
     let crates = folder("../../crates");
-    let document = text(&folder("../../docs/PROOFS.md"));
-    let (mut said, mut rows, mut names) = (String::new(), 0, 0);
-    for (at, line) in document.lines().enumerate() {
-        if line.starts_with('|') {
-            let row = row(line);
-            for what in wrong(&crates, &row) {
-                said += &format!("docs/PROOFS.md:{}: {what}\n", at + 1);
+    // Each document with fewer rows and names than it has.
+    for (document, few_rows, few_names) in [
+        ("PROOFS.md", 100, 300),
+        ("STORE.md", 10, 8),
+        ("STYLE.md", 15, 40),
+    ] {
+        let (mut said, mut rows, mut names) = (String::new(), 0, 0);
+        for (at, line) in text(&folder("../../docs").join(document))
+            .lines()
+            .enumerate()
+        {
+            if line.starts_with('|') {
+                let row = row(line);
+                for what in wrong(&crates, &row) {
+                    said += &format!("docs/{document}:{}: {what}\n", at + 1);
+                }
+                rows += 1;
+                names += row.names.len();
             }
-            rows += 1;
-            names += row.names.len();
         }
+        assert!(said.is_empty(), "{said}");
+        assert!(
+            rows > few_rows && names > few_names,
+            "docs/{document}: {rows} rows, {names} names"
+        );
     }
-    assert!(said.is_empty(), "{said}");
-    assert!(rows > 100 && names > 300, "{rows} rows, {names} names");
 }
 
 #[test]
