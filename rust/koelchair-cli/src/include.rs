@@ -74,26 +74,25 @@ impl Loader {
         if self.taken.contains(&same(&path)) {
             return Ok(());
         }
-        let failed = |message: String, expected: &str| TextError::new(span, message, expected);
         if depth == DEEPEST {
-            return Err(failed(
-                "too many files one within another".into(),
-                "not included",
-            ));
+            let message = "too many files one within another";
+            return Err(TextError::new(span, message, "not included"));
         }
-        let name = path.display().to_string();
-        let bytes = std::fs::read(&path).map_err(|e| {
-            failed(
-                format!("{name}: {e}"),
-                "expected a file, as seen from this one's folder",
-            )
-        })?;
-        let text = encoding::text(bytes)
-            .map_err(|e| failed(format!("{name}: {e}"), "expected the name of a text"))?;
+        let (name, text) = (path.display().to_string(), read(&path, span)?);
         self.taken.push(same(&path));
         self.lines(&name, &text, depth + 1);
         Ok(())
     }
+}
+
+/// The text of a file, or the error at the place that names it.
+fn read(path: &Path, span: Span) -> Result<String, TextError> {
+    let failed = |said: String, expected: &str| {
+        TextError::new(span, format!("{}: {said}", path.display()), expected)
+    };
+    let no_file = "expected a file, as seen from this one's folder";
+    let bytes = std::fs::read(path).map_err(|e| failed(e.to_string(), no_file))?;
+    encoding::text(bytes).map_err(|said| failed(said, "expected the name of a text"))
 }
 
 /// A path as seen from a folder; `..` goes out of a folder that the path names.

@@ -181,31 +181,24 @@ fn token_at(chars: &[char], at: usize, line: usize) -> Result<(Kind, usize), Tex
             .enumerate()
             .all(|(i, c)| chars.get(at + i) == Some(&c))
     };
+    let place = |length: usize| Span {
+        line,
+        start: at,
+        end: at + length,
+    };
     if let Some((sign, meant)) = MISTAKEN.iter().find(|(s, _)| stands_here(s)) {
-        let end = at + sign.chars().count();
-        let span = Span {
-            line,
-            start: at,
-            end,
-        };
-        let message = format!("`{sign}` is no sign of the text form");
-        return Err(TextError::new(
-            span,
-            message,
-            format!("did you mean {meant}?"),
-        ));
+        return Err(mistaken(sign, meant, place(sign.chars().count())));
     }
     match SIGNS.iter().find(|s| stands_here(s)) {
         Some(sign) => Ok((Kind::Sign(sign), at + sign.len())),
-        None => Err(no_token(
-            chars[at],
-            Span {
-                line,
-                start: at,
-                end: at + 1,
-            },
-        )),
+        None => Err(no_token(chars[at], place(1))),
     }
+}
+
+/// The error that a sign is one of another language.
+fn mistaken(sign: &str, meant: &str, span: Span) -> TextError {
+    let message = format!("`{sign}` is no sign of the text form");
+    TextError::new(span, message, format!("did you mean {meant}?"))
 }
 
 /// The error that a character begins no token.

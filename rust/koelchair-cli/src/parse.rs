@@ -98,15 +98,7 @@ fn case_text(source: Source, lexed: Lexed, course: bool) -> Result<Text, Vec<Tex
         models,
         formulas,
     };
-    let bytes = encode(&case).map_err(|too_long| {
-        let parts = &places.parts;
-        let span = parts.get(too_long.part).or(parts.last()).copied().unwrap_or(end);
-        vec![TextError::new(
-            span,
-            "the case is too long to be written",
-            "expected this part to start and end below byte 65,536 (the desk takes cases of at most 32,768 bytes)",
-        )]
-    })?;
+    let bytes = encode(&case).map_err(|error| vec![too_long(&places, error.part, end)])?;
     Ok(Text {
         source,
         case: Some(case),
@@ -115,6 +107,14 @@ fn case_text(source: Source, lexed: Lexed, course: bool) -> Result<Text, Vec<Tex
         byte_places: Vec::new(),
         course_alone,
     })
+}
+
+/// The error that a part does not start or end where the directory can say it.
+fn too_long(places: &Places, part: usize, end: Span) -> TextError {
+    let span = places.parts.get(part).or(places.parts.last());
+    let message = "the case is too long to be written";
+    let expected = "expected this part to start and end below byte 65,536 (the desk takes cases of at most 32,768 bytes)";
+    TextError::new(span.copied().unwrap_or(end), message, expected)
 }
 
 /// Both models and all formulas; the errors of all of them together.

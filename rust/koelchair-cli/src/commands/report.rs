@@ -157,22 +157,11 @@ fn json(
     let (case, listing) = (&opened.case, numbers(opened)?);
     let name = |e: u8| string(&case.element(e));
     let row = |row: &Vec<u8>| array(row.iter().map(|e| name(*e)));
-    let formula = |(f, [student, course]): (usize, &[u8; 2])| {
-        let mut fields = vec![
-            ("name", string(&case.formulas[f].name)),
-            ("student", name(*student)),
-            ("course", name(*course)),
-        ];
-        if values {
-            let [of_student, of_course] = [0, 1].map(|m| strings(values_of(opened, f, m)));
-            fields.extend([("studentStates", of_student), ("courseStates", of_course)]);
-        }
-        object(&fields)
-    };
     let share = |(element, share): &(u8, u8)| {
         object(&[("element", name(*element)), ("percent", share.to_string())])
     };
-    let formulas = listing.formulas.iter().enumerate().map(formula);
+    let formulas = listing.formulas.iter().enumerate();
+    let formulas = formulas.map(|(f, whole)| formula_json(opened, f, *whole, values));
     let fields = vec![
         ("accepted", "true".to_string()),
         ("rounds", listing.rounds.to_string()),
@@ -188,4 +177,19 @@ fn json(
         ),
     ];
     Ok(document("report", fields))
+}
+
+/// A formula with its values on both models, and at their states where these are wanted.
+fn formula_json(opened: &Opened, f: usize, [student, course]: [u8; 2], values: bool) -> String {
+    let case = &opened.case;
+    let mut fields = vec![
+        ("name", string(&case.formulas[f].name)),
+        ("student", string(&case.element(student))),
+        ("course", string(&case.element(course))),
+    ];
+    if values {
+        let [of_student, of_course] = [0, 1].map(|m| strings(values_of(opened, f, m)));
+        fields.extend([("studentStates", of_student), ("courseStates", of_course)]);
+    }
+    object(&fields)
 }
