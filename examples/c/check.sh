@@ -13,7 +13,7 @@ trap 'rm -rf "$work"' EXIT
 # CFLAGS is split into words on purpose
 # shellcheck disable=SC2086
 ${CC:-cc} -std=c99 -Wall -Wextra -Werror -pedantic ${CFLAGS:-} -Iinclude examples/c/round_by_round.c "$archive" -o "$work/round_by_round" || exit 2
-dd if=examples/c/example1.case of="$work/cut.case" bs=41 count=1 2>/dev/null || exit 2
+dd if=examples/c/example1.bytes of="$work/cut.bytes" bs=41 count=1 2>/dev/null || exit 2
 
 # A run's output under a heading, and its exit status.
 run() {
@@ -23,9 +23,9 @@ run() {
 }
 
 {
-    run "example 1" examples/c/example1.case
-    run "example 4" examples/c/example4.case
-    run "example 1 without its last byte" "$work/cut.case"
+    run "example 1" examples/c/example1.bytes
+    run "example 4" examples/c/example4.bytes
+    run "example 1 without its last byte" "$work/cut.bytes"
     run "no input" /dev/null
 } > "$work/output.txt"
 if diff examples/c/expected.txt "$work/output.txt"; then

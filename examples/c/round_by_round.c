@@ -4,7 +4,7 @@
    From the repository's root, after `rt staticlib exports`:
 
        cc -std=c99 -Wall -Wextra -Werror -Iinclude examples/c/round_by_round.c target/staticlib/libexports.a -o target/round_by_round
-       target/round_by_round < examples/c/example4.case
+       target/round_by_round < examples/c/example4.bytes
 
    Exit status: 0 the case was opened, 1 a call was refused, 2 standard input could not be read. */
 #include <stdio.h>

@@ -114,7 +114,9 @@ module _ (c : Content) where
     other-below = of-both Below (d .standing .secondWhole) (d .first) (d .second) (u .rules .first-below) (u .rules .second-below)
 
     row-below : Below (rowWorked c d)
-    row-below i k = ltb-true _ _ (row-elements (ops c) (model1 c) (model2 c) (operator c) (F-element (sound .laws) (model1 c) (model2 c)) (shownTable c d) (d .standing .row) (otherTable d) (u .rules .row-below) other-room (λ j l. lt-ltb _ _ (other-below j l)) i k)
+    row-below i k =
+        let elements = F-element (sound .laws) (model1 c) (model2 c) in
+        ltb-true _ _ (row-elements (ops c) (model1 c) (model2 c) (operator c) elements (shownTable c d) (d .standing .row) (otherTable d) (u .rules .row-below) other-room (λ j l. lt-ltb _ _ (other-below j l)) i k)
 
     -- a row that is not the last: the rules of 11 and 12 hold again
     pub step-keeps-rules : d .standing .row + 1 < N1 c → Unspoiled (rowDone d) c
@@ -151,16 +153,24 @@ module _ (c : Content) where
       let q = d .standing .row + 1 in
       let e = rowDone d in
       let now = changedNow c d in
-      ap₂ (λ (f g : List ℕ). record { standing = endedBy m e .standing; store = d .store; first = f; second = g }) (twice-first w (d .first) (rowWorked c d) (rows m (shownTable c e) q (otherTable e))) (twice-second w (d .second) (rowWorked c d) (rows m (shownTable c e) q (otherTable e)))
-      ∙ ap₂ (λ (whole other : List ℕ). withOther d (nextRound (now || differ m (tableOf whole (N2 c)) q) (d .standing)) (rows m (tableOf whole (N2 c)) q other)) (keep-whole w (d .first) (d .second) (rowWorked c d)) (keep-other w (d .first) (d .second) (rowWorked c d))
-      ∙ ap (λ (b : Bool). withOther d (nextRound b (d .standing)) (rows m (shownTable c d) q (rowWorked c d))) (or-assoc (d .standing .changed) (rowChanged (model1 c) (model2 c) (operator c) (shownTable c d) (d .standing .row)) (differ m (shownTable c d) q))
+      let out = rows m (shownTable c e) q (otherTable e) in
+      ap₂ (λ (f g : List ℕ). record { standing = endedBy m e .standing; store = d .store; first = f; second = g })
+      (twice-first w (d .first) (rowWorked c d) out)
+      (twice-second w (d .second) (rowWorked c d) out)
+      ∙ ap₂ (λ (whole other : List ℕ). withOther d (nextRound (now || differ m (tableOf whole (N2 c)) q) (d .standing)) (rows m (tableOf whole (N2 c)) q other))
+      (keep-whole w (d .first) (d .second) (rowWorked c d))
+      (keep-other w (d .first) (d .second) (rowWorked c d))
+      ∙ ap (λ (b : Bool). withOther d (nextRound b (d .standing)) (rows m (shownTable c d) q (rowWorked c d)))
+      (or-assoc (d .standing .changed) (rowChanged (model1 c) (model2 c) (operator c) (shownTable c d) (d .standing .row)) (differ m (shownTable c d) q))
 
   -- the last row
   ended-last : (d : Desk) → withOther d (nextRound (changedNow c d) (d .standing)) (rowWorked c d) ≡ endedBy 1 d
   unfolding rowsFrom rowsChanged
   ended-last d = ap (λ (b : Bool). withOther d (nextRound (d .standing .changed || b) (d .standing)) (rowWorked c d)) (sym (or-false (rowChanged (model1 c) (model2 c) (operator c) (shownTable c d) (d .standing .row))))
 
-  steps-end : (m : ℕ) (d : Desk) → Unspoiled d c → d .standing .settled ≡ false → d .standing .row + suc m ≡ N1 c → (run (replicate (suc m) Call.Step) d ≡ endedBy (suc m) d) × (getD (replies (replicate (suc m) Call.Step) d) m Reply.Row ≡ stepAnswer (endedBy (suc m) d .standing))
+  steps-end : (m : ℕ) (d : Desk) → Unspoiled d c → d .standing .settled ≡ false → d .standing .row + suc m ≡ N1 c
+      → (run (replicate (suc m) Call.Step) d ≡ endedBy (suc m) d)
+      × (getD (replies (replicate (suc m) Call.Step) d) m Reply.Row ≡ stepAnswer (endedBy (suc m) d .standing))
   unfolding run replies
   steps-end zero d u s n =
       let p = performs d (endedBy 1 d) u s (moves-to d true (eq-eqb (d .standing .row + 1) (N1 c) (omega arith)) ∙ ended-last d) in

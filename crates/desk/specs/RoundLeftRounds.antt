@@ -82,13 +82,23 @@ module _ {c : Content} {T : ℕ} where
       let z : n + 1 + m ≡ n + suc m = omega arith in
       subst (λ (k : ℕ). Between c T k (runActs (replicate m Act.Rest) (finished d .desk))) z (between-all m (n + 1) (finished d .desk) (between-more n d w))
 
+-- the desk d after an opening with the case b, and n calls of the rest of a round
+abbrev pub afterRests : List ℕ → ℕ → Desk → Desk
+afterRests b n d = runActs (Act.One (Call.Open b) ∷ replicate n Act.Rest) d
+
 -- the round is the smaller of n and T, and the desk is settled exactly when n is at least T
-pub rests-settle : (b : List ℕ) (d : Desk) (c : Content) (T : ℕ) → examined (Call.Open b) d ≡ content c → IsT c T → (n : ℕ) → (runActs (Act.One (Call.Open b) ∷ replicate n Act.Rest) d .standing .round ≡ min n T) × ((runActs (Act.One (Call.Open b) ∷ replicate n Act.Rest) d .standing .settled ≡ true) ↔ (T ≤ n))
+pub rests-settle : (b : List ℕ) (d : Desk) (c : Content) (T : ℕ) → examined (Call.Open b) d ≡ content c → IsT c T → (n : ℕ)
+    → (afterRests b n d .standing .round ≡ min n T) × ((afterRests b n d .standing .settled ≡ true) ↔ (T ≤ n))
 unfolding runActs moved opened
 rests-settle b d c T e t n =
     let z : 0 + n ≡ n = omega arith in
     let p = perform-accepted (Call.Open b) d c e in
-    let start : Between c T 0 (perform (Call.Open b) d .desk) = record { steps = 0; stands = opened-stands b d c T e t; row-0 = ap (λ (a : After). a .desk .standing .row) p; round-is = ap (λ (a : After). a .desk .standing .round) p ∙ sym (min-eq-left (omega arith)) } in
+    let start : Between c T 0 (perform (Call.Open b) d .desk) = record {
+      steps = 0;
+      stands = opened-stands b d c T e t;
+      row-0 = ap (λ (a : After). a .desk .standing .row) p;
+      round-is = ap (λ (a : After). a .desk .standing .round) p ∙ sym (min-eq-left (omega arith));
+    } in
     let w = between-all n 0 (perform (Call.Open b) d .desk) start in
     let r = w .round-is ∙ ap (λ (k : ℕ). min k T) z in
     let x = at (w .stands) in

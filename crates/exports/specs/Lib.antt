@@ -1,6 +1,6 @@
 -- What the exports answer, as numbers.
 -- ---- what a reader must believe
-pub mod Numbers
-pub mod Finished
+pub mod Numbers  -- the numbers of a reply, of show's table, and of what a desk holds
+pub mod Finished  -- what the export of the rest of a round says
 -- ---- for the code
-pub mod Told
+pub mod Told  -- the numbers lose nothing of a reply, and follow from what the calls do

@@ -1,10 +1,10 @@
 -- `formula`: the bytes of a formula and the reading of a formula part. Definitions first, then the theorems on them.
 -- ---- what a reader must believe
-pub mod Bytes
-pub mod Answer
+pub mod Bytes  -- the bytes of a formula, the parse, and refusal 10
+pub mod Answer  -- what the check of a formula part answers
 -- ---- theorems
-pub mod RoundTrip
-pub mod ByToken
-pub mod Examples
+pub mod RoundTrip  -- the parse and the bytes of a formula are inverse to one another
+pub mod ByToken  -- the parse goes by tokens
+pub mod Examples  -- formula parts at their bounds, by computation
 -- ---- for the code
-pub mod Check
+pub mod Check  -- what the check answers at each place of a part

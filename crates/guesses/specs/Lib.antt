@@ -1,2 +1,3 @@
 -- Guessed meets and joins.
-pub mod Tested
+-- ---- for the code
+pub mod Tested  -- the tests that guessed meets and joins pass

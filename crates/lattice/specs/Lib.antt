@@ -1,29 +1,21 @@
 -- The lattice part. Definitions first, then the theorems on them.
 -- ---- what a reader must believe
--- the panel lattice
-pub mod Panel
--- which refusal a part gets, or what it gives
-pub mod Reading
--- what the check answers for it
-pub mod Answer
--- a distributive De Morgan lattice
-pub mod DeMorgan
+pub mod Panel  -- the panel lattice
+pub mod Reading  -- the first of the refusals 4 to 8 that applies, or the part accepted
+pub mod Answer  -- what the check of a part answers, and leaves in the codes
+pub mod DeMorgan  -- what a distributive De Morgan lattice is: order's definition, passed on
 pub mod Conditions  -- what a part has to be, and which refusal is given exactly when
 -- ---- theorems
 pub mod Numbered  -- the refusals 4 to 8 are given so
--- exactly the distributive De Morgan lattices are accepted
-pub mod Accepted
--- what a caller learns from the answer
-pub mod Caller
-pub mod PanelTable
--- the panel lattice is accepted
-pub mod PanelLattice
--- the lattices of the worked examples
-pub mod Examples
+pub mod Accepted  -- accepted are exactly the distributive De Morgan lattices
+pub mod Caller  -- what a caller of the check learns from the answer
+pub mod PanelTable  -- the rule of the panel's 729 order entries
+pub mod PanelLattice  -- the panel lattice is accepted
+pub mod Examples  -- the lattices of the worked examples are accepted
 -- ---- for the code
-pub mod Form
-pub mod Rows
-pub mod Parts
-pub mod ByWords
-pub mod Filling
-pub mod Check
+pub mod Form  -- sizes, places and bytes of a part of the right form
+pub mod Rows  -- the words of an order, from its bytes row by row
+pub mod Parts  -- the same of a part: explicit, and the panel
+pub mod ByWords  -- the answer from the tests of words
+pub mod Filling  -- the 128 codes as the code fills them, and the complement's rules on them
+pub mod Check  -- the steps of the check, and the answer after each

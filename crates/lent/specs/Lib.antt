@@ -1,2 +1,3 @@
 -- What the reading calls say of a standing that is lent.
-pub mod Asked
+-- ---- what a reader must believe
+pub mod Asked  -- the equation of the call by value, and the standing unchanged

@@ -1,2 +1,3 @@
--- Definitions of `limits`.
-pub mod Full
+-- What `limits` rests on.
+-- ---- for the code
+pub mod Full  -- model parts of 64 states and 16 propositions

@@ -33,9 +33,17 @@ refused-rest d r f w a q = one-finished d (numberReply f) d (go (examined Call.S
     go (refused g) e = refl
     go (content c) e = absurd (let z : _≡_ {A = ℕ} 0 1 = cc in omega arith)
 
+-- the standing after the last row, where one of the rows that were left differs, or none
+abbrev pub roundBy : Bool → Standing → Standing
+roundBy differs s = nextRound (s .changed || differs) s
+
 module _ {d : Desk} {z : Sizes} {w : List ℕ} (h : HeldDesk d z w) where
-  -- the rows, in the desk's terms
-  rows-are : (whole other out : List ℕ) (differs : Bool) → RestIn w (z .lattice) (partAt (take 24576 (d .store)) 1) (partAt (take 24576 (d .store)) 2) whole (d .standing .row) other out differs
+  -- the rows from the next one on are worked into `other`, which gives `out`; differs says whether one of them differs
+  abbrev pub RestWorked : List ℕ → List ℕ → List ℕ → Bool → Type 0
+  RestWorked whole other out differs = RestIn w (z .lattice) (partAt (take 24576 (d .store)) 1) (partAt (take 24576 (d .store)) 2) whole (d .standing .row) other out differs
+
+  -- the same in the desk's terms
+  rows-are : (whole other out : List ℕ) (differs : Bool) → RestWorked whole other out differs
       → (out ≡ rowsFrom (model1 (h .case .holds)) (model2 (h .case .holds)) (operator (h .case .holds)) (tableOf whole (N2 (h .case .holds))) (N1 (h .case .holds) - d .standing .row) (d .standing .row) other)
       × (differs ≡ rowsChanged (model1 (h .case .holds)) (model2 (h .case .holds)) (operator (h .case .holds)) (tableOf whole (N2 (h .case .holds))) (N1 (h .case .holds) - d .standing .row) (d .standing .row))
   rows-are whole other out differs e = rw (h .case .parts .model1, h .case .parts .model2, h .case .ops) at e
@@ -47,15 +55,15 @@ module _ {d : Desk} {z : Sizes} {w : List ℕ} (h : HeldDesk d z w) where
   held-rest e u p = rest-finished (h .case .holds) d (h .kept) u ∙ ap afterRest p
 
   -- the rows are worked and the standing is moved on
-  module _ (out : List ℕ) (differs : Bool) (next : Standing) (x : Reply) (u : d .standing .settled ≡ false) (n : next ≡ nextRound (d .standing .changed || differs) (d .standing)) (r : x ≡ stepAnswer (nextRound (d .standing .changed || differs) (d .standing))) where
+  module _ (out : List ℕ) (differs : Bool) (next : Standing) (x : Reply) (u : d .standing .settled ≡ false) (n : next ≡ roundBy differs (d .standing)) (r : x ≡ stepAnswer (roundBy differs (d .standing))) where
     -- the second table is whole, and the rows are worked into the first
-    pub rest-into-first : d .standing .secondWhole ≡ true → RestIn w (z .lattice) (partAt (take 24576 (d .store)) 1) (partAt (take 24576 (d .store)) 2) (d .second) (d .standing .row) (d .first) out differs → Finishes d x (record { standing = next; store = d .store; first = out; second = d .second })
+    pub rest-into-first : d .standing .secondWhole ≡ true → RestWorked (d .second) (d .first) out differs → Finishes d x (record { standing = next; store = d .store; first = out; second = d .second })
     rest-into-first v e =
         let o = rows-are (d .second) (d .first) out differs e in
-        rw (n, r) (held-rest (record { standing = nextRound (d .standing .changed || differs) (d .standing); store = d .store; first = out; second = d .second }) u (rw (o .0, o .1, v)))
+        rw (n, r) (held-rest (record { standing = roundBy differs (d .standing); store = d .store; first = out; second = d .second }) u (rw (o .0, o .1, v)))
 
     -- the first table is whole, and the rows are worked into the second
-    pub rest-into-second : d .standing .secondWhole ≡ false → RestIn w (z .lattice) (partAt (take 24576 (d .store)) 1) (partAt (take 24576 (d .store)) 2) (d .first) (d .standing .row) (d .second) out differs → Finishes d x (record { standing = next; store = d .store; first = d .first; second = out })
+    pub rest-into-second : d .standing .secondWhole ≡ false → RestWorked (d .first) (d .second) out differs → Finishes d x (record { standing = next; store = d .store; first = d .first; second = out })
     rest-into-second v e =
         let o = rows-are (d .first) (d .second) out differs e in
-        rw (n, r) (held-rest (record { standing = nextRound (d .standing .changed || differs) (d .standing); store = d .store; first = d .first; second = out }) u (rw (o .0, o .1, v)))
+        rw (n, r) (held-rest (record { standing = roundBy differs (d .standing); store = d .store; first = d .first; second = out }) u (rw (o .0, o .1, v)))

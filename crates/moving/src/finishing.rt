@@ -35,7 +35,8 @@ fn work_rows(
     from: State,
 ) -> bool
     requires { ⌜ Coded (now w) l × Shaped (now m1) (now m2) (now whole) × Room (now m1) (now m2) (now other) × (from .0 < getD (now m1) 0 0) ⌝ }
-    ensures { λ r. ⌜ RestIn (now (w .entry)) l (now (m1 .entry)) (now (m2 .entry)) (now (whole .entry)) (from .0) (now (other .entry)) (now (other .exit)) r ⌝ }
+    ensures { λ r. ⌜ RestIn (now (w .entry)) l (now (m1 .entry)) (now (m2 .entry)) (now (whole .entry))
+        (from .0) (now (other .entry)) (now (other .exit)) r ⌝ }
 {
     let n1 = model::states(m1);
     let start = elements::index(from.0);

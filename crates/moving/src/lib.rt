@@ -1,4 +1,5 @@
-// The two calls that move the standing on, and the rest of a round in one call, with the standing by value: each gives the standing after it beside its answer.
+// The two calls that move the standing on, and the rest of a round in one call, with the standing by value: each gives the standing after
+// it beside its answer.
 //   opening: `open`
 //   stepping: `step`
 //   finishing: `finish_round`, which is so many steps

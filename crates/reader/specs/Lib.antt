@@ -1,3 +1,3 @@
 -- `reader`: going through a formula part. What stands at a place is in tokens/Tokens.
 -- ---- theorems
-pub mod Through
+pub mod Through  -- reading a formula's bytes token by token gives its nodes in prefix order

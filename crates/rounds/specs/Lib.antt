@@ -1,15 +1,11 @@
 -- Tables held as bytes. Definitions first, then the theorems on them.
 -- ---- what a reader must believe
--- tables, rows and the tests on them; the terms of the contracts
-pub mod Table
+pub mod Table  -- a table of bytes, a row written into one, the test for a simulation, the contracts' terms
 -- ---- theorems
--- a round that is worked row by row
-pub mod Round
--- share
-pub mod Share
--- the rows of a round from a given one on
-pub mod Rest
+pub mod Round  -- rows worked one by one are a round; the test is passed exactly by simulations
+pub mod Share  -- share by the codes is the theory's
+pub mod Rest  -- the rows of a round from a given one on
 -- ---- for the code
-pub mod Row
-pub mod Codes
-pub mod RowCodes
+pub mod Row  -- where a row stands, and what a loop over its entries has done so far
+pub mod Codes  -- the codes that the loops compute, and that they are those of F's entries
+pub mod RowCodes  -- a row of F from the codes of its entries

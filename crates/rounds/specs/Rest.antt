@@ -57,7 +57,9 @@ module _ {M₁ M₂ : Model ℕ} {G : (ℕ → ℕ → ℕ) → ℕ → ℕ → 
   pub rest-none : {from : ℕ} {before : List ℕ} → RestSoFar M₁ M₂ G S from before from before false
   rest-none = record { out-is = refl; changed-is = refl; same-length = refl }
 
-  pub rest-more : {from : ℕ} {before : List ℕ} {q : ℕ} {out next : List ℕ} {changed row : Bool} → RestSoFar M₁ M₂ G S from before q out changed → q < M₁ .states → M₁ .states * M₂ .states ≤ length before → next ≡ rowWritten M₁ M₂ G S q out → row ≡ rowChanged M₁ M₂ G S q → RestSoFar M₁ M₂ G S from before (q + 1) next (changed || row)
+  pub rest-more : {from : ℕ} {before : List ℕ} {q : ℕ} {out next : List ℕ} {changed row : Bool} → RestSoFar M₁ M₂ G S from before q out changed
+      → q < M₁ .states → M₁ .states * M₂ .states ≤ length before → next ≡ rowWritten M₁ M₂ G S q out → row ≡ rowChanged M₁ M₂ G S q
+      → RestSoFar M₁ M₂ G S from before (q + 1) next (changed || row)
   unfolding rowsFrom rowsChanged
   rest-more {q = q} {out = out} {changed = changed} u l h e f =
       let n : M₁ .states - q ≡ suc (M₁ .states - (q + 1)) = omega arith in
@@ -67,7 +69,8 @@ module _ {M₁ M₂ : Model ℕ} {G : (ℕ → ℕ → ℕ) → ℕ → ℕ → 
         same-length = rw e (row-length M₁ M₂ G S q out l (omega (arith, u .same-length)) ∙ u .same-length);
       }
 
-  pub rest-done : {from : ℕ} {before : List ℕ} {q : ℕ} {out : List ℕ} {changed : Bool} → RestSoFar M₁ M₂ G S from before q out changed → M₁ .states ≤ q → (out ≡ rowsFrom M₁ M₂ G S (M₁ .states - from) from before) × (changed ≡ rowsChanged M₁ M₂ G S (M₁ .states - from) from)
+  pub rest-done : {from : ℕ} {before : List ℕ} {q : ℕ} {out : List ℕ} {changed : Bool} → RestSoFar M₁ M₂ G S from before q out changed → M₁ .states ≤ q
+      → (out ≡ rowsFrom M₁ M₂ G S (M₁ .states - from) from before) × (changed ≡ rowsChanged M₁ M₂ G S (M₁ .states - from) from)
   unfolding rowsFrom rowsChanged
   rest-done {q = q} {changed = changed} u l =
       let n : M₁ .states - q ≡ 0 = omega arith in
@@ -76,7 +79,8 @@ module _ {M₁ M₂ : Model ℕ} {G : (ℕ → ℕ → ℕ) → ℕ → ℕ → 
   -- ---- all rows are a whole round
 
   -- the rows below q + m are worked where those below q are, and m rows more
-  round-from : (m q : ℕ) {before out : List ℕ} {changed : Bool} → RoundSoFar M₁ M₂ G S before q out changed → q + m ≤ M₁ .states → M₁ .states * M₂ .states ≤ length before → RoundSoFar M₁ M₂ G S before (q + m) (rowsFrom M₁ M₂ G S m q out) (changed || rowsChanged M₁ M₂ G S m q)
+  round-from : (m q : ℕ) {before out : List ℕ} {changed : Bool} → RoundSoFar M₁ M₂ G S before q out changed → q + m ≤ M₁ .states
+      → M₁ .states * M₂ .states ≤ length before → RoundSoFar M₁ M₂ G S before (q + m) (rowsFrom M₁ M₂ G S m q out) (changed || rowsChanged M₁ M₂ G S m q)
   unfolding rowsFrom rowsChanged
   round-from zero q {changed = changed} u l h = let n : q + 0 ≡ q = omega arith in rw (n, or-false changed) u
   round-from (suc m) q {changed = changed} u l h =
@@ -102,7 +106,8 @@ module _ {M₁ M₂ : Model ℕ} {G : (ℕ → ℕ → ℕ) → ℕ → ℕ → 
           some (suc n) l = omega arith
       go i false e = let l = ltb-false i (q * M₂ .states) e in u .kept i l ∙ sym (v .kept i l)
 
-  pub round-rest : {before out : List ℕ} {changed : Bool} → RoundSoFar M₁ M₂ G S before (M₁ .states) out changed → M₁ .states * M₂ .states ≤ length before → (out ≡ rowsFrom M₁ M₂ G S (M₁ .states) 0 before) × (changed ≡ rowsChanged M₁ M₂ G S (M₁ .states) 0)
+  pub round-rest : {before out : List ℕ} {changed : Bool} → RoundSoFar M₁ M₂ G S before (M₁ .states) out changed → M₁ .states * M₂ .states ≤ length before
+      → (out ≡ rowsFrom M₁ M₂ G S (M₁ .states) 0 before) × (changed ≡ rowsChanged M₁ M₂ G S (M₁ .states) 0)
   round-rest {before = before} u h =
       let n : 0 + M₁ .states ≡ M₁ .states = omega arith in
       let v = round-from (M₁ .states) 0 {before = before} round-none (omega arith) h in

@@ -1,2 +1,3 @@
--- Definitions of `rounds_ways`.
-pub mod Full
+-- What `rounds_ways` rests on.
+-- ---- for the code
+pub mod Full  -- model parts of 24 states

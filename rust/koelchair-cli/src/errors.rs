@@ -1,51 +1,13 @@
-//! Places in a text, and errors that show the line with carets under the place.
+//! Errors of a text, which show the line with carets under the place.
 
+pub use crate::source::{Source, Span};
 use std::fmt::Write;
 
-/// A text with the name under which errors speak of it.
-#[derive(Clone, Debug)]
-pub struct Source {
-    /// The file's name, or `<stdin>`.
-    pub name: String,
-    /// The text, line by line, without line ends.
-    pub lines: Vec<String>,
-}
+/// The most errors that are shown; the others are counted.
+pub const MOST_ERRORS: usize = 20;
 
-impl Source {
-    /// A source with this name and text.
-    pub fn new(name: &str, text: &str) -> Source {
-        let lines = text.lines().map(str::to_string).collect();
-        Source {
-            name: name.to_string(),
-            lines,
-        }
-    }
-}
-
-/// Characters of one line: line and columns count from 0, the end is exclusive.
-#[derive(Clone, Copy, Debug, Default, PartialEq, Eq)]
-pub struct Span {
-    /// The line.
-    pub line: usize,
-    /// The first column, in characters.
-    pub start: usize,
-    /// The column after the last.
-    pub end: usize,
-}
-
-impl Span {
-    /// From the start of this span to the end of another on the same line; this span if the other is on another line.
-    pub fn to(self, other: Span) -> Span {
-        if self.line == other.line && other.end > self.start {
-            Span {
-                end: other.end,
-                ..self
-            }
-        } else {
-            self
-        }
-    }
-}
+/// Stands in what was expected for the line that an error names besides its own; `render` puts that line's number there.
+pub const OTHER_LINE: &str = "{line}";
 
 /// Something wrong in a text: what, where, and what was expected there.
 #[derive(Clone, Debug, PartialEq, Eq)]
@@ -58,6 +20,8 @@ pub struct TextError {
     pub expected: String,
     /// A further line, such as a similar name.
     pub help: Option<String>,
+    /// Another line that the error speaks of, in place of `OTHER_LINE`.
+    pub other: Option<usize>,
 }
 
 impl TextError {
@@ -68,6 +32,7 @@ impl TextError {
             span,
             expected: expected.into(),
             help: None,
+            other: None,
         }
     }
 
@@ -77,15 +42,43 @@ impl TextError {
         self
     }
 
+    /// The same error, which speaks of another line of the text too.
+    pub fn with_other(mut self, line: usize) -> TextError {
+        self.other = Some(line);
+        self
+    }
+
+    /// What was expected, with the number of the other line.
+    pub fn expected(&self, source: &Source) -> String {
+        match self.other {
+            None => self.expected.clone(),
+            Some(other) => {
+                let line = source.line_name(other, self.span.line);
+                self.expected.replace(OTHER_LINE, &line)
+            }
+        }
+    }
+
     /// The error as text, with the line it stands in.
     pub fn render(&self, source: &Source) -> String {
         let mut text = format!("error: {}\n", self.message);
-        text.push_str(&marked_line(source, self.span, &self.expected));
+        text.push_str(&marked_line(source, self.span, &self.expected(source)));
         if let Some(help) = &self.help {
             let _ = writeln!(text, "  = help: {help}");
         }
         text
     }
+}
+
+/// The first errors as text, and how many more there are.
+pub fn render_all(source: &Source, errors: &[TextError]) -> String {
+    let shown = errors.iter().take(MOST_ERRORS);
+    let mut rendered: Vec<String> = shown.map(|e| e.render(source)).collect();
+    if errors.len() > MOST_ERRORS {
+        let more = errors.len() - MOST_ERRORS;
+        rendered.push(format!("and {more} more errors\n"));
+    }
+    rendered.join("\n")
 }
 
 /// An error with the candidate nearest to a word as its further line.
@@ -100,28 +93,59 @@ pub fn with_nearest<'a>(
     }
 }
 
+/// How many characters of a line are shown at most.
+const WIDEST: usize = 100;
+
+/// What of a long line is shown: the first character, the last, and the columns of a span in it.
+struct Cut {
+    line: String,
+    start: usize,
+    end: usize,
+}
+
+/// A line cut around a span, with `…` where something was left out.
+fn cut(line: &str, span: Span) -> Cut {
+    let chars: Vec<char> = line.chars().collect();
+    if chars.len() <= WIDEST {
+        let (line, start, end) = (line.to_string(), span.start, span.end);
+        return Cut { line, start, end };
+    }
+    let before = WIDEST / 3;
+    let first = match span.start > before * 2 {
+        true => (span.start - before).min(chars.len() - WIDEST),
+        false => 0,
+    };
+    let last = (first + WIDEST).min(chars.len());
+    let mark = |left_out: bool| if left_out { "…" } else { "" };
+    let (front, back) = (mark(first > 0), mark(last < chars.len()));
+    let shown: String = chars[first..last].iter().collect();
+    let shift = |column: usize| column.min(last) - first + front.chars().count();
+    Cut {
+        line: format!("{front}{shown}{back}"),
+        start: shift(span.start),
+        end: shift(span.end),
+    }
+}
+
 /// The line of a span with carets under it and a note behind them.
 pub fn marked_line(source: &Source, span: Span, note: &str) -> String {
     let line = source.lines.get(span.line).map_or("", String::as_str);
-    let number = (span.line + 1).to_string();
+    let (name, number) = source.place(span.line);
+    let number = number.to_string();
     let margin = " ".repeat(number.len());
-    let padding: String = line
+    let shown = cut(line, span);
+    let padding: String = shown
+        .line
         .chars()
         .chain(std::iter::repeat(' '))
-        .take(span.start)
+        .take(shown.start)
         .map(|c| if c == '\t' { '\t' } else { ' ' })
         .collect();
-    let carets = "^".repeat(span.end.saturating_sub(span.start).max(1));
+    let carets = "^".repeat(shown.end.saturating_sub(shown.start).max(1));
     let mut text = String::new();
-    let _ = writeln!(
-        text,
-        "{margin}--> {}:{}:{}",
-        source.name,
-        number,
-        span.start + 1
-    );
+    let _ = writeln!(text, "{margin}--> {name}:{number}:{}", span.start + 1);
     let _ = writeln!(text, "{margin} |");
-    let _ = writeln!(text, "{number} | {line}");
+    let _ = writeln!(text, "{number} | {}", shown.line);
     let _ = writeln!(
         text,
         "{}",
@@ -143,6 +167,14 @@ pub fn nearest<'a>(word: &str, candidates: impl IntoIterator<Item = &'a str>) ->
         .filter(|(d, _)| *d <= most)
         .min_by_key(|(d, _)| *d)
         .map(|(_, c)| c)
+}
+
+/// `; did you mean ...?` if a candidate is near enough.
+pub fn did_you_mean<'a>(word: &str, candidates: impl IntoIterator<Item = &'a str>) -> String {
+    match nearest(word, candidates) {
+        Some(near) => format!("; did you mean `{near}`?"),
+        None => String::new(),
+    }
 }
 
 /// How many characters must be put in, taken out or replaced to turn one word into the other.

@@ -25,6 +25,55 @@ pub enum Formula {
     Least(String, Box<Formula>),
     /// A greatest fixpoint, with the name of its variable.
     Greatest(String, Box<Formula>),
+    /// A fixpoint that has a short form. It is a binder without a name: variables within count it.
+    Ways(Ways, Box<Formula>),
+}
+
+/// The fixpoints that have a short form: `AG f` and so on.
+#[derive(Clone, Copy, Debug, PartialEq, Eq)]
+pub enum Ways {
+    /// AG f: nu z. f & AX z.
+    AllAlways,
+    /// EF f: mu z. f | EX z.
+    SomeOnce,
+    /// AF f: mu z. f | AX z.
+    AllOnce,
+    /// EG f: nu z. f & EX z.
+    SomeAlways,
+}
+
+impl Ways {
+    /// All of them.
+    pub const ALL: [Ways; 4] = [
+        Ways::AllAlways,
+        Ways::SomeOnce,
+        Ways::AllOnce,
+        Ways::SomeAlways,
+    ];
+
+    /// The word in a text.
+    pub fn word(self) -> &'static str {
+        match self {
+            Ways::AllAlways => "AG",
+            Ways::SomeOnce => "EF",
+            Ways::AllOnce => "AF",
+            Ways::SomeAlways => "EG",
+        }
+    }
+
+    /// Whether it speaks of all ways, by AX, or of some, by EX.
+    pub fn all(self) -> bool {
+        matches!(self, Ways::AllAlways | Ways::AllOnce)
+    }
+
+    /// The bytes before and behind those of f: a greatest fixpoint of a meet or a least one of a join, and AX or EX of its variable.
+    fn bytes(self) -> ([u8; 2], [u8; 3]) {
+        let fixpoint = match self {
+            Ways::AllAlways | Ways::SomeAlways => [10, 6],
+            Ways::SomeOnce | Ways::AllOnce => [9, 5],
+        };
+        (fixpoint, [if self.all() { 7 } else { 8 }, 4, 0])
+    }
 }
 
 /// How deep a formula may be nested in a text; every formula of at most 255 bytes is within it.
@@ -48,6 +97,12 @@ impl Formula {
             Formula::SomeNext(f) => write_one(8, f, bytes),
             Formula::Least(_, f) => write_one(9, f, bytes),
             Formula::Greatest(_, f) => write_one(10, f, bytes),
+            Formula::Ways(ways, f) => {
+                let (before, behind) = ways.bytes();
+                bytes.extend(before);
+                f.write(bytes);
+                bytes.extend(behind);
+            }
         }
     }
 
@@ -58,14 +113,20 @@ impl Formula {
             Formula::AllNext(f)
             | Formula::SomeNext(f)
             | Formula::Least(_, f)
-            | Formula::Greatest(_, f) => vec![f],
+            | Formula::Greatest(_, f)
+            | Formula::Ways(_, f) => vec![f],
             _ => Vec::new(),
         }
     }
 
     /// Whether no EX occurs.
     pub fn universal(&self) -> bool {
-        !matches!(self, Formula::SomeNext(_)) && self.within().iter().all(|f| f.universal())
+        let some = match self {
+            Formula::SomeNext(_) => true,
+            Formula::Ways(ways, _) => !ways.all(),
+            _ => false,
+        };
+        !some && self.within().iter().all(|f| f.universal())
     }
 
     /// The most AX that stand one within another.
@@ -76,7 +137,11 @@ impl Formula {
             .map(|f| f.nested_ax())
             .max()
             .unwrap_or(0);
-        inner + usize::from(matches!(self, Formula::AllNext(_)))
+        match self {
+            Formula::AllNext(_) => inner + 1,
+            Formula::Ways(ways, _) if ways.all() => inner.max(1),
+            _ => inner,
+        }
     }
 
     /// The most binders that stand one within another.
@@ -87,7 +152,11 @@ impl Formula {
             .map(|f| f.nested_binders())
             .max()
             .unwrap_or(0);
-        inner + usize::from(matches!(self, Formula::Least(..) | Formula::Greatest(..)))
+        let binder = matches!(
+            self,
+            Formula::Least(..) | Formula::Greatest(..) | Formula::Ways(..)
+        );
+        inner + usize::from(binder)
     }
 }
 

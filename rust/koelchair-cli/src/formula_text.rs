@@ -1,15 +1,42 @@
-//! Formulas as text. From loosest to tightest: `|`, `&`, then `AX`, `EX` and `!`. `|` and `&` group to the left. The body
+//! Formulas as text. From loosest to tightest: `|`, `&`, then `AX`, `EX`, `AG`, `EF`, `AF`, `EG` and `!`. `|` and `&` group to the left. The body
 //! of `mu z.` and `nu z.` goes as far to the right as it can.
 
 use crate::errors::{expected_one_of, with_nearest, Span, TextError};
-use crate::formula::{Formula, DEEPEST, LONGEST};
+use crate::formula::{Formula, Ways, DEEPEST, LONGEST};
+pub use crate::formula_print::print;
 use crate::lexer::{Cursor, Kind, Token};
 
 /// Words that have a meaning in formulas, and so name no proposition and no variable.
-pub const FORMULA_WORDS: [&str; 6] = ["mu", "nu", "AX", "EX", "top", "bottom"];
+pub const FORMULA_WORDS: [&str; 10] = [
+    "mu", "nu", "AX", "EX", "AG", "EF", "AF", "EG", "top", "bottom",
+];
 
 const START: &str =
-    "a formula: a proposition, `!p`, `top`, `bottom`, `AX`, `EX`, `mu z.`, `nu z.` or `(`";
+    "a formula: a proposition, `!p`, `top`, `bottom`, `AX`, `EX`, `AG`, `EF`, `AF`, `EG`, `mu z.`, `nu z.` or `(`";
+
+/// Words of other languages, each with what is meant.
+const MISTAKEN: [(&str, &str); 12] = [
+    ("and", "`&`"),
+    ("or", "`|`"),
+    ("not", "`!`"),
+    ("implies", "`!p | q`"),
+    ("true", "`top`"),
+    ("false", "`bottom`"),
+    ("always", "`AG`"),
+    ("never", "`AG !p`"),
+    ("eventually", "`AF` or `EF`"),
+    ("G", "`AG`"),
+    ("F", "`AF` or `EF`"),
+    ("X", "`AX` or `EX`"),
+];
+
+/// An error with what is meant by a word as its further line.
+fn with_meant(error: TextError, word: &str) -> TextError {
+    match MISTAKEN.iter().find(|(said, _)| *said == word) {
+        Some((_, meant)) => error.with_help(format!("did you mean {meant}?")),
+        None => error,
+    }
+}
 
 /// Whether a word can name a proposition or a variable.
 pub fn name_allowed(word: &str) -> bool {
@@ -26,7 +53,13 @@ pub fn parse(cursor: &mut Cursor, propositions: &[String]) -> Result<Formula, Te
         nodes: 0,
     };
     let formula = parser.or(cursor)?;
-    cursor.expect_end("`&`, `|` or the end of the formula")?;
+    let end = cursor.expect_end("`&`, `|` or the end of the formula");
+    let goes_on = cursor.peek().map(|t| &t.kind);
+    end.map_err(|error| match goes_on {
+        Some(Kind::Word(word)) => with_meant(error, word),
+        Some(Kind::Sign("->")) => error.with_help("did you mean `!p | q`?"),
+        _ => error,
+    })?;
     Ok(formula)
 }
 
@@ -98,8 +131,19 @@ impl Parser<'_> {
             "AX" => Ok(Formula::AllNext(Box::new(self.prefixed(cursor)?))),
             "EX" => Ok(Formula::SomeNext(Box::new(self.prefixed(cursor)?))),
             "mu" | "nu" => self.binder(word == "mu", cursor),
-            _ => self.name(word, span),
+            _ => match Ways::ALL.into_iter().find(|w| w.word() == word) {
+                Some(ways) => self.ways(ways, cursor),
+                None => self.name(word, span),
+            },
         }
+    }
+
+    /// What follows `AG` and so on, inside a binder without a name.
+    fn ways(&mut self, ways: Ways, cursor: &mut Cursor) -> Result<Formula, TextError> {
+        self.bound.push(String::new());
+        let body = self.prefixed(cursor);
+        self.bound.pop();
+        Ok(Formula::Ways(ways, Box::new(body?)))
     }
 
     fn binder(&mut self, least: bool, cursor: &mut Cursor) -> Result<Formula, TextError> {
@@ -154,132 +198,19 @@ impl Parser<'_> {
         if let Some(number) = self.propositions.iter().position(|p| p == word) {
             return Ok(Formula::Proposition(number as u8));
         }
+        let named = self.propositions.iter().chain(&self.bound);
         let known = || {
-            self.propositions
-                .iter()
-                .chain(&self.bound)
-                .map(String::as_str)
+            let named = named.clone().filter(|name| !name.is_empty());
+            named.map(String::as_str)
         };
         let message = format!("`{word}` is neither a proposition nor a variable bound here");
         let error = TextError::new(span, message, expected_one_of(known()));
-        Err(with_nearest(error, word, known().chain(FORMULA_WORDS)))
+        let error = with_nearest(error, word, known().chain(FORMULA_WORDS));
+        Err(with_meant(error, word))
     }
 }
 
 fn too_deep(span: Span) -> TextError {
     let expected = format!("expected at most {DEEPEST} levels and {LONGEST} operators and names");
     TextError::new(span, "the formula is too long", expected)
-}
-
-/// How tightly the place of a formula binds: what may stand there without parentheses.
-#[derive(Clone, Copy, PartialEq, PartialOrd)]
-enum Binding {
-    Or,
-    And,
-    Prefix,
-}
-
-/// A formula as text, with the fewest parentheses.
-pub fn print(formula: &Formula, propositions: &[String]) -> String {
-    let mut printer = Printer {
-        propositions,
-        bound: Vec::new(),
-        text: String::new(),
-    };
-    printer.at(formula, Binding::Or, true);
-    printer.text
-}
-
-struct Printer<'a> {
-    propositions: &'a [String],
-    bound: Vec<String>,
-    text: String,
-}
-
-impl Printer<'_> {
-    /// Prints a formula where `binding` may stand; `last` says that nothing follows it before the next `)` or the end, so
-    /// that a binder's body cannot swallow anything.
-    fn at(&mut self, formula: &Formula, binding: Binding, last: bool) {
-        let parentheses = match formula {
-            Formula::Or(..) => binding > Binding::Or,
-            Formula::And(..) => binding > Binding::And,
-            Formula::Least(..) | Formula::Greatest(..) => !last,
-            _ => false,
-        };
-        if parentheses {
-            self.text.push('(');
-            self.node(formula, true);
-            self.text.push(')');
-        } else {
-            self.node(formula, last);
-        }
-    }
-
-    fn node(&mut self, formula: &Formula, last: bool) {
-        match formula {
-            Formula::Bottom => self.text.push_str("bottom"),
-            Formula::Top => self.text.push_str("top"),
-            Formula::Proposition(p) => self.text.push_str(&self.propositions[usize::from(*p)]),
-            Formula::Negated(p) => {
-                self.text.push('!');
-                self.text.push_str(&self.propositions[usize::from(*p)]);
-            }
-            Formula::Variable(v) => {
-                let name = &self.bound[self.bound.len() - 1 - usize::from(*v)];
-                self.text.push_str(name);
-            }
-            Formula::Or(a, b) => self.two(a, " | ", b, (Binding::Or, Binding::And), last),
-            Formula::And(a, b) => self.two(a, " & ", b, (Binding::And, Binding::Prefix), last),
-            Formula::AllNext(f) => self.next("AX ", f, last),
-            Formula::SomeNext(f) => self.next("EX ", f, last),
-            Formula::Least(name, f) => self.binder("mu", name, f),
-            Formula::Greatest(name, f) => self.binder("nu", name, f),
-        }
-    }
-
-    fn two(
-        &mut self,
-        a: &Formula,
-        sign: &str,
-        b: &Formula,
-        bindings: (Binding, Binding),
-        last: bool,
-    ) {
-        self.at(a, bindings.0, false);
-        self.text.push_str(sign);
-        self.at(b, bindings.1, last);
-    }
-
-    fn next(&mut self, word: &str, f: &Formula, last: bool) {
-        self.text.push_str(word);
-        self.at(f, Binding::Prefix, last);
-    }
-
-    /// A binder keeps its name unless that would hide an outer variable that the body uses.
-    fn binder(&mut self, word: &str, name: &str, body: &Formula) {
-        let mut name = name.to_string();
-        while self.propositions.contains(&name) || self.hides(&name, body) {
-            name.push('\'');
-        }
-        self.text.push_str(&format!("{word} {name}. "));
-        self.bound.push(name);
-        self.at(body, Binding::Or, true);
-        self.bound.pop();
-    }
-
-    fn hides(&self, name: &str, body: &Formula) -> bool {
-        let outer = self.bound.iter().rev().enumerate();
-        outer
-            .into_iter()
-            .any(|(i, n)| n == name && uses(body, i + 1))
-    }
-}
-
-/// Whether a variable with this count of binders between occurs.
-fn uses(formula: &Formula, count: usize) -> bool {
-    match formula {
-        Formula::Variable(v) => usize::from(*v) == count,
-        Formula::Least(_, f) | Formula::Greatest(_, f) => uses(f, count + 1),
-        other => other.within().iter().any(|f| uses(f, count)),
-    }
 }

@@ -1,6 +1,7 @@
 //! Words and signs of the text form. A `#` begins a comment that goes to the end of its line. A line break ends a
 //! statement, except inside parentheses or braces.
 
+pub use crate::cursor::Cursor;
 use crate::errors::{Source, Span, TextError};
 
 /// What a token is.
@@ -29,6 +30,29 @@ pub type Statement = Vec<Token>;
 /// The signs, longer ones before their beginnings.
 const SIGNS: [&str; 14] = [
     "->", "<=", "..", ":", ",", "=", "|", "&", "!", ".", "(", ")", "{", "}",
+];
+
+/// Signs of other languages, each with what is meant; longer ones before their beginnings.
+const MISTAKEN: [(&str, &str); 19] = [
+    ("<=>", "`(p & q) | (!p & !q)`"),
+    ("<->", "`(p & q) | (!p & !q)`"),
+    ("-->", "`->`"),
+    ("->>", "`->`"),
+    ("=>", "`->` for a transition, or in a formula `!p | q`"),
+    ("==", "`=`"),
+    (":=", "`=`"),
+    ("&&", "`&`"),
+    ("||", "`|`"),
+    ("!=", "`!p`"),
+    ("/\\", "`&`"),
+    ("\\/", "`|`"),
+    ("~", "`!`"),
+    ("¬", "`!`"),
+    ("∧", "`&`"),
+    ("∨", "`|`"),
+    ("→", "`->`"),
+    ("≤", "`<=`"),
+    ("//", "`#` for a comment"),
 ];
 
 /// The statements of a text, and the comment lines at its head without their `#`.
@@ -152,22 +176,29 @@ fn token_at(chars: &[char], at: usize, line: usize) -> Result<(Kind, usize), Tex
     if chars[at] == '"' {
         return quoted_at(chars, at, line);
     }
-    let sign = SIGNS.iter().find(|s| {
+    let stands_here = |s: &str| {
         s.chars()
             .enumerate()
             .all(|(i, c)| chars.get(at + i) == Some(&c))
-    });
-    match sign {
-        Some(sign) => Ok((Kind::Sign(sign), at + sign.len())),
-        None => Err(no_token(
-            chars[at],
-            Span {
-                line,
-                start: at,
-                end: at + 1,
-            },
-        )),
+    };
+    let place = |length: usize| Span {
+        line,
+        start: at,
+        end: at + length,
+    };
+    if let Some((sign, meant)) = MISTAKEN.iter().find(|(s, _)| stands_here(s)) {
+        return Err(mistaken(sign, meant, place(sign.chars().count())));
     }
+    match SIGNS.iter().find(|s| stands_here(s)) {
+        Some(sign) => Ok((Kind::Sign(sign), at + sign.len())),
+        None => Err(no_token(chars[at], place(1))),
+    }
+}
+
+/// The error that a sign is one of another language.
+fn mistaken(sign: &str, meant: &str, span: Span) -> TextError {
+    let message = format!("`{sign}` is no sign of the text form");
+    TextError::new(span, message, format!("did you mean {meant}?"))
 }
 
 /// The error that a character begins no token.
@@ -222,117 +253,5 @@ impl Kind {
             Kind::Quoted(text) => format!("\"{text}\""),
             Kind::Sign(sign) => format!("`{sign}`"),
         }
-    }
-}
-
-/// A place in a statement.
-#[derive(Clone, Debug)]
-pub struct Cursor<'a> {
-    tokens: &'a [Token],
-    at: usize,
-}
-
-impl<'a> Cursor<'a> {
-    /// At the beginning of some tokens, of which there is at least one.
-    pub fn new(tokens: &'a [Token]) -> Cursor<'a> {
-        Cursor { tokens, at: 0 }
-    }
-
-    /// The token that comes next.
-    pub fn peek(&self) -> Option<&'a Token> {
-        self.tokens.get(self.at)
-    }
-
-    /// The word that comes next.
-    pub fn peek_word(&self) -> Option<&'a str> {
-        match self.peek() {
-            Some(Token {
-                kind: Kind::Word(word),
-                ..
-            }) => Some(word),
-            _ => None,
-        }
-    }
-
-    /// Whether this sign comes next.
-    pub fn at_sign(&self, sign: &str) -> bool {
-        matches!(self.peek(), Some(Token { kind: Kind::Sign(s), .. }) if *s == sign)
-    }
-
-    /// Whether nothing is left.
-    pub fn at_end(&self) -> bool {
-        self.at >= self.tokens.len()
-    }
-
-    /// Takes the next token.
-    pub fn take(&mut self) -> Option<&'a Token> {
-        let token = self.peek();
-        self.at += usize::from(token.is_some());
-        token
-    }
-
-    /// Takes this sign if it comes next.
-    pub fn take_sign(&mut self, sign: &str) -> bool {
-        let there = self.at_sign(sign);
-        self.at += usize::from(there);
-        there
-    }
-
-    /// Takes this word if it comes next.
-    pub fn take_word(&mut self, word: &str) -> bool {
-        let there = self.peek_word() == Some(word);
-        self.at += usize::from(there);
-        there
-    }
-
-    /// Takes this sign, or says that it was expected.
-    pub fn expect_sign(&mut self, sign: &str) -> Result<Span, TextError> {
-        let span = self.here();
-        match self.take_sign(sign) {
-            true => Ok(span),
-            false => Err(self.unexpected(&format!("`{sign}`"))),
-        }
-    }
-
-    /// Takes a word, or says what was expected.
-    pub fn expect_word(&mut self, expected: &str) -> Result<(&'a str, Span), TextError> {
-        let span = self.here();
-        match self.peek_word() {
-            Some(word) => {
-                self.at += 1;
-                Ok((word, span))
-            }
-            None => Err(self.unexpected(expected)),
-        }
-    }
-
-    /// Says what was expected unless nothing is left.
-    pub fn expect_end(&self, expected: &str) -> Result<(), TextError> {
-        match self.at_end() {
-            true => Ok(()),
-            false => Err(self.unexpected(expected)),
-        }
-    }
-
-    /// The place of the next token, or just after the last.
-    pub fn here(&self) -> Span {
-        match (self.peek(), self.tokens.last()) {
-            (Some(token), _) => token.span,
-            (None, Some(last)) => Span {
-                line: last.span.line,
-                start: last.span.end,
-                end: last.span.end + 1,
-            },
-            (None, None) => Span::default(),
-        }
-    }
-
-    /// The error that something else stands here than what was expected.
-    pub fn unexpected(&self, expected: &str) -> TextError {
-        let message = match self.peek() {
-            Some(token) => format!("{} is not expected here", token.kind.said()),
-            None => "the line ends too early".to_string(),
-        };
-        TextError::new(self.here(), message, format!("expected {expected}"))
     }
 }

@@ -1,11 +1,12 @@
 //! A model as text: its states, and the initial values, propositions and transitions that are not bottom.
 
-use crate::errors::{Span, TextError};
+use crate::errors::{nearest, Span, TextError, OTHER_LINE};
 use crate::lattice::Lattice;
 use crate::lattice_text::element;
 use crate::lexer::{Cursor, Kind, Statement, Token};
 use crate::model::Model;
 use crate::names::{self, numbers};
+use crate::sections::PARTS;
 
 /// What the models of a case share.
 #[derive(Clone, Copy)]
@@ -19,9 +20,7 @@ pub struct Shared<'a> {
 /// Reads a model from its statements: the one that begins with `model`, and those that follow it.
 pub fn parse(statements: &[Statement], shared: Shared) -> Result<Model, Vec<TextError>> {
     let title = title(&statements[0]).map_err(|e| vec![e])?;
-    let (declarations, rest): (Vec<_>, Vec<_>) = statements[1..]
-        .iter()
-        .partition(|s| names::is_word(&s[0], "states"));
+    let (declarations, rest): (Vec<_>, Vec<_>) = statements[1..].iter().partition(|s| states(s));
     let declared = names::declared(declarations, "state").map_err(|e| vec![e])?;
     if declared.is_empty() {
         let expected = "expected a line `states` with the names of its states after it";
@@ -37,6 +36,18 @@ pub fn parse(statements: &[Statement], shared: Shared) -> Result<Model, Vec<Text
         true => Ok(values.model(title)),
         false => Err(errors),
     }
+}
+
+/// Whether a statement names states.
+fn states(statement: &Statement) -> bool {
+    names::is_word(&statement[0], "states")
+}
+
+/// Where the states of a model are named; nothing where they are named wrongly.
+pub fn state_places(statements: &[Statement]) -> Vec<Span> {
+    let declarations = statements[1..].iter().filter(|s| states(s));
+    let declared = names::declared(declarations, "state").unwrap_or_default();
+    declared.iter().map(|name| name.span).collect()
 }
 
 fn title(statement: &Statement) -> Result<Option<String>, TextError> {
@@ -87,7 +98,8 @@ impl<'a> Values<'a> {
         if cursor.peek_word().is_none() {
             return Err(cursor.unexpected("`states`, `initial`, a state or the next part"));
         }
-        let states = numbers(&mut cursor, &self.states, "state")?;
+        let states = numbers(&mut cursor, &self.states, "state")
+            .map_err(|error| perhaps_keyword(statement, error))?;
         if cursor.take_sign("->") {
             self.transition_line(&states, &mut cursor)
         } else if cursor.take_sign(":") {
@@ -199,6 +211,20 @@ impl<'a> Values<'a> {
     }
 }
 
+/// An error in a line that begins with no state: perhaps a word of the text form was meant.
+fn perhaps_keyword(statement: &Statement, error: TextError) -> TextError {
+    let Kind::Word(word) = &statement[0].kind else {
+        return error;
+    };
+    let keywords = ["states", "initial"].into_iter().chain(PARTS);
+    match nearest(word, keywords) {
+        Some(near) if error.help.is_none() && error.span == statement[0].span => {
+            error.with_help(format!("did you mean `{near}`?"))
+        }
+        _ => error,
+    }
+}
+
 /// Gives a value once.
 fn give(place: &mut Given, value: u8, span: Span, what: &str) -> Result<(), TextError> {
     match *place {
@@ -209,8 +235,9 @@ fn give(place: &mut Given, value: u8, span: Span, what: &str) -> Result<(), Text
         Some((_, line)) => Err(TextError::new(
             span,
             format!("the {what} is given twice"),
-            format!("expected it once: line {} gives it too", line + 1),
-        )),
+            format!("expected it once: {OTHER_LINE} gives it too"),
+        )
+        .with_other(line)),
     }
 }
 

@@ -1,16 +1,17 @@
 //! Lists of names: written one after another, `q0..q63` standing for `q0`, `q1` and so on up to `q63`.
 
-use crate::errors::{expected_one_of, with_nearest, Span, TextError};
+use crate::errors::{expected_one_of, with_nearest, Span, TextError, OTHER_LINE};
 use crate::lexer::{Cursor, Kind, Statement, Token};
 
 /// Words that begin a statement, and so name neither an element, a state nor a proposition.
-const RESERVED: [&str; 11] = [
+const RESERVED: [&str; 12] = [
     "title",
     "lattice",
     "propositions",
     "model",
     "formula",
     "bytes",
+    "include",
     "states",
     "initial",
     "elements",
@@ -109,11 +110,9 @@ pub fn declare(list: Vec<Name>, declared: &mut Vec<Name>, sort: &str) -> Result<
         }
         if let Some(first) = declared.iter().find(|d| d.text == name.text) {
             let message = format!("the {sort} `{}` is named twice", name.text);
-            let expected = format!(
-                "expected a name other than that in line {}",
-                first.span.line + 1
-            );
-            return Err(TextError::new(name.span, message, expected));
+            let expected = format!("expected a name other than that in {OTHER_LINE}");
+            let error = TextError::new(name.span, message, expected);
+            return Err(error.with_other(first.span.line));
         }
         if declared.len() == MOST_NAMES {
             let expected = format!("expected at most {MOST_NAMES} names");

@@ -2,9 +2,10 @@
 //! they show stands in it as JSON (`data`). The script looks values up and draws; it works out no entry and no value.
 
 mod data;
-mod json;
 
-use crate::commands::{open, read_text, Arguments, Failure, Opened, Outcome};
+use crate::commands::{open, read_text, Arguments, Failure, Opened, Outcome, Printed};
+use crate::json;
+use crate::warnings::{warnings, Warning};
 use std::io::Read;
 
 /// Colours and sizes.
@@ -27,26 +28,75 @@ const POLICY: &str = "default-src 'none'; style-src 'unsafe-inline'; script-src 
 
 /// Runs `page`.
 pub fn page(arguments: &[String], input: &mut dyn Read) -> Outcome {
-    let arguments = Arguments::read(arguments, &["--bytes"], &[])?;
+    let flags = ["--bytes", "--deny-warnings"];
+    let arguments = Arguments::read(arguments, &flags, &["--course"])?;
     let [file] = arguments.exactly(["FILE"])?;
     let mut opened = open(read_text(file, &arguments, input)?)?;
-    html(&mut opened).map(String::into_bytes)
+    let list = warnings(&opened.text, &opened.case);
+    let surroundings = Surroundings {
+        warnings: &list,
+        ..Surroundings::default()
+    };
+    let html = html(&mut opened, &surroundings)?;
+    Ok(Printed::new(html).with_warnings(&opened.text, &list, &arguments))
 }
 
-/// The page of an opened case. Afterwards the desk is settled.
-pub fn html(opened: &mut Opened) -> Result<String, Failure> {
+/// What stands on a page besides its case.
+#[derive(Default)]
+pub struct Surroundings<'a> {
+    /// Whether there is a class page, `index.html`, beside it.
+    pub class: bool,
+    /// The student.
+    pub student: Option<&'a str>,
+    /// The warnings about the case.
+    pub warnings: &'a [Warning],
+}
+
+/// The page of an opened case at round 0. Afterwards the desk is settled.
+pub fn html(opened: &mut Opened, surroundings: &Surroundings) -> Result<String, Failure> {
     let data = data::of(opened)?;
     let title = match &opened.case.title {
-        Some(title) => format!("{} - koelchair", json::text(title)),
+        Some(title) => format!("{title} - koelchair"),
         None => "koelchair".to_string(),
     };
+    let title = match surroundings.student {
+        Some(student) => format!("{student} - {title}"),
+        None => title,
+    };
     let script = SCRIPT.concat();
-    Ok(format!(
+    let student = surroundings.student.map(json::text).unwrap_or_default();
+    let class = match surroundings.class {
+        true => format!("<p><a href=\"index.html\">The class</a> / {student}</p>\n"),
+        false => String::new(),
+    };
+    let warnings = warning_list(surroundings.warnings);
+    let body = BODY.replacen("<main>", &format!("{warnings}<main>"), 1);
+    let body = format!(
+        "{class}{body}<script type=\"application/json\" id=\"case\">{data}</script>\n\
+         <script>\n\"use strict\";\n(() => {{\n{script}}})();\n</script>\n"
+    );
+    Ok(document(&title, &body))
+}
+
+/// Warnings as a list; nothing where there is none.
+pub fn warning_list(list: &[Warning]) -> String {
+    let item = |w: &Warning| format!("<li>Warning: {}.</li>\n", json::text_with_code(&w.message));
+    match list.is_empty() {
+        true => String::new(),
+        false => format!(
+            "<ul class=\"warnings\">\n{}</ul>\n",
+            list.iter().map(item).collect::<String>()
+        ),
+    }
+}
+
+/// A document with the page's style around a body.
+pub fn document(title: &str, body: &str) -> String {
+    let title = json::text(title);
+    format!(
         "<!doctype html>\n<html lang=\"en\">\n<head>\n<meta charset=\"utf-8\">\n\
          <meta http-equiv=\"Content-Security-Policy\" content=\"{POLICY}\">\n\
          <meta name=\"viewport\" content=\"width=device-width, initial-scale=1\">\n\
-         <title>{title}</title>\n<style>\n{STYLE}</style>\n</head>\n<body>\n{BODY}\
-         <script type=\"application/json\" id=\"case\">{data}</script>\n\
-         <script>\n\"use strict\";\n(() => {{\n{script}}})();\n</script>\n</body>\n</html>\n"
-    ))
+         <title>{title}</title>\n<style>\n{STYLE}</style>\n</head>\n<body>\n{body}</body>\n</html>\n"
+    )
 }

@@ -3,14 +3,15 @@
 use crate::case::{Case, NamedFormula};
 use crate::decode::decode;
 use crate::encode::encode;
-use crate::errors::{with_nearest, Source, Span, TextError};
+use crate::errors::{Source, Span, TextError};
 use crate::formula_text::{self, name_allowed};
 use crate::lattice::Lattice;
 use crate::lattice_text;
 use crate::lexer::{lex, Cursor, Kind, Lexed, Statement, Token};
 use crate::model::Model;
 use crate::model_text::{self, Shared};
-use crate::names;
+use crate::names::{self, Name};
+use crate::sections::Sections;
 
 /// A text that could be read.
 #[derive(Clone, Debug)]
@@ -21,159 +22,48 @@ pub struct Text {
     pub case: Option<Case>,
     /// The bytes of the case.
     pub bytes: Vec<u8>,
-    /// Where each part stands in a text with names.
-    pub places: Vec<Span>,
+    /// Where what has a name stands in a text with names.
+    pub places: Places,
     /// Where each byte stands in a text of `bytes`; none in a text with names.
     pub byte_places: Vec<Span>,
+    /// Whether the text has no model 1, so that model 2 stands for both.
+    pub course_alone: bool,
+}
+
+/// Where parts, states and propositions stand; nothing where a text has no names.
+#[derive(Clone, Debug, Default)]
+pub struct Places {
+    /// The lattice, both models and the formulas.
+    pub parts: Vec<Span>,
+    /// The states of each model.
+    pub states: [Vec<Span>; 2],
+    /// The propositions.
+    pub propositions: Vec<Span>,
 }
 
 /// Reads a text.
 pub fn parse(source: Source) -> Result<Text, Vec<TextError>> {
+    read(source, false)
+}
+
+/// Reads a text that may be a course's alone: where only model 1 is missing, model 2 stands in its place too.
+pub fn parse_course(source: Source) -> Result<Text, Vec<TextError>> {
+    read(source, true)
+}
+
+fn read(source: Source, course: bool) -> Result<Text, Vec<TextError>> {
     let lexed = lex(&source).map_err(|e| vec![e])?;
     match lexed.statements.first() {
         Some(first) if names::is_word(&first[0], "bytes") => bytes_text(source, &lexed),
-        _ => case_text(source, lexed),
-    }
-}
-
-/// The words that begin a part of the case.
-const PARTS: [&str; 5] = ["title", "lattice", "propositions", "model", "formula"];
-
-/// The statements of each part.
-#[derive(Default)]
-struct Sections {
-    title: Option<String>,
-    lattice: Vec<Statement>,
-    propositions: Vec<Statement>,
-    models: [Vec<Statement>; 2],
-    formulas: Vec<Statement>,
-}
-
-/// Which part the statements that follow belong to; after a wrong beginning they are passed over.
-#[derive(Clone, Copy)]
-enum Current {
-    Nothing,
-    Lattice,
-    Model(usize),
-    Wrong,
-}
-
-impl Sections {
-    fn sort(statements: Vec<Statement>) -> Result<Sections, Vec<TextError>> {
-        let mut sections = Sections::default();
-        let mut current = Current::Nothing;
-        let mut errors = Vec::new();
-        for statement in statements {
-            if let Err(error) = sections.add(statement, &mut current) {
-                errors.push(error);
-            }
-        }
-        match errors.is_empty() {
-            true => Ok(sections),
-            false => Err(errors),
-        }
-    }
-
-    fn add(&mut self, statement: Statement, current: &mut Current) -> Result<(), TextError> {
-        let word = match &statement[0].kind {
-            Kind::Word(word) if PARTS.contains(&word.as_str()) => word.clone(),
-            _ => return self.go_on(statement, *current),
-        };
-        *current = Current::Wrong;
-        *current = self.begin(statement, &word)?;
-        Ok(())
-    }
-
-    fn begin(&mut self, statement: Statement, word: &str) -> Result<Current, TextError> {
-        match word {
-            "title" if self.title.is_some() => {
-                return Err(TextError::new(
-                    names::whole(&statement),
-                    "the title is given twice",
-                    "expected it once",
-                ))
-            }
-            "lattice" if !self.lattice.is_empty() => {
-                return Err(twice(&statement, "the lattice", &self.lattice[0]))
-            }
-            "title" => self.title = Some(title(&statement)?),
-            "lattice" => {
-                self.lattice.push(statement);
-                return Ok(Current::Lattice);
-            }
-            "model" => return self.model(statement).map(Current::Model),
-            "propositions" => self.propositions.push(statement),
-            _ => self.formulas.push(statement),
-        }
-        Ok(Current::Nothing)
-    }
-
-    /// A statement that does not begin a part belongs to the one before.
-    fn go_on(&mut self, statement: Statement, current: Current) -> Result<(), TextError> {
-        match current {
-            Current::Lattice => self.lattice.push(statement),
-            Current::Model(m) => self.models[m].push(statement),
-            Current::Nothing => return Err(no_part(&statement)),
-            Current::Wrong => {}
-        }
-        Ok(())
-    }
-
-    fn model(&mut self, statement: Statement) -> Result<usize, TextError> {
-        let mut cursor = Cursor::new(&statement);
-        cursor.take();
-        let model = match cursor.peek_word() {
-            Some("1") => 0,
-            Some("2") => 1,
-            _ => return Err(cursor.unexpected("`1` (the student's model) or `2` (the course's)")),
-        };
-        if let Some(first) = self.models[model].first() {
-            return Err(twice(&statement, &format!("model {}", model + 1), first));
-        }
-        self.models[model].push(statement);
-        Ok(model)
-    }
-}
-
-/// The error that a statement begins no part.
-pub fn no_part(statement: &Statement) -> TextError {
-    let error = Cursor::new(statement)
-        .unexpected("`title`, `lattice`, `propositions`, `model 1`, `model 2` or `formula`");
-    match &statement[0].kind {
-        Kind::Word(word) => with_nearest(error, word, PARTS),
-        _ => error,
-    }
-}
-
-fn twice(statement: &Statement, what: &str, first: &Statement) -> TextError {
-    let expected = format!(
-        "expected it once: line {} begins it too",
-        first[0].span.line + 1
-    );
-    TextError::new(
-        names::whole(statement),
-        format!("{what} is given twice"),
-        expected,
-    )
-}
-
-fn title(statement: &Statement) -> Result<String, TextError> {
-    let mut cursor = Cursor::new(statement);
-    cursor.take();
-    match &statement[1..] {
-        [Token {
-            kind: Kind::Quoted(text),
-            ..
-        }] => Ok(text.clone()),
-        _ => Err(cursor.unexpected("a title in double quotes")),
+        _ => case_text(source, lexed, course),
     }
 }
 
 /// The names of the propositions.
-fn propositions(statements: &[Statement]) -> Result<Vec<String>, TextError> {
+fn propositions(statements: &[Statement]) -> Result<Vec<Name>, TextError> {
     let declared = names::declared(statements, "proposition")?;
     match declared.iter().find(|n| !name_allowed(&n.text)) {
-        None => Ok(names::texts(declared)),
+        None => Ok(declared),
         Some(name) => {
             let message = format!("`{}` cannot name a proposition", name.text);
             let expected = "expected a name that begins with a letter and is no word of formulas";
@@ -183,16 +73,22 @@ fn propositions(statements: &[Statement]) -> Result<Vec<String>, TextError> {
 }
 
 /// A text with a lattice, two models and formulas.
-fn case_text(source: Source, lexed: Lexed) -> Result<Text, Vec<TextError>> {
+fn case_text(source: Source, lexed: Lexed, course: bool) -> Result<Text, Vec<TextError>> {
     let end = Span {
         line: source.lines.len().saturating_sub(1),
         ..Span::default()
     };
-    let sections = Sections::sort(lexed.statements)?;
-    missing(&sections, end).map_err(|e| vec![e])?;
+    let mut sections = Sections::sort(lexed.statements)?;
+    let course_alone = course && sections.models[0].is_empty();
+    if course_alone {
+        sections.models[0] = sections.models[1].clone();
+    }
+    sections.missing(end).map_err(|e| vec![e])?;
     let lattice = lattice_text::parse(&sections.lattice)?;
-    let propositions = propositions(&sections.propositions).map_err(|e| vec![e])?;
-    let places = places(&sections);
+    let declared = propositions(&sections.propositions).map_err(|e| vec![e])?;
+    let mut places = places(&sections);
+    places.propositions = declared.iter().map(|name| name.span).collect();
+    let propositions = names::texts(declared);
     let (models, formulas) = models_and_formulas(&sections, &lattice, &propositions)?;
     let case = Case {
         head: lexed.head,
@@ -202,41 +98,23 @@ fn case_text(source: Source, lexed: Lexed) -> Result<Text, Vec<TextError>> {
         models,
         formulas,
     };
-    let bytes = encode(&case).map_err(|too_long| {
-        let span = places.get(too_long.part).or(places.last()).copied().unwrap_or(end);
-        vec![TextError::new(
-            span,
-            "the case is too long to be written",
-            "expected this part to start and end below byte 65,536 (the desk takes cases of at most 32,768 bytes)",
-        )]
-    })?;
+    let bytes = encode(&case).map_err(|error| vec![too_long(&places, error.part, end)])?;
     Ok(Text {
         source,
         case: Some(case),
         bytes,
         places,
         byte_places: Vec::new(),
+        course_alone,
     })
 }
 
-/// Says which of the parts that a case must have is not there.
-fn missing(sections: &Sections, end: Span) -> Result<(), TextError> {
-    let parts = [
-        (&sections.lattice, "lattice"),
-        (&sections.models[0], "model 1"),
-        (&sections.models[1], "model 2"),
-    ];
-    match parts.iter().find(|(statements, _)| statements.is_empty()) {
-        None => Ok(()),
-        Some((_, part)) => {
-            let expected = format!("expected a line `{part}` before the end of the text");
-            Err(TextError::new(
-                end,
-                format!("`{part}` is missing"),
-                expected,
-            ))
-        }
-    }
+/// The error that a part does not start or end where the directory can say it.
+fn too_long(places: &Places, part: usize, end: Span) -> TextError {
+    let span = places.parts.get(part).or(places.parts.last());
+    let message = "the case is too long to be written";
+    let expected = "expected this part to start and end below byte 65,536 (the desk takes cases of at most 32,768 bytes)";
+    TextError::new(span.copied().unwrap_or(end), message, expected)
 }
 
 /// Both models and all formulas; the errors of all of them together.
@@ -262,6 +140,7 @@ fn models_and_formulas(
                 .collect();
             errors.extend(formulas.err().into_iter().flatten());
             errors.sort_by_key(|e| (e.span.line, e.span.start));
+            errors.dedup();
             Err(errors)
         }
     }
@@ -308,17 +187,19 @@ fn formula(
     ))
 }
 
-fn places(sections: &Sections) -> Vec<Span> {
+/// Where the parts and the states stand; propositions are put to it by the caller.
+fn places(sections: &Sections) -> Places {
     let firsts = [
         &sections.lattice[0],
         &sections.models[0][0],
         &sections.models[1][0],
     ];
-    firsts
-        .into_iter()
-        .chain(&sections.formulas)
-        .map(|s| names::whole(s))
-        .collect()
+    let parts = firsts.into_iter().chain(&sections.formulas);
+    Places {
+        parts: parts.map(|s| names::whole(s)).collect(),
+        states: [0, 1].map(|m| model_text::state_places(&sections.models[m])),
+        propositions: Vec::new(),
+    }
 }
 
 /// A text `bytes` with the numbers of the bytes, in parentheses where they go over several lines.
@@ -352,8 +233,9 @@ fn bytes_text(source: Source, lexed: &Lexed) -> Result<Text, Vec<TextError>> {
         source,
         case,
         bytes,
-        places: Vec::new(),
+        places: Places::default(),
         byte_places: spans,
+        course_alone: false,
     })
 }
 
@@ -368,8 +250,8 @@ impl Text {
         let part = usize::from(part);
         if self.byte_places.is_empty() {
             return match number {
-                2 => self.places.get(11).copied(),
-                _ => self.places.get(part).copied(),
+                2 => self.places.parts.get(11).copied(),
+                _ => self.places.parts.get(part).copied(),
             };
         }
         let pair = 1 + 4 * part;

@@ -1,4 +1,4 @@
-//! What docs/TEXT-FORM.md shows is so.
+//! What the documents show is so: the case and the refusal in docs/TEXT-FORM.md, and what follows each command.
 
 mod common;
 
@@ -30,9 +30,37 @@ fn blocks(document: &str) -> Vec<String> {
     blocks
 }
 
+/// What a command in a document prints, run in the repository's root: messages, then output.
+fn printed(command: &str) -> String {
+    let root = folder("../..").display().to_string();
+    let in_root = |word: &str| match word.starts_with("examples/") {
+        true => format!("{root}/{word}"),
+        false => word.to_string(),
+    };
+    let words: Vec<String> = command.split_whitespace().map(in_root).collect();
+    let ran = run(&words.iter().map(String::as_str).collect::<Vec<_>>(), &[]);
+    format!("{}{}", ran.err, ran.text()).replace(&format!("{root}/"), "")
+}
+
+#[test]
+fn commands_print_what_follows_them() {
+    for (document, least) in [("GUIDE.md", 9), ("TEXT-FORM.md", 4)] {
+        let blocks = blocks(&text(&folder("../../docs").join(document)));
+        let commands = blocks.iter().filter_map(|b| b.strip_prefix("$ koelchair "));
+        let mut count = 0;
+        for block in commands {
+            let (command, expected) = block.split_once('\n').expect("a line");
+            assert_eq!(printed(command), expected, "{document}: {command}");
+            count += 1;
+        }
+        assert!(count >= least, "{document}: {count} commands");
+    }
+}
+
 #[test]
 fn the_case_and_the_refusal_are_those_of_the_tool() {
-    let blocks = blocks(&text(&folder("../../docs/TEXT-FORM.md")));
+    let mut blocks = blocks(&text(&folder("../../docs/TEXT-FORM.md")));
+    blocks.retain(|b| !b.starts_with("$ "));
     let [case, refusal] = &blocks[..] else {
         panic!("two blocks, not {}", blocks.len())
     };

@@ -1,45 +1,123 @@
 //! `check`: is the case accepted, and what does it hold.
 
-use super::{open, read_text, Arguments, Opened, Outcome};
+use super::{document, open, read_course, Arguments, Opened, Outcome, Printed};
 use crate::formula::Formula;
 use crate::formula_text;
+use crate::json::{array, object, string, strings};
+use crate::listing;
+use crate::model::Model;
+use crate::warnings::{self, ends, warnings};
 use std::fmt::Write;
 use std::io::Read;
 
 /// Runs `check`.
 pub fn check(arguments: &[String], input: &mut dyn Read) -> Outcome {
-    let arguments = Arguments::read(arguments, &["--bytes"], &[])?;
+    let arguments = Arguments::read(
+        arguments,
+        &["--bytes", "--deny-warnings", "--json"],
+        &["--course"],
+    )?;
     let [file] = arguments.exactly(["FILE"])?;
-    let opened = open(read_text(file, &arguments, input)?)?;
-    Ok(contents(&opened).into_bytes())
+    let opened = open(read_course(file, &arguments, input)?)?;
+    let list = warnings(&opened.text, &opened.case);
+    let printed = match arguments.has("--json") {
+        true => {
+            let mut fields = fields(&opened);
+            let said = list.iter().map(|w| warnings::json(&opened.text, w));
+            fields.push(("warnings", array(said)));
+            document("check", fields)
+        }
+        false => contents(&opened),
+    };
+    Ok(Printed::new(printed).with_warnings(&opened.text, &list, &arguments))
+}
+
+/// What the course's model scores against itself, of a course's file alone.
+fn ceiling(opened: &Opened) -> Option<String> {
+    let listing = listing::of(&opened.text.bytes).filter(|_| opened.text.course_alone)?;
+    Some(opened.case.element(listing.score))
+}
+
+/// The numbers of the models that the text has.
+fn models(opened: &Opened) -> impl Iterator<Item = (usize, &Model)> {
+    let models = opened.case.models.iter().enumerate();
+    models.skip(usize::from(opened.text.course_alone))
 }
 
 fn contents(opened: &Opened) -> String {
     let case = &opened.case;
-    let mut text = format!("accepted, {} bytes\n", opened.text.bytes.len());
+    let mut text = match ceiling(opened) {
+        None => format!("accepted, {} bytes\n", opened.text.bytes.len()),
+        Some(ceiling) => format!(
+            "accepted as a course's file: it has no model 1\nceiling, the course's model against itself: {ceiling}\n"
+        ),
+    };
     let _ = writeln!(text, "lattice, elements: {}", case.lattice.size());
     let propositions = match case.propositions.is_empty() {
         true => "none".to_string(),
         false => case.propositions.join(" "),
     };
     let _ = writeln!(text, "propositions: {propositions}");
-    for (i, model) in case.models.iter().enumerate() {
+    for (i, model) in models(opened) {
         let title = model
             .title
             .as_ref()
             .map_or(String::new(), |t| format!(" ({t})"));
-        let _ = writeln!(text, "model {}{title}, states: {}", i + 1, model.size());
+        let ends = match end_states(opened, model) {
+            ends if ends.is_empty() => String::new(),
+            ends => format!("; leads nowhere: {}", ends.join(" ")),
+        };
+        let (number, states) = (i + 1, model.size());
+        let _ = writeln!(text, "model {number}{title}, states: {states}{ends}");
     }
     for named in &case.formulas {
         let formula = formula_text::print(&named.formula, &case.propositions);
-        let _ = writeln!(
-            text,
-            "formula {}: {formula}\n  {}",
-            named.name,
-            bounded(&named.formula)
-        );
+        let (name, bounded) = (&named.name, bounded(&named.formula));
+        let _ = writeln!(text, "formula {name}: {formula}\n  {bounded}");
     }
     text
+}
+
+/// The states of a model from which no transition goes on.
+fn end_states<'a>(opened: &Opened, model: &'a Model) -> Vec<&'a str> {
+    let bottom = opened.case.lattice.left_out();
+    let names = model.states.iter().enumerate();
+    names
+        .filter(|(q, _)| ends(model, *q, bottom))
+        .map(|(_, name)| name.as_str())
+        .collect()
+}
+
+fn fields(opened: &Opened) -> Vec<(&'static str, String)> {
+    let case = &opened.case;
+    let or_null = |said: Option<&str>| said.map_or("null".to_string(), string);
+    let model = |(i, model): (usize, &Model)| {
+        object(&[
+            ("number", (i + 1).to_string()),
+            ("title", or_null(model.title.as_deref())),
+            ("states", strings(&model.states)),
+            ("leadsNowhere", strings(end_states(opened, model))),
+        ])
+    };
+    let formulas = case.formulas.iter().map(|named| {
+        let text = formula_text::print(&named.formula, &case.propositions);
+        object(&[
+            ("name", string(&named.name)),
+            ("formula", string(&text)),
+            ("coveredFrom", covered_from(&named.formula)),
+        ])
+    });
+    let n = case.lattice.size();
+    vec![
+        ("accepted", "true".to_string()),
+        ("title", or_null(case.title.as_deref())),
+        ("bytes", opened.text.bytes.len().to_string()),
+        ("elements", strings((0..n).map(|a| case.lattice.name(a)))),
+        ("propositions", strings(&case.propositions)),
+        ("models", array(models(opened).map(model))),
+        ("formulas", array(formulas)),
+        ("ceiling", or_null(ceiling(opened).as_deref())),
+    ]
 }
 
 /// From when on a pair's entry is at most 'not its value in model 2, joined with its value in model 1' (demand 3).
@@ -53,5 +131,14 @@ fn bounded(formula: &Formula) -> String {
             nested + 1
         ),
         _ => "entries bound it once settled".to_string(),
+    }
+}
+
+/// The same as JSON: a round, `"settled"`, or null.
+fn covered_from(formula: &Formula) -> String {
+    match (formula.universal(), formula.nested_binders()) {
+        (false, _) => "null".to_string(),
+        (true, 0) => (formula.nested_ax() + 1).to_string(),
+        _ => string("settled"),
     }
 }

@@ -1,6 +1,6 @@
 //! `decode`: from bytes to text.
 
-use super::{read_bytes, Arguments, Outcome};
+use super::{read_bytes, Arguments, Outcome, Printed};
 use crate::print::print_bytes;
 use std::io::Read;
 
@@ -9,5 +9,5 @@ pub fn decode(arguments: &[String], input: &mut dyn Read) -> Outcome {
     let arguments = Arguments::read(arguments, &[], &[])?;
     let [file] = arguments.exactly(["FILE"])?;
     let bytes = read_bytes(file, input)?;
-    Ok(print_bytes(&bytes).into_bytes())
+    Ok(Printed::new(print_bytes(&bytes)))
 }

@@ -1,9 +1,11 @@
 //! `explain`: what held the entry of a pair down, round by round. The entries are the library's; the parts of each entry are
-//! worked out by this tool (`tables`) and compared with it.
+//! worked out by this tool (`tables`) and compared with it; that they differ would be an error.
 
-use super::{open, read_text, Arguments, Failure, Opened, Outcome};
+use super::{open, read_text, Arguments, Failure, Opened, Outcome, Printed};
 use crate::case::Case;
 use crate::errors::nearest;
+use crate::progress::Progress;
+use crate::rounds::finish_round;
 use crate::tables::{parts, Answer, Operations, Part};
 use koelchair::StepAnswer;
 use std::fmt::Write;
@@ -11,7 +13,7 @@ use std::io::Read;
 
 /// Runs `explain`.
 pub fn explain(arguments: &[String], input: &mut dyn Read) -> Outcome {
-    let arguments = Arguments::read(arguments, &["--all", "--bytes"], &[])?;
+    let arguments = Arguments::read(arguments, &["--all", "--bytes"], &["--course"])?;
     let [file, state1, state2] = arguments.exactly(["FILE", "STATE1", "STATE2"])?;
     let mut opened = open(read_text(file, &arguments, input)?)?;
     let pair = (
@@ -29,11 +31,11 @@ pub fn explain(arguments: &[String], input: &mut dyn Read) -> Outcome {
         pair,
         all: arguments.has("--all"),
     };
-    explanation.rounds(&mut opened).map(String::into_bytes)
+    explanation.rounds(&mut opened).map(Printed::new)
 }
 
 /// The number of a state of a model.
-fn state(case: &Case, model: usize, name: &str) -> Result<usize, Failure> {
+pub fn state(case: &Case, model: usize, name: &str) -> Result<usize, Failure> {
     let states = &case.models[model].states;
     states.iter().position(|s| s == name).ok_or_else(|| {
         let near = nearest(name, states.iter().map(String::as_str));
@@ -56,13 +58,11 @@ impl Explanation {
         let mut before = opened.desk.show().to_vec();
         let mut text = self.heading(&opened.case, before[place]);
         let mut agrees = true;
+        let mut progress = Progress::new("round");
         loop {
-            let answer = opened.desk.finish_round();
-            let (StepAnswer::Round(round) | StepAnswer::Settled(round)) = answer else {
-                continue;
-            };
-            let entry = opened.desk.show()[place];
-            let settled = matches!(answer, StepAnswer::Settled(_));
+            let settled = matches!(finish_round(&mut opened.desk), StepAnswer::Settled(_));
+            let (entry, round) = (opened.desk.show()[place], opened.desk.standing().round);
+            progress.at(round);
             let last = if settled { " (settled)" } else { "" };
             let _ = writeln!(text, "round {round}{last}: {}", opened.case.element(entry));
             agrees &= self.entry(&opened.case, &before, entry, &mut text);
@@ -94,14 +94,13 @@ impl Explanation {
         let meet = parts.iter().fold(self.operations.top, |meet, part| {
             self.operations.meet(meet, part.gives())
         });
-        let _ = match meet == entry {
-            true => writeln!(text, "  these parts meet to the library's entry"),
-            false => writeln!(
+        if meet != entry {
+            let meet = case.element(meet);
+            let _ = writeln!(
                 text,
-                "  ERROR: these parts meet to {}, which is not the library's entry",
-                case.element(meet)
-            ),
-        };
+                "  ERROR: these parts meet to {meet}, which is not the library's entry"
+            );
+        }
         meet == entry
     }
 
@@ -187,7 +186,10 @@ mod tests {
         };
         let mut text = String::new();
         assert!(explanation.entry(&case, &[1], 0, &mut text));
-        assert!(text.ends_with("these parts meet to the library's entry\n"));
+        assert_eq!(
+            text,
+            "  no: proposition p is yes in model 1 and no in model 2\n"
+        );
         assert!(!explanation.entry(&case, &[1], 1, &mut text));
         let wrong = "ERROR: these parts meet to no, which is not the library's entry\n";
         assert!(text.ends_with(wrong));

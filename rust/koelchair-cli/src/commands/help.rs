@@ -1,35 +1,66 @@
 //! What `--help` says.
 
 /// Sub-command, usage, what it does.
-const COMMANDS: [(&str, &str, &str); 7] = [
+const COMMANDS: [(&str, &str, &str); 10] = [
     (
         "check",
-        "koelchair check [--bytes] FILE",
+        "koelchair check [--json] [--deny-warnings] FILE",
         "Reads a case and says whether the desk accepts it, what it holds, and from which round on entries bound each formula.\n\
-         A refusal is said in words, with its number, its part and where that part stands in the text.",
+         A refusal is said in words, with its number, its part and where that part stands in the text. A course's file, which\n\
+         has no model 1, is checked with its model against itself.",
     ),
     (
         "report",
-        "koelchair report [--names] [--values] [--share ELEMENT]... [--bytes] FILE",
+        "koelchair report [--names] [--values] [--share ELEMENT]... [--json] [--deny-warnings] FILE",
         "Prints the listing: T, the settled table, the score, and each formula's value on both models.\n\
          --names   names in place of numbers\n\
          --values  also each formula's value at each state\n\
          --share   also the per cent of entries at or above this element",
     ),
     (
+        "mark",
+        "koelchair mark [--csv | --json] [--page FOLDER] [--share ELEMENT] [--deny-warnings] COURSE STUDENT...",
+        "Marks students' drawings, a row for each: score, formulas, share, warnings, and whether the ceiling is reached, which is\n\
+         what the course's model scores against itself. COURSE has the lattice, the propositions, model 2 and the formulas, and\n\
+         each STUDENT model 1 alone. A drawing that cannot be marked does not stop the others. COURSE alone is checked.\n\
+         --csv     comma-separated values, with the reasons\n\
+         --page    also writes a class page, FOLDER/index.html, which leads to a page for each student\n\
+         --share   the element whose share of the entries is given; the ceiling if none is named",
+    ),
+    (
+        "why",
+        "koelchair why [--all] [--json] FILE [STATE1 STATE2]",
+        "Why the score is not higher, or the entry of a state of the student's and one of the course's: from pair to pair, in the\n\
+         round in which each fell, down to the proposition that differs or the transition that is not answered. In a panel for\n\
+         each instructor by himself.\n\
+         --all     every step of a long way",
+    ),
+    (
         "step",
-        "koelchair step [--rounds R] [--bytes] FILE",
+        "koelchair step [--rounds R] [--json] FILE",
         "Prints the table after each round with names, and the score that it would give. Rows are states of model 1, columns\n\
          states of model 2. Only the settled table is a result.\n\
          --rounds  stops after round R",
     ),
     (
         "explain",
-        "koelchair explain [--all] [--bytes] FILE STATE1 STATE2",
+        "koelchair explain [--all] FILE STATE1 STATE2",
         "For a state of model 1 and a state of model 2: their entry in each round, and what held it down: a proposition, or a\n\
          transition of model 1 with its best answer in model 2. Entries come from the library, the parts of an entry from\n\
-         this tool; it says whether they meet to the library's entry.\n\
+         this tool; that they did not meet to the library's entry would be an error.\n\
          --all     also parts that are top",
+    ),
+    (
+        "page",
+        "koelchair page [--deny-warnings] FILE",
+        "Writes a page of HTML to standard output, to be shown to a class. It needs no network. Its address can say what is shown,\n\
+         as in page.html#round=2&pair=STATE1,STATE2&theme=dark.",
+    ),
+    (
+        "dot",
+        "koelchair dot FILE",
+        "Writes both models as a drawing for Graphviz: `koelchair dot FILE | dot -Tsvg > models.svg`. An arrow whose value is not\n\
+         top is dashed and says it.",
     ),
     (
         "encode",
@@ -43,17 +74,25 @@ const COMMANDS: [(&str, &str, &str); 7] = [
         "Reads the bytes of a case and prints it as text, with names e0, q0, p0, f0 and so on. Bytes that have not the form of\n\
          a case are printed as a text of `bytes`.",
     ),
-    (
-        "page",
-        "koelchair page [--bytes] FILE",
-        "Writes a page of HTML to standard output, to be shown to a class. It needs no network. Its address can say what is shown,\n\
-         as in page.html#round=2&pair=STATE1,STATE2&theme=dark.",
-    ),
 ];
+
+/// What holds for several sub-commands.
+const COMMON: &str =
+    "FILE is a file's name, or - for standard input.\n\
+     --course COURSE  FILE has model 1 alone, and COURSE the rest (all but mark and decode)\n\
+     --bytes          FILE holds the bytes of a case, not its text (all but mark, encode and decode)\n\
+     --json           what is said as JSON, on one line (docs/TEXT-FORM.md gives its form)\n\
+     --deny-warnings  a warning is an error\n\
+     Exit status: 0 all well, 1 refused by the desk, 2 the text or the command is wrong, or something cannot be written.\n";
+
+/// The names of the sub-commands.
+pub fn names() -> impl Iterator<Item = &'static str> {
+    COMMANDS.iter().map(|(name, ..)| *name)
+}
 
 /// Whether there is such a sub-command.
 pub fn known(command: &str) -> bool {
-    COMMANDS.iter().any(|(name, ..)| *name == command)
+    names().any(|name| name == command)
 }
 
 /// How a sub-command, or the tool, is called.
@@ -61,7 +100,7 @@ pub fn usage(command: Option<&str>) -> String {
     match COMMANDS.iter().find(|(name, ..)| Some(*name) == command) {
         Some((_, usage, _)) => format!("usage: {usage}"),
         None => {
-            let names: Vec<&str> = COMMANDS.iter().map(|(name, ..)| *name).collect();
+            let names: Vec<&str> = names().collect();
             format!("usage: koelchair {} ...", names.join("|"))
         }
     }
@@ -69,10 +108,8 @@ pub fn usage(command: Option<&str>) -> String {
 
 /// The help of a sub-command, or of the tool.
 pub fn of(command: Option<&str>) -> String {
-    let common = "FILE is a file's name, or - for standard input. --bytes: FILE holds the bytes of a case, not its text.\n\
-                  Exit status: 0 all well, 1 refused by the desk, 2 the text or the command is wrong.\n";
     if let Some((_, usage, does)) = COMMANDS.iter().find(|(name, ..)| Some(*name) == command) {
-        return format!("{usage}\n\n{does}\n\n{common}");
+        return format!("{usage}\n\n{does}\n\n{COMMON}");
     }
     let list: String = COMMANDS
         .iter()
@@ -80,6 +117,6 @@ pub fn of(command: Option<&str>) -> String {
         .collect();
     format!(
         "koelchair: cases of latticed simulation as text and as bytes, and what the proved desk says of them\n\n{list}\n\
-         {common}koelchair SUB-COMMAND --help says more; --version gives the version. The text form is in docs/TEXT-FORM.md.\n"
+         {COMMON}koelchair SUB-COMMAND --help says more; --version gives the version. The text form is in docs/TEXT-FORM.md.\n"
     )
 }

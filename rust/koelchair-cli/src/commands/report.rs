@@ -1,16 +1,27 @@
-//! `report`: the listing of document 01, or the same with names.
+//! `report`: the listing of document 01, or the same with names. Names are put to the numbers of the library's listing.
 
-use super::{open, read_text, table, Arguments, Failure, Opened, Outcome};
+use super::{document, open, read_text, table, Arguments, Failure, Opened, Outcome, Printed};
 use crate::errors::Source;
+use crate::json::{array, object, string, strings};
 use crate::lattice_text;
 use crate::lexer::{lex, Cursor};
+use crate::listing::{self, Listing};
+use crate::rounds::settle;
+use crate::warnings::{self, warnings, Warning};
 use koelchair::{Element, State};
 use std::fmt::Write;
 use std::io::Read;
 
 /// Runs `report`.
 pub fn report(arguments: &[String], input: &mut dyn Read) -> Outcome {
-    let arguments = Arguments::read(arguments, &["--names", "--values", "--bytes"], &["--share"])?;
+    let flags = [
+        "--names",
+        "--values",
+        "--bytes",
+        "--deny-warnings",
+        "--json",
+    ];
+    let arguments = Arguments::read(arguments, &flags, &["--course", "--share"])?;
     let [file] = arguments.exactly(["FILE"])?;
     let text = read_text(file, &arguments, input)?;
     let bytes = text.bytes.clone();
@@ -20,75 +31,108 @@ pub fn report(arguments: &[String], input: &mut dyn Read) -> Outcome {
         }
         other => other,
     })?;
-    let mut printed = match arguments.has("--names") {
-        true => named_listing(&mut opened),
-        false => koelchair::listing(&bytes),
+    let shares: Vec<&str> = arguments.values("--share").collect();
+    let shares = shares_of(&mut opened, &shares)?;
+    let list = warnings(&opened.text, &opened.case);
+    let values = arguments.has("--values");
+    let printed = match (arguments.has("--json"), arguments.has("--names")) {
+        (true, _) => json(&opened, &shares, values, &list)?,
+        (false, names) => {
+            let mut printed = match names {
+                true => named_listing(&opened)?,
+                false => koelchair::listing(&bytes),
+            };
+            if values {
+                printed.push_str(&values_text(&opened));
+            }
+            for (element, share) in shares {
+                let _ = writeln!(printed, "share {}: {share} %", opened.case.element(element));
+            }
+            printed
+        }
     };
-    if arguments.has("--values") || arguments.has("--share") {
-        opened.desk.settle();
-    }
-    if arguments.has("--values") {
-        printed.push_str(&values(&opened));
-    }
-    for share in arguments.values("--share") {
-        printed.push_str(&share_line(&opened, share)?);
-    }
-    Ok(printed.into_bytes())
+    Ok(Printed::new(printed).with_warnings(&opened.text, &list, &arguments))
 }
 
-/// The listing with names in place of numbers, from the calls of the library.
-fn named_listing(opened: &mut Opened) -> String {
-    let mut text = format!("rounds {}\n", opened.desk.settle());
+/// The numbers of the library's listing.
+fn numbers(opened: &Opened) -> Result<Listing, Failure> {
+    let unread = || Failure::Other("this tool cannot read the library's listing".to_string());
+    listing::of(&opened.text.bytes).ok_or_else(unread)
+}
+
+/// The listing with names in place of numbers.
+fn named_listing(opened: &Opened) -> Result<String, Failure> {
+    let (case, listing) = (&opened.case, numbers(opened)?);
+    let name = |e: &u8| case.element(*e);
+    let mut rows = vec![vec!["columns:".to_string()]];
+    rows[0].extend(case.models[1].states.iter().cloned());
+    for (state, row) in case.models[0].states.iter().zip(&listing.rows) {
+        let mut cells = vec![format!("row {state}:")];
+        cells.extend(row.iter().map(name));
+        rows.push(cells);
+    }
+    let mut text = format!("rounds {}\n", listing.rounds);
+    text.push_str(&table::aligned(&rows, ""));
+    let _ = writeln!(text, "score {}", name(&listing.score));
+    for (named, [student, course]) in case.formulas.iter().zip(&listing.formulas) {
+        let (formula, student, course) = (&named.name, name(student), name(course));
+        let _ = writeln!(
+            text,
+            "formula {formula}: student {student}, course {course}"
+        );
+    }
+    Ok(text)
+}
+
+/// A formula's value at each state of a model.
+fn values_of(opened: &Opened, formula: usize, model: usize) -> Vec<String> {
     let (case, desk) = (&opened.case, &opened.desk);
-    for (state, row) in case.models[0]
-        .states
-        .iter()
-        .zip(desk.show().chunks(case.models[1].size()))
-    {
-        let entries: Vec<String> = row.iter().map(|e| case.element(*e)).collect();
-        let _ = writeln!(text, "row {state}: {}", entries.join(" "));
-    }
-    let _ = writeln!(text, "score {}", case.element(desk.score().0));
-    for (f, named) in case.formulas.iter().enumerate() {
-        let whole = |model| {
-            desk.whole(f as u8, model)
-                .map_or("refused".to_string(), |e| case.element(e.0))
-        };
-        let _ = writeln!(text, "formula {}: {} {}", named.name, whole(1), whole(2));
-    }
-    text
+    let value = |q: usize| match desk.value(formula as u8, model as u8 + 1, State(q as u8)) {
+        Ok(element) => case.element(element.0),
+        Err(_) => "refused".to_string(),
+    };
+    (0..case.models[model].size()).map(value).collect()
 }
 
 /// Each formula's value at each state of both models.
-fn values(opened: &Opened) -> String {
-    let (case, desk) = (&opened.case, &opened.desk);
+fn values_text(opened: &Opened) -> String {
+    let case = &opened.case;
     let mut text = String::new();
     if case.formulas.is_empty() {
         return text;
     }
     for (m, model) in case.models.iter().enumerate() {
         let _ = writeln!(text, "values in model {}", m + 1);
-        let mut rows = vec![std::iter::once(String::new())
-            .chain(model.states.iter().cloned())
-            .collect()];
+        let mut rows = vec![vec![String::new()]];
+        rows[0].extend(model.states.iter().cloned());
         for (f, named) in case.formulas.iter().enumerate() {
-            let value = |q: usize| match desk.value(f as u8, m as u8 + 1, State(q as u8)) {
-                Ok(element) => case.element(element.0),
-                Err(_) => "refused".to_string(),
-            };
-            rows.push(
-                std::iter::once(named.name.clone())
-                    .chain((0..model.size()).map(value))
-                    .collect(),
-            );
+            let mut row = vec![named.name.clone()];
+            row.extend(values_of(opened, f, m));
+            rows.push(row);
         }
         text.push_str(&table::columns(&rows));
     }
     text
 }
 
-/// The per cent of entries at or above an element that is written as in a text.
-fn share_line(opened: &Opened, written: &str) -> Result<String, Failure> {
+/// Elements that are written as in a text, each with the per cent of entries at or above it. Afterwards the desk is settled.
+fn shares_of(opened: &mut Opened, written: &[&str]) -> Result<Vec<(u8, u8)>, Failure> {
+    let elements: Vec<u8> = written
+        .iter()
+        .map(|w| element(opened, w))
+        .collect::<Result<_, _>>()?;
+    if !elements.is_empty() {
+        settle(&mut opened.desk);
+    }
+    let share = |e: u8| match opened.desk.share(Element(e)) {
+        Ok(share) => Ok((e, share)),
+        Err(refusal) => Err(Failure::Other(refusal.to_string())),
+    };
+    elements.into_iter().map(share).collect()
+}
+
+/// The element that an option gives, written as in a text.
+pub fn element(opened: &Opened, written: &str) -> Result<u8, Failure> {
     let source = Source::new("--share", written);
     let failed = |error| Failure::Text(source.clone(), vec![error]);
     let lexed = lex(&source).map_err(failed)?;
@@ -101,8 +145,51 @@ fn share_line(opened: &Opened, written: &str) -> Result<String, Failure> {
     cursor
         .expect_end("the end of the element")
         .map_err(failed)?;
-    match opened.desk.share(Element(element)) {
-        Ok(share) => Ok(format!("share {}: {share}\n", opened.case.element(element))),
-        Err(refusal) => Err(Failure::Other(refusal.to_string())),
+    Ok(element)
+}
+
+fn json(
+    opened: &Opened,
+    shares: &[(u8, u8)],
+    values: bool,
+    list: &[Warning],
+) -> Result<String, Failure> {
+    let (case, listing) = (&opened.case, numbers(opened)?);
+    let name = |e: u8| string(&case.element(e));
+    let row = |row: &Vec<u8>| array(row.iter().map(|e| name(*e)));
+    let share = |(element, share): &(u8, u8)| {
+        object(&[("element", name(*element)), ("percent", share.to_string())])
+    };
+    let formulas = listing.formulas.iter().enumerate();
+    let formulas = formulas.map(|(f, whole)| formula_json(opened, f, *whole, values));
+    let fields = vec![
+        ("accepted", "true".to_string()),
+        ("rounds", listing.rounds.to_string()),
+        ("rows", strings(&case.models[0].states)),
+        ("columns", strings(&case.models[1].states)),
+        ("table", array(listing.rows.iter().map(row))),
+        ("score", name(listing.score)),
+        ("formulas", array(formulas)),
+        ("shares", array(shares.iter().map(share))),
+        (
+            "warnings",
+            array(list.iter().map(|w| warnings::json(&opened.text, w))),
+        ),
+    ];
+    Ok(document("report", fields))
+}
+
+/// A formula with its values on both models, and at their states where these are wanted.
+fn formula_json(opened: &Opened, f: usize, [student, course]: [u8; 2], values: bool) -> String {
+    let case = &opened.case;
+    let mut fields = vec![
+        ("name", string(&case.formulas[f].name)),
+        ("student", string(&case.element(student))),
+        ("course", string(&case.element(course))),
+    ];
+    if values {
+        let [of_student, of_course] = [0, 1].map(|m| strings(values_of(opened, f, m)));
+        fields.extend([("studentStates", of_student), ("courseStates", of_course)]);
     }
+    object(&fields)
 }

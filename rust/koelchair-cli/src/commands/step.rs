@@ -1,13 +1,17 @@
 //! `step`: the table after each round.
 
-use super::{open, read_text, table, Arguments, Failure, Opened, Outcome};
-use koelchair::StepAnswer;
+use super::{document, open, read_text, table, Arguments, Failure, Opened, Outcome, Printed};
+use crate::case::Case;
+use crate::json::{array, object, string, strings};
+use crate::progress::Progress;
+use crate::rounds::finish_round;
+use koelchair::{Desk, StepAnswer};
 use std::fmt::Write;
 use std::io::Read;
 
 /// Runs `step`.
 pub fn step(arguments: &[String], input: &mut dyn Read) -> Outcome {
-    let arguments = Arguments::read(arguments, &["--bytes"], &["--rounds"])?;
+    let arguments = Arguments::read(arguments, &["--bytes", "--json"], &["--course", "--rounds"])?;
     let [file] = arguments.exactly(["FILE"])?;
     let most = match arguments.values("--rounds").last() {
         None => u32::MAX,
@@ -16,49 +20,82 @@ pub fn step(arguments: &[String], input: &mut dyn Read) -> Outcome {
             .map_err(|_| Failure::Usage(format!("`{number}` is no number of rounds")))?,
     };
     let mut opened = open(read_text(file, &arguments, input)?)?;
-    let mut text = shown(&opened, "round 0");
-    loop {
-        if opened.desk.standing().round >= most {
-            text.push_str("stopped here: not settled, so this table is no result\n");
-            return Ok(text.into_bytes());
+    let printed = match arguments.has("--json") {
+        true => json(&mut opened, most),
+        false => words(&mut opened, most),
+    };
+    Ok(Printed::new(printed))
+}
+
+/// Works rounds up to the settled one, or to `most`; each is given with whether it is settled.
+fn rounds(opened: &mut Opened, most: u32, mut each: impl FnMut(&Case, &Desk, bool)) {
+    let mut progress = Progress::new("round");
+    each(&opened.case, &opened.desk, false);
+    while opened.desk.standing().round < most {
+        let settled = matches!(finish_round(&mut opened.desk), StepAnswer::Settled(_));
+        each(&opened.case, &opened.desk, settled);
+        if settled {
+            return;
         }
-        match opened.desk.finish_round() {
-            StepAnswer::Row => {}
-            StepAnswer::Round(round) => text.push_str(&shown(&opened, &format!("round {round}"))),
-            StepAnswer::Settled(round) => {
-                let _ = writeln!(
-                    text,
-                    "round {round} equals round {}: settled, T = {round}",
-                    round - 1
-                );
-                let _ = writeln!(text, "score {}", opened.case.element(opened.desk.score().0));
-                return Ok(text.into_bytes());
-            }
-        }
+        progress.at(opened.desk.standing().round);
     }
 }
 
-/// The shown table under a heading, with the score that it would give.
-fn shown(opened: &Opened, heading: &str) -> String {
-    let (case, desk) = (&opened.case, &opened.desk);
-    let columns = &case.models[1].states;
-    let mut rows = vec![std::iter::once(String::new())
-        .chain(columns.iter().cloned())
-        .collect()];
-    for (state, row) in case.models[0]
-        .states
-        .iter()
-        .zip(desk.show().chunks(columns.len()))
-    {
-        rows.push(
-            std::iter::once(state.clone())
-                .chain(row.iter().map(|e| case.element(*e)))
-                .collect(),
-        );
+fn words(opened: &mut Opened, most: u32) -> String {
+    let mut text = String::new();
+    rounds(opened, most, |case, desk, settled| {
+        let round = desk.standing().round;
+        let (entries, score) = (entries(case, desk), case.element(desk.score().0));
+        let _ = match settled {
+            true => write!(
+                text,
+                "round {round} equals round {}: settled, T = {round}\n{entries}score {score}\n",
+                round - 1
+            ),
+            false => write!(
+                text,
+                "round {round}: not a result\n{entries}  score of this table: {score}\n"
+            ),
+        };
+    });
+    if !opened.desk.standing().settled {
+        text.push_str("stopped here: not settled, so this table is no result\n");
     }
-    let score = case.element(desk.score().0);
-    format!(
-        "{heading}\n{}  score of this table: {score}\n",
-        table::columns(&rows)
-    )
+    text
+}
+
+/// The shown table with names.
+fn entries(case: &Case, desk: &Desk) -> String {
+    let columns = &case.models[1].states;
+    let mut rows = vec![vec![String::new()]];
+    rows[0].extend(columns.iter().cloned());
+    let lines = desk.show().chunks(columns.len());
+    for (state, line) in case.models[0].states.iter().zip(lines) {
+        let mut row = vec![state.clone()];
+        row.extend(line.iter().map(|e| case.element(*e)));
+        rows.push(row);
+    }
+    table::columns(&rows)
+}
+
+fn json(opened: &mut Opened, most: u32) -> String {
+    let mut list = Vec::new();
+    rounds(opened, most, |case, desk, settled| {
+        let columns = case.models[1].size();
+        let row = |row: &[u8]| strings(row.iter().map(|e| case.element(*e)));
+        list.push(object(&[
+            ("round", desk.standing().round.to_string()),
+            ("result", settled.to_string()),
+            ("table", array(desk.show().chunks(columns).map(row))),
+            ("score", string(&case.element(desk.score().0))),
+        ]));
+    });
+    let fields = vec![
+        ("accepted", "true".to_string()),
+        ("settled", opened.desk.standing().settled.to_string()),
+        ("rows", strings(&opened.case.models[0].states)),
+        ("columns", strings(&opened.case.models[1].states)),
+        ("rounds", array(list)),
+    ];
+    document("step", fields)
 }

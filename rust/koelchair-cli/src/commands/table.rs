@@ -1,7 +1,12 @@
 //! Tables of names in columns.
 
-/// Rows of cells, each column as wide as its widest cell.
+/// Rows of cells set in by two blanks, each column as wide as its widest cell.
 pub fn columns(rows: &[Vec<String>]) -> String {
+    aligned(rows, "  ")
+}
+
+/// Rows of cells behind a margin, each column as wide as its widest cell.
+pub fn aligned(rows: &[Vec<String>], margin: &str) -> String {
     let count = rows.iter().map(Vec::len).max().unwrap_or(0);
     let width = |c: usize| {
         rows.iter()
@@ -18,7 +23,7 @@ pub fn columns(rows: &[Vec<String>]) -> String {
             .zip(&widths)
             .map(|(cell, w)| format!("{cell:<w$}"))
             .collect();
-        text.push_str("  ");
+        text.push_str(margin);
         text.push_str(cells.join("  ").trim_end());
         text.push('\n');
     }

@@ -2,13 +2,15 @@
 //! transitions and the order are those of the case. Heights, covering pairs and the table of (not a) joined with b come from the
 //! order, by `tables` as in `explain`: the library has no call for a single operation of the lattice.
 
-use super::json::{array, numbers, object, string, strings};
 use crate::case::{Case, NamedFormula};
 use crate::commands::{Failure, Opened};
 use crate::formula_text;
+use crate::json::{array, numbers, object, string, strings};
 use crate::lattice::Lattice;
 use crate::lattice_text::covers;
 use crate::model::Model;
+use crate::progress::Progress;
+use crate::rounds::finish_round;
 use crate::tables::Operations;
 use koelchair::{Desk, Element, State, StepAnswer};
 
@@ -49,9 +51,11 @@ pub fn of(opened: &mut Opened) -> Result<String, Failure> {
 /// The last is the round that the library calls settled. An entry never rises, so there are at most N1·N2·(n − 1) changes.
 fn rounds(desk: &mut Desk) -> Vec<String> {
     let mut rounds = vec![numbers([desk.score().0])];
+    let mut progress = Progress::new("round");
     loop {
         let before = desk.show().to_vec();
-        let answer = desk.finish_round();
+        let answer = finish_round(desk);
+        progress.at(desk.standing().round);
         let changes = desk
             .show()
             .iter()

@@ -3,7 +3,7 @@
 
 use koelchair::{Desk, Refusal};
 use koelchair_cli::case::{Case, NamedFormula};
-use koelchair_cli::formula::Formula;
+use koelchair_cli::formula::{Formula, Ways};
 use koelchair_cli::lattice::{Lattice, OrderTable};
 use koelchair_cli::model::Model;
 use std::fmt::Write;
@@ -167,7 +167,7 @@ impl Random {
         let choice = if depth == 0 {
             self.below(5)
         } else {
-            self.below(12)
+            self.below(13)
         };
         let binder = binders < 3;
         match choice {
@@ -191,6 +191,7 @@ impl Random {
                 self.one_of(&["x".to_string(), "y".into()]),
                 self.inner(depth, k, binders + 1),
             ),
+            12 if binder => Formula::Ways(self.one_of(&Ways::ALL), Box::new(self.formula(0, k, 0))),
             _ => Formula::Top,
         }
     }

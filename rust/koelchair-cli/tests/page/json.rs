@@ -1,8 +1,10 @@
-//! A reader of JSON, for what `page` writes.
+//! A reader of JSON, for what the tool writes.
+#![allow(dead_code)]
 
 /// A value.
 #[derive(Debug, PartialEq)]
 pub enum Json {
+    Null,
     Number(usize),
     Bool(bool),
     String(String),
@@ -82,6 +84,10 @@ impl Reader {
             '[' => Json::Array(self.list(']', Reader::value)),
             '{' => Json::Object(self.list('}', Reader::field)),
             '"' => Json::String(self.string()),
+            'n' => {
+                self.take("null");
+                Json::Null
+            }
             't' => {
                 self.take("true");
                 Json::Bool(true)

@@ -55,3 +55,13 @@ pub fn text(text: &str) -> String {
     };
     text.chars().map(escaped).collect()
 }
+
+/// Text between tags, with what stands between backquotes as code.
+pub fn text_with_code(said: &str) -> String {
+    let parts = said.split('`').enumerate();
+    let tag = |(i, part): (usize, &str)| match i % 2 {
+        1 => format!("<code>{}</code>", text(part)),
+        _ => text(part),
+    };
+    parts.map(tag).collect()
+}

@@ -6,7 +6,7 @@ use crate::tables::{greatest, Operations};
 use koelchair::Refusal;
 
 /// What breaks the rule, by name.
-pub fn why(case: &Case, bytes: &[u8], refusal: Refusal) -> Option<String> {
+pub fn note(case: &Case, bytes: &[u8], refusal: Refusal) -> Option<String> {
     let lattice = &case.lattice;
     match refusal {
         Refusal::CaseSize => Some(format!("the case has {} bytes", bytes.len())),

@@ -1,0 +1,284 @@
+//! What `why` says, in words.
+
+use super::{Answer, Reason};
+use crate::case::Case;
+use crate::reasons::{Cause, Difference, Initial, Step, Tried};
+use crate::views::View;
+use std::fmt::Write;
+
+/// So many steps are shown at each end of a long way.
+const ENDS: usize = 4;
+
+/// So many of the answers that are no better than the best are shown.
+const MOST_OTHERS: usize = 3;
+
+/// The answer as text; a way of many steps is cut in the middle unless all of it is wanted.
+pub fn text(case: &Case, answer: &Answer, all: bool) -> String {
+    let mut text = heading(case, answer);
+    for reason in &answer.reasons {
+        let view = reason.view();
+        let words = Words { case, view: &view };
+        text.push('\n');
+        text.push_str(&words.reason(answer, reason, all));
+    }
+    text
+}
+
+/// A sentence for each reason: whose view it is, and the cause.
+pub fn in_short(case: &Case, answer: &Answer) -> Vec<String> {
+    let sentence = |reason: &Reason| {
+        let view = reason.view();
+        let words = Words { case, view: &view };
+        let label = words.label(answer, reason).replace('\n', " ");
+        let short = match (&reason.initial, reason.way.is_empty()) {
+            (Some(initial), true) => words.initial(initial),
+            _ => words.sentence(&reason.way),
+        };
+        format!("{label}{short}").trim_end().to_string()
+    };
+    answer.reasons.iter().map(sentence).collect()
+}
+
+fn heading(case: &Case, answer: &Answer) -> String {
+    let element = case.element(answer.element);
+    let mut text = match answer.pair {
+        None => format!("The score is {element}"),
+        Some((q1, q2)) => {
+            let [student, course] = [(0, q1), (1, q2)].map(|(m, q)| &case.models[m].states[q]);
+            format!("The course's {course} follows the student's {student}: {element}")
+        }
+    };
+    let _ = writeln!(text, " (settled at round {}).", answer.rounds);
+    if let (None, Some(ceiling)) = (answer.pair, answer.ceiling) {
+        let name = case.element(ceiling);
+        let _ = match ceiling == answer.element {
+            true => writeln!(
+                text,
+                "The course's model against itself scores {name} too, so the drawing reaches the ceiling."
+            ),
+            false => writeln!(text, "The ceiling, the course's model against itself, is {name}."),
+        };
+    }
+    let _ = match (answer.top, answer.pair, answer.no_initial) {
+        (true, None, true) => writeln!(
+            text,
+            "But the student's model has no initial state, so that nothing was compared."
+        ),
+        (true, ..) => writeln!(text, "It is top in every round: nothing holds it down."),
+        _ => Ok(()),
+    };
+    text
+}
+
+/// The words of one view.
+struct Words<'a> {
+    case: &'a Case,
+    view: &'a View,
+}
+
+impl Words<'_> {
+    fn state(&self, model: usize, state: usize) -> &str {
+        &self.case.models[model].states[state]
+    }
+
+    fn element(&self, element: u8) -> String {
+        self.view.name(&self.case.lattice, element)
+    }
+
+    /// A value behind an arrow or a state, unless it is top.
+    fn unless_top(&self, value: u8) -> String {
+        let top = self.case.lattice.top().map(|t| self.element(t as u8));
+        match self.element(value) {
+            name if top.as_ref() == Some(&name) => String::new(),
+            name => format!(" ({name})"),
+        }
+    }
+
+    fn reason(&self, answer: &Answer, reason: &Reason, all: bool) -> String {
+        let mut text = self.label(answer, reason);
+        if let Some(initial) = &reason.initial {
+            text.push_str(&self.initial(initial));
+        }
+        let hidden = match reason.way.len() > 3 * ENDS && !all {
+            true => ENDS..reason.way.len() - ENDS,
+            false => 0..0,
+        };
+        for (i, step) in reason.way.iter().enumerate() {
+            if !hidden.contains(&i) {
+                text.push_str(&self.step(i + 1, step));
+            } else if i == hidden.start {
+                let count = hidden.len();
+                let _ = writeln!(text, "   ... {count} more steps (all with --all) ...");
+            }
+        }
+        text.push_str(&self.in_short(&reason.way));
+        text
+    }
+
+    /// Whose view it is, and what the entry or the score is in it.
+    fn label(&self, answer: &Answer, reason: &Reason) -> String {
+        let labels: Vec<&str> = reason.views.iter().map(|v| v.label.as_str()).collect();
+        match labels[..] {
+            [""] => String::new(),
+            [one] => format!("For {one}: {}\n", self.element(answer.element)),
+            _ => format!(
+                "For {}: {}\n",
+                labels.join(" and "),
+                self.element(answer.element)
+            ),
+        }
+    }
+
+    fn initial(&self, initial: &Initial) -> String {
+        let state = self.state(0, initial.state);
+        let value = self.unless_top(initial.value);
+        let mut text = format!("The student begins at {state}{value}. ");
+        match &initial.answers[..] {
+            [] => text.push_str("The course has no initial state.\n"),
+            [best, others @ ..] => {
+                let to = self.state(1, best.to);
+                let _ = match best.low {
+                    true => writeln!(
+                        text,
+                        "The course begins at {to} only with {}.",
+                        self.element(best.value)
+                    ),
+                    false => writeln!(text, "The course begins at {to}; see 1."),
+                };
+                text.push_str(&self.others(initial.state, None, others, ""));
+            }
+        }
+        text
+    }
+
+    fn step(&self, number: usize, step: &Step) -> String {
+        let (q1, q2) = step.pair;
+        let (student, course) = (self.state(0, q1), self.state(1, q2));
+        let [before, after] = [step.entries.0, step.entries.1].map(|e| self.element(e));
+        let (earlier, round) = (step.round - 1, step.round);
+        let mut text = format!(
+            "{number}. student {student}, course {course}: {before} in round {earlier}, {after} in round {round}\n"
+        );
+        match &step.cause {
+            Cause::Propositions(list) => {
+                for difference in list {
+                    let _ = writeln!(text, "   {}.", self.proposition(difference));
+                }
+            }
+            Cause::Transition { to, value, answers } => {
+                let target = self.state(0, *to);
+                let value = self.unless_top(*value);
+                let _ = write!(text, "   The student goes {student} -> {target}{value}. ");
+                text.push_str(&self.answers(number, q2, answers));
+                let others = answers.get(1..).unwrap_or_default();
+                text.push_str(&self.others(*to, Some(q2), others, "   "));
+            }
+        }
+        text
+    }
+
+    fn answers(&self, number: usize, from: usize, answers: &[Tried]) -> String {
+        let from = self.state(1, from);
+        match answers.first() {
+            None => format!("The course has no transition from {from}.\n"),
+            Some(best) if best.low => format!(
+                "The course's {from} -> {} is only {}.\n",
+                self.state(1, best.to),
+                self.element(best.value)
+            ),
+            Some(best) => format!(
+                "The course's best answer is {from} -> {}{}; see {}.\n",
+                self.state(1, best.to),
+                self.unless_top(best.value),
+                number + 1
+            ),
+        }
+    }
+
+    /// The answers that are no better than the best, from a state of the course's or as its initial states.
+    fn others(&self, to: usize, from: Option<usize>, others: &[Tried], margin: &str) -> String {
+        let said = |t: &Tried| {
+            let (target, state) = (self.state(0, to), self.state(1, t.to));
+            let arrow = from.map_or(String::new(), |q| format!("{} -> ", self.state(1, q)));
+            match t.fell {
+                Some(round) if !t.low => {
+                    format!(
+                        "{arrow}{state} (student {target}, course {state} fell in round {round})"
+                    )
+                }
+                _ => format!("{arrow}{state} (only {})", self.element(t.value)),
+            }
+        };
+        let mut list: Vec<String> = others.iter().take(MOST_OTHERS).map(said).collect();
+        if others.len() > MOST_OTHERS {
+            list.push(format!("{} more", others.len() - MOST_OTHERS));
+        }
+        match list.is_empty() {
+            true => String::new(),
+            false => format!("{margin}No better: {}.\n", list.join(", ")),
+        }
+    }
+
+    fn proposition(&self, difference: &Difference) -> String {
+        let name = format!("`{}`", self.case.propositions[difference.proposition]);
+        let [student, course] = difference.values.map(|v| self.element(v));
+        match student == course {
+            true => {
+                let gives = self.element(difference.gives);
+                format!("{name} is {student} for both, and compared with itself that gives {gives}")
+            }
+            false => format!("{name} is {student} for the student and {course} for the course"),
+        }
+    }
+
+    fn in_short(&self, way: &[Step]) -> String {
+        match self.sentence(way) {
+            said if said.is_empty() => said,
+            said => format!("In short: {said}\n"),
+        }
+    }
+
+    /// The way of the student's to the cause, and the cause, in one sentence.
+    fn sentence(&self, way: &[Step]) -> String {
+        let Some(last) = way.last() else {
+            return String::new();
+        };
+        let (path, course) = (self.path(way), self.state(1, last.pair.1));
+        match &last.cause {
+            Cause::Propositions(list) => {
+                let said: Vec<String> = list.iter().map(|d| self.proposition(d)).collect();
+                let said = said.join(", ");
+                match way.len() {
+                    1 => format!("at {path} (the course at {course}) {said}."),
+                    _ => {
+                        format!("the student can go {path}; there (the course at {course}) {said}.")
+                    }
+                }
+            }
+            Cause::Transition { to, answers, .. } => {
+                let target = self.state(0, *to);
+                let goes_on = match answers.first() {
+                    None => "does not go on".to_string(),
+                    Some(best) => {
+                        let (to, value) = (self.state(1, best.to), self.element(best.value));
+                        format!("goes on to {to} only with {value}")
+                    }
+                };
+                format!(
+                    "the student can go {path} -> {target}, and the course at {course} {goes_on}."
+                )
+            }
+        }
+    }
+
+    /// The student's states on the way; of a long way the first and the last.
+    fn path(&self, way: &[Step]) -> String {
+        let states: Vec<&str> = way.iter().map(|s| self.state(0, s.pair.0)).collect();
+        match &states[..] {
+            [first, .., last] if states.len() > 3 * ENDS => {
+                format!("{first} -> ... -> {last} in {} steps", states.len() - 1)
+            }
+            list => list.join(" -> "),
+        }
+    }
+}
