@@ -1,6 +1,6 @@
 -- The test that an accepted part passes: its order is that of the codes, the | of a code and an irreducible element's code is a code, and so is 0.
 -- Exactly the distributive lattices pass it. Rests on order's Ordered, Bounds and Tests, words' Bits and Laws, Tests, Order, Lattice, Birkhoff.
---   set-code: every set of irreducible elements that has those below its own is the code of an element
+--   DownSet, CodeAt, set-code: every set of irreducible elements that has those below its own is the code of an element
 --   DistributiveLattice: a partial order with all meets and joins, and distributive
 --   lattice-sound: what passes is one; test-complete: each one passes; lattice-exactly: both; bottom-code: the code of the bottom is 0
 use Prim.Native.Nat.{ℕ, zero, suc, _^_, _≤_, _<_}
@@ -52,6 +52,11 @@ or-in-r : (a b : Bool) → b ≡ true → (a || b) ≡ true
 or-in-r true b e = refl
 or-in-r false b e = e
 
+-- a set of irreducible elements that has those at or below its own
+pub record DownSet (P : LatticePart) (p : ℕ → Bool) : Type 0 where
+  pub simples : (e : ℕ) → e < P .size → p e ≡ true → irreducible (P .size) (downOf P) e ≡ true
+  pub lower : (e i : ℕ) → e < P .size → i < P .size → p e ≡ true → below P e i ≡ true → p i ≡ true
+
 -- ---- what passes is a distributive lattice
 
 module _ (P : LatticePart) (t : ordered (P .size) (downOf P) (codeOf P) ≡ true) (g : closed (P .size) (codeOf P) (irreducibles (P .size) (downOf P)) true ≡ true) (z : isWord (P .size) (codeOf P) 0 ≡ true) where
@@ -68,18 +73,13 @@ module _ (P : LatticePart) (t : ordered (P .size) (downOf P) (codeOf P) ≡ true
       rw (or-comm (codeOf P e) (codeOf P a)) at
       (code-at P _ (⇒-elim (within (2 ^ e) (irreducibles (P .size) (downOf P))) _ (all2-at (P .size) (pairClosed (P .size) (codeOf P) (irreducibles (P .size) (downOf P)) true) g e a k l) (bits-at (P .size) simple e k ∙ s)))
 
-  -- a set of irreducible elements that has those at or below its own
-  record DownSet (p : ℕ → Bool) : Type 0 where
-    simples : (e : ℕ) → e < P .size → p e ≡ true → simple e ≡ true
-    lower : (e i : ℕ) → e < P .size → i < P .size → p e ≡ true → below P e i ≡ true → p i ≡ true
-
   -- x has no bits but those of p, and has those of the first k elements
   record Part (p : ℕ → Bool) (k x : ℕ) : Type 0 where
     inside : x < P .size
     under : (i : ℕ) → i < P .size → below P x i ≡ true → p i ≡ true
     over : (e : ℕ) → e < k → p e ≡ true → below P x e ≡ true
 
-  module _ (p : ℕ → Bool) (d : DownSet p) where
+  module _ (p : ℕ → Bool) (d : DownSet P p) where
     part : (k : ℕ) → k ≤ P .size → (x : ℕ) × Part p k x
     part zero h =
         let w = code-at P 0 z in
@@ -112,7 +112,7 @@ module _ (P : LatticePart) (t : ordered (P .size) (downOf P) (codeOf P) ≡ true
               },
             )
 
-    set-code : CodeAt P (bits (P .size) p)
+    pub set-code : CodeAt P (bits (P .size) p)
     set-code =
         let w = part (P .size) (le-refl _) in
         record {
@@ -186,7 +186,7 @@ module _ (P : LatticePart) (some : 0 < P .size) (D : DistributiveLattice P) wher
           let y = without-r (λ i. P .order i e) e (r .lower) s in
           x (D .order .anti .same (r .lower) e (r .inside) l y (D .order .trans e m (r .lower) l (w .inside) (r .inside) t (w .above (r .lower) (r .inside))))
 
-  test-complete : latticeTest P ≡ true
+  pub test-complete : latticeTest P ≡ true
   unfolding closed pairClosed isWord
   test-complete =
       let m = bounded-meets P (D .bounds) in

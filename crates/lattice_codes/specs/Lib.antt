@@ -14,5 +14,7 @@ pub mod Irreducible
 pub mod Accepting
 -- the codes of a lattice and of its complements hold its operations
 pub mod Held
+-- Birkhoff's theorem as one statement
+pub mod Representation
 -- ---- for the code
 pub mod Cong
