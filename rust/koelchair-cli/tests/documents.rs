@@ -75,6 +75,14 @@ fn the_case_and_the_refusal_are_those_of_the_tool() {
 }
 
 #[test]
+fn the_guide_has_a_student_s_file() {
+    let file = text(&folder("../../examples/class/students/kamil.case"));
+    let (_, without_comment) = file.split_once('\n').expect("a line");
+    let blocks = blocks(&text(&folder("../../docs/GUIDE.md")));
+    assert!(blocks.iter().any(|b| b == without_comment));
+}
+
+#[test]
 fn the_bytes_have_the_listing() {
     let blocks = blocks(&text(&folder("../../docs/SPECIFICATION.md")));
     let [case, listing] = &blocks[..] else {
