@@ -40,7 +40,7 @@ extern "C" {
 #define KOELCHAIR_STORE_LENGTH 24576   /* a store has at least as many */
 #define KOELCHAIR_TABLE_LENGTH 4096    /* a table has at least as many */
 #define KOELCHAIR_CASE_MOST 32768      /* a case has at most as many */
-#define KOELCHAIR_LISTING_LENGTH 16384 /* the text of koelchair_listing has exactly as many */
+#define KOELCHAIR_LISTING_LENGTH 16384 /* the text of koelchair_listing has at least as many */
 
 /* ---- sizes of what a case holds: at most so many */
 
@@ -252,8 +252,8 @@ koelchair_desk_sizes koelchair_sizes(koelchair_standing standing,
 /* ---- the listing */
 
 /* Writes what the program `report` prints for a case at the start of the text: the rounds, the table at which they settle, the score and
-   each formula's whole values, or a line with the refusal. Reads the case; writes only these bytes, and returns how many they are. The
-   text has KOELCHAIR_LISTING_LENGTH bytes. It needs no desk. */
+   each formula's whole values, or a line with the refusal. Reads the case; writes only these bytes, with no 0 after them, and returns how
+   many they are. The text has KOELCHAIR_LISTING_LENGTH bytes or more, and does not overlap the case. It needs no desk. */
 size_t koelchair_listing(const uint8_t *case_bytes, size_t case_length, uint8_t *text);
 
 #ifdef __cplusplus

@@ -12,7 +12,7 @@ pub fn text(bytes: Vec<u8>) -> Result<String, String> {
     }
 }
 
-const NO_TEXT: &str = "this is no text (for the bytes of a case: --bytes)";
+const NO_TEXT: &str = "this is no text (the bytes of a case are read with --bytes, and `koelchair decode` gives their text)";
 
 /// Whether a byte is a control character that no text has.
 fn control(byte: u8) -> bool {

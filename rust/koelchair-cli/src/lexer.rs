@@ -33,7 +33,7 @@ const SIGNS: [&str; 14] = [
 ];
 
 /// Signs of other languages, each with what is meant; longer ones before their beginnings.
-const MISTAKEN: [(&str, &str); 19] = [
+const MISTAKEN: [(&str, &str); 22] = [
     ("<=>", "`(p & q) | (!p & !q)`"),
     ("<->", "`(p & q) | (!p & !q)`"),
     ("-->", "`->`"),
@@ -53,6 +53,9 @@ const MISTAKEN: [(&str, &str); 19] = [
     ("→", "`->`"),
     ("≤", "`<=`"),
     ("//", "`#` for a comment"),
+    ("“", "`\"`"),
+    ("”", "`\"`"),
+    ("„", "`\"`"),
 ];
 
 /// The statements of a text, and the comment lines at its head without their `#`.

@@ -1,4 +1,5 @@
-//! What the documents show is so: the case and the refusal in docs/TEXT-FORM.md, and what follows each command.
+//! What the documents show is so: the case and the refusal in docs/TEXT-FORM.md, what follows each command, and the bytes and the
+//! listing in docs/SPECIFICATION.md.
 
 mod common;
 
@@ -71,4 +72,28 @@ fn the_case_and_the_refusal_are_those_of_the_tool() {
     let said = run(&["check", &example.display().to_string()], &[]).err;
     let folder = folder("../../examples").display().to_string();
     assert_eq!(said.replace(&folder, "examples"), *refusal);
+}
+
+#[test]
+fn the_guide_has_a_student_s_file() {
+    let file = text(&folder("../../examples/class/students/kamil.case"));
+    let (_, without_comment) = file.split_once('\n').expect("a line");
+    let blocks = blocks(&text(&folder("../../docs/GUIDE.md")));
+    assert!(blocks.iter().any(|b| b == without_comment));
+}
+
+#[test]
+fn the_bytes_have_the_listing() {
+    let blocks = blocks(&text(&folder("../../docs/SPECIFICATION.md")));
+    let [case, listing] = &blocks[..] else {
+        panic!("two blocks, not {}", blocks.len())
+    };
+    let numbers = |line: &str| {
+        let words = line.split_whitespace();
+        words.map_while(|w| w.parse().ok()).collect::<Vec<u8>>()
+    };
+    let bytes: Vec<u8> = case.lines().flat_map(numbers).collect();
+    assert_eq!(bytes.len(), 42);
+    let ran = run(&["report", "--bytes", "-"], &bytes);
+    assert_eq!((ran.status, &ran.text()), (0, listing));
 }

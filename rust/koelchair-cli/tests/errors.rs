@@ -73,7 +73,7 @@ fn wrong_commands_are_said() {
     );
     usage_error(
         &["explain", &example],
-        "expected FILE STATE1 STATE2, got 1 arguments",
+        "expected FILE STATE1 STATE2, got 1 argument",
     );
     usage_error(
         &["explain", &example, "od", "old"],
@@ -81,7 +81,7 @@ fn wrong_commands_are_said() {
     );
     usage_error(
         &["explain", &example, "old", "elsewhere"],
-        "`elsewhere` is no state of model 2",
+        "`elsewhere` is no state of model 2; expected one of `old`, `between`, `new`",
     );
     usage_error(
         &["report", "--share", "", &example],
@@ -90,6 +90,14 @@ fn wrong_commands_are_said() {
     usage_error(
         &["report", "--share", "maybe", &example],
         "`maybe` is no element",
+    );
+    usage_error(
+        &["mark", "--csv", "--json", &example],
+        "expected one of `--csv` and `--json`, got both",
+    );
+    usage_error(
+        &["check", "src/"],
+        "src/: this is a folder; name the files in it, as src/*.case",
     );
     usage_error(
         &["check", "no-such-file"],
@@ -103,7 +111,7 @@ fn bytes_are_no_text() {
     assert_eq!(ran.status, 2);
     assert_eq!(
         ran.err,
-        "error: <stdin>: this is no text (for the bytes of a case: --bytes)\n"
+        "error: <stdin>: this is no text (the bytes of a case are read with --bytes, and `koelchair decode` gives their text)\n"
     );
 }
 

@@ -65,6 +65,18 @@ fn the_page_has_the_options() {
 }
 
 #[test]
+fn a_help_has_the_options_of_its_command() {
+    for command in commands() {
+        let help = options(&said(&[&command, "--help"]));
+        for option in ["--course", "--bytes", "--json", "--deny-warnings"] {
+            let refused = format!("the option `{option}` is not known here");
+            let known = !run(&[&command, option], &[]).err.contains(&refused);
+            assert_eq!(help.contains(option), known, "{command} {option}");
+        }
+    }
+}
+
+#[test]
 fn the_page_has_the_version() {
     let version = said(&["--version"]);
     assert!(page().contains(&format!("\"{}\"", version.trim_end())));

@@ -55,13 +55,18 @@ impl Arguments {
     /// The plain arguments if there are so many, else an error with their names.
     pub fn exactly<const N: usize>(&self, names: [&str; N]) -> Result<[&str; N], Failure> {
         let wrong = || {
-            Failure::Usage(format!(
-                "expected {}, got {} arguments",
-                names.join(" "),
-                self.plain.len()
-            ))
+            let (names, got) = (names.join(" "), count(self.plain.len()));
+            Failure::Usage(format!("expected {names}, got {got}"))
         };
         let list: Vec<&str> = self.plain.iter().map(String::as_str).collect();
         list.try_into().map_err(|_| wrong())
+    }
+}
+
+/// How many arguments there are, in words.
+pub fn count(arguments: usize) -> String {
+    match arguments {
+        1 => "1 argument".to_string(),
+        n => format!("{n} arguments"),
     }
 }

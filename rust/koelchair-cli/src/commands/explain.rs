@@ -3,7 +3,7 @@
 
 use super::{open, read_text, Arguments, Failure, Opened, Outcome, Printed};
 use crate::case::Case;
-use crate::errors::nearest;
+use crate::errors::{expected_one_of, nearest};
 use crate::progress::Progress;
 use crate::rounds::finish_round;
 use crate::tables::{parts, Answer, Operations, Part};
@@ -38,9 +38,13 @@ pub fn explain(arguments: &[String], input: &mut dyn Read) -> Outcome {
 pub fn state(case: &Case, model: usize, name: &str) -> Result<usize, Failure> {
     let states = &case.models[model].states;
     states.iter().position(|s| s == name).ok_or_else(|| {
-        let near = nearest(name, states.iter().map(String::as_str));
-        let help = near.map_or(String::new(), |n| format!("; a similar name is `{n}`"));
-        Failure::Usage(format!("`{name}` is no state of model {}{help}", model + 1))
+        let names = || states.iter().map(String::as_str);
+        let help = match nearest(name, names()) {
+            Some(near) => format!("a similar name is `{near}`"),
+            None => expected_one_of(names()),
+        };
+        let model = model + 1;
+        Failure::Usage(format!("`{name}` is no state of model {model}; {help}"))
     })
 }
 

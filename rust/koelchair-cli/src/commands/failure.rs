@@ -139,7 +139,7 @@ pub fn refusal_text(text: &Text, refusal: Refusal) -> String {
 }
 
 /// Whether bytes are the letters of a text.
-fn letters(bytes: &[u8]) -> bool {
+pub fn letters(bytes: &[u8]) -> bool {
     let text = std::str::from_utf8(bytes).unwrap_or_default();
     text.contains('\n')
         && text

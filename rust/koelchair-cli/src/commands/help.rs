@@ -76,14 +76,46 @@ const COMMANDS: [(&str, &str, &str); 10] = [
     ),
 ];
 
-/// What holds for several sub-commands.
-const COMMON: &str =
-    "FILE is a file's name, or - for standard input.\n\
-     --course COURSE  FILE has model 1 alone, and COURSE the rest (all but mark and decode)\n\
-     --bytes          FILE holds the bytes of a case, not its text (all but mark, encode and decode)\n\
-     --json           what is said as JSON, on one line (docs/TEXT-FORM.md gives its form)\n\
-     --deny-warnings  a warning is an error\n\
-     Exit status: 0 all well, 1 refused by the desk, 2 the text or the command is wrong, or something cannot be written.\n";
+/// The options of several sub-commands: what is said of each, and the sub-commands that have it.
+const SHARED: [(&str, &str); 4] = [
+    (
+        "--course COURSE  FILE has model 1 alone, and COURSE the rest",
+        "check, report, why, step, explain, page, dot, encode",
+    ),
+    (
+        "--bytes          FILE holds the bytes of a case, not its text",
+        "check, report, why, step, explain, page, dot",
+    ),
+    (
+        "--json           what is said as JSON, on one line (docs/TEXT-FORM.md gives its form)",
+        "check, report, mark, why, step",
+    ),
+    (
+        "--deny-warnings  a warning is an error",
+        "check, report, mark, page",
+    ),
+];
+
+const EXIT_STATUS: &str =
+    "Exit status: 0 all well, 1 refused by the desk, 2 the text or the command is wrong, or something cannot be written.\n";
+
+/// What holds for several sub-commands, as far as this one has it; of all of them without one.
+fn common(command: Option<&str>) -> String {
+    let files = match command {
+        Some("mark") => {
+            "COURSE and STUDENT are names of files, or one of them - for standard input.\n"
+        }
+        _ => "FILE is a file's name, or - for standard input.\n",
+    };
+    let options = SHARED.iter().filter_map(|(option, having)| match command {
+        None => Some(format!("{option}\n                 ({having})\n")),
+        Some(name) => having
+            .split(", ")
+            .any(|h| h == name)
+            .then(|| format!("{option}\n")),
+    });
+    format!("{files}{}{EXIT_STATUS}", options.collect::<String>())
+}
 
 /// The names of the sub-commands.
 pub fn names() -> impl Iterator<Item = &'static str> {
@@ -109,7 +141,7 @@ pub fn usage(command: Option<&str>) -> String {
 /// The help of a sub-command, or of the tool.
 pub fn of(command: Option<&str>) -> String {
     if let Some((_, usage, does)) = COMMANDS.iter().find(|(name, ..)| Some(*name) == command) {
-        return format!("{usage}\n\n{does}\n\n{COMMON}");
+        return format!("{usage}\n\n{does}\n\n{}", common(command));
     }
     let list: String = COMMANDS
         .iter()
@@ -117,6 +149,7 @@ pub fn of(command: Option<&str>) -> String {
         .collect();
     format!(
         "koelchair: cases of latticed simulation as text and as bytes, and what the proved desk says of them\n\n{list}\n\
-         {COMMON}koelchair SUB-COMMAND --help says more; --version gives the version. The text form is in docs/TEXT-FORM.md.\n"
+         {}koelchair SUB-COMMAND --help says more; --version gives the version. The text form is in docs/TEXT-FORM.md.\n",
+        common(None)
     )
 }

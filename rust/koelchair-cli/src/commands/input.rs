@@ -8,7 +8,7 @@ use crate::errors::{Source, TextError};
 use crate::include::Loader;
 use crate::parse::{parse, parse_course, Places, Text};
 use koelchair::Desk;
-use std::io::Read;
+use std::io::{ErrorKind, Read};
 
 /// An accepted case on a desk.
 pub struct Opened {
@@ -29,7 +29,15 @@ pub fn read_bytes(file: &str, input: &mut dyn Read) -> Result<Vec<u8>, Failure> 
             Err(error) => Err(Failure::Other(format!("standard input: {error}"))),
         };
     }
-    std::fs::read(file).map_err(|error| Failure::Other(format!("{file}: {error}")))
+    std::fs::read(file).map_err(|error| {
+        Failure::Other(match error.kind() {
+            ErrorKind::IsADirectory => {
+                let folder = file.trim_end_matches('/');
+                format!("{file}: this is a folder; name the files in it, as {folder}/*.case")
+            }
+            _ => format!("{file}: {error}"),
+        })
+    })
 }
 
 /// The name by which errors speak of a file.

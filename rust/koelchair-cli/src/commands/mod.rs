@@ -16,7 +16,7 @@ mod step;
 mod table;
 mod why;
 
-pub use arguments::Arguments;
+pub use arguments::{count, Arguments};
 pub use failure::{refusal_text, Failure};
 pub use input::{open, read_bytes, read_course, read_text, Opened};
 

@@ -3,25 +3,27 @@
 use crate::case::Case;
 use crate::lattice::Lattice;
 use crate::tables::{greatest, Operations};
-use koelchair::Refusal;
+use koelchair::{
+    Refusal, BINDERS_MOST, CASE_MOST, ELEMENTS_MOST, FORMULAS_MOST, FORMULA_MOST,
+    PROPOSITIONS_MOST, STATES_MOST,
+};
 
 /// What breaks the rule, by name.
 pub fn note(case: &Case, bytes: &[u8], refusal: Refusal) -> Option<String> {
     let lattice = &case.lattice;
     match refusal {
-        Refusal::CaseSize => Some(format!("the case has {} bytes", bytes.len())),
-        Refusal::Directory => Some(format!("the case has {} parts", 3 + case.formulas.len())),
-        Refusal::LatticeForm => Some(format!("the lattice has {} elements", lattice.size())),
+        Refusal::CaseSize => over(bytes.len(), "bytes", CASE_MOST),
+        Refusal::Directory => over(case.formulas.len(), "formulas", FORMULAS_MOST),
+        Refusal::LatticeForm => over(lattice.size(), "elements", ELEMENTS_MOST),
         Refusal::NoPartialOrder => no_partial_order(lattice),
         Refusal::NoMeetOrJoin => no_meet_or_join(lattice),
         Refusal::NotDistributive => not_distributive(lattice),
         Refusal::BadComplement => complement(lattice),
         Refusal::BadModel(part @ (1 | 2)) => {
             let states = case.models[usize::from(part) - 1].size();
-            let k = case.propositions.len();
-            Some(format!(
-                "states: {states} (1 to 64); propositions: {k} (0 to 16)"
-            ))
+            let propositions = case.propositions.len();
+            over(states, "states", STATES_MOST)
+                .or_else(|| over(propositions, "propositions", PROPOSITIONS_MOST))
         }
         Refusal::BadFormula(part) => formula(case, usize::from(part)),
         _ => None,
@@ -33,10 +35,13 @@ fn formula(case: &Case, part: usize) -> Option<String> {
     let mut bytes = Vec::new();
     formula.write(&mut bytes);
     let binders = formula.nested_binders();
-    let length = bytes.len();
-    Some(format!(
-        "bytes: {length} (1 to 255); nested binders: {binders} (at most 3)"
-    ))
+    over(bytes.len(), "bytes", FORMULA_MOST)
+        .or_else(|| over(binders, "binders one within another", BINDERS_MOST))
+}
+
+/// That there are more of something than are accepted.
+fn over(count: usize, what: &str, most: usize) -> Option<String> {
+    (count > most).then(|| format!("{count} {what}; at most {most} are accepted"))
 }
 
 /// All pairs of elements.

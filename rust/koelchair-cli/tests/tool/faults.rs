@@ -35,8 +35,12 @@ fn bytes_and_text_are_told_apart() {
         std::str::from_utf8(&bytes).is_ok(),
         "these bytes could be a text"
     );
-    let expected = "error: <stdin>: this is no text (for the bytes of a case: --bytes)\n";
+    let expected = "error: <stdin>: this is no text (the bytes of a case are read with --bytes, and `koelchair decode` gives their text)\n";
     assert_eq!(said(&bytes), expected);
+    let decoded = run(&["decode", "-"], CLEAN.as_bytes());
+    let already = "help: this file is text already; `koelchair encode` gives its bytes\n";
+    assert_eq!((decoded.status, decoded.err.as_str()), (0, already));
+    assert_eq!(run(&["decode", "-"], &bytes).err, "");
     let text_as_bytes = run(&["check", "--bytes", "-"], CLEAN.as_bytes());
     assert_eq!(text_as_bytes.status, 1);
     assert!(text_as_bytes

@@ -144,6 +144,20 @@ fn the_class_page_leads_to_the_students_pages() {
 }
 
 #[test]
+fn each_instructor_of_a_panel_has_a_sentence() {
+    let panel = text(&folder("../../examples/panel-of-three.case"));
+    let (head, rest) = panel.split_once("model 1").expect("model 1");
+    let (student, course) = rest.split_once("model 2").expect("model 2");
+    let folder = scratch("panel-class");
+    let course = put(&folder, "course.case", &format!("{head}model 2{course}"));
+    let student = put(&folder, "student.case", &format!("model 1{student}"));
+    let ran = run(&["mark", "--csv", &course, &student], &[]);
+    let said = ",For instructor 1 (unsure): the student can go old -> half (unsure); there (the course at old) `whole` is no for the \
+                student and yes for the course.\n";
+    assert!(ran.text().ends_with(said), "{}", ran.text());
+}
+
+#[test]
 fn a_student_s_file_has_model_1_alone() {
     let folder = scratch("alone-in-file");
     let course = example("class/course.case");

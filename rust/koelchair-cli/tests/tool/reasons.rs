@@ -140,13 +140,16 @@ fn why(text: &str) -> String {
 
 #[test]
 fn the_score_is_followed_to_its_cause() {
-    assert!(why(CLEAN).ends_with("It is top in every round: nothing holds it down.\n"));
+    assert!(why(CLEAN).ends_with("The score is top in every round: nothing holds it down.\n"));
     let differs = altered(&[], &[("a b: p", "a: p")]);
     let said = "In short: the student can go a -> b; there (the course at c) `p` is no for the student and yes for the course.\n";
     assert!(why(&differs).ends_with(said), "{}", why(&differs));
     let unanswered = altered(&["c -> c"], &[]);
     let said = "In short: the student can go a -> b, and the course at c does not go on.\n";
     assert!(why(&unanswered).ends_with(said), "{}", why(&unanswered));
+    let unsure = altered(&[], &[("a b: p", "a: p"), ("a -> b", "a -> b: unsure")]);
+    let said = "In short: the student can go a -> b (unsure); there (the course at c) `p` is no for the student and yes for the course.\n";
+    assert!(why(&unsure).ends_with(said), "{}", why(&unsure));
     let weak = altered(&[], &[("c -> c", "c -> c: unsure")]);
     let said =
         "In short: the student can go a -> b, and the course at c goes on to c only with unsure.\n";
@@ -182,6 +185,23 @@ fn each_instructor_gets_a_reason() {
     let text = why(panel);
     assert!(text.contains("For instructor 1: unsure\n"), "{text}");
     assert!(text.contains("For instructor 2: no\n"), "{text}");
+}
+
+#[test]
+fn each_member_gets_a_reason() {
+    let power =
+        "lattice power a b\npropositions p\nmodel 1\n  states s\n  initial s\n  s: p = {a}\n\
+                 model 2\n  states c\n  initial c\n  c: p\n";
+    let text = why(power);
+    assert!(text.contains("For b, which {a} lacks\n"), "{text}");
+}
+
+#[test]
+fn a_score_above_the_ceiling_is_said() {
+    let above = altered(&["a -> b", "b -> a"], &[("c -> c", "c -> c: unsure")]);
+    let said =
+        "The ceiling, the course's model against itself, is unsure; the score is above it.\n";
+    assert!(why(&above).contains(said), "{}", why(&above));
 }
 
 #[test]

@@ -24,6 +24,10 @@ use student::Student;
 pub fn mark(arguments: &[String], input: &mut dyn Read) -> Outcome {
     let flags = ["--csv", "--json", "--deny-warnings"];
     let arguments = Arguments::read(arguments, &flags, &["--page", "--share"])?;
+    if arguments.has("--csv") && arguments.has("--json") {
+        let message = "expected one of `--csv` and `--json`, got both";
+        return Err(Failure::Usage(message.to_string()));
+    }
     let Some((file, files)) = arguments.plain.split_first() else {
         let message = "expected COURSE and the students' files, got 0 arguments";
         return Err(Failure::Usage(message.to_string()));

@@ -4,7 +4,7 @@ mod json;
 mod words;
 
 use super::explain::state;
-use super::{document, open, read_text, Arguments, Failure, Opened, Outcome, Printed};
+use super::{count, document, open, read_text, Arguments, Failure, Opened, Outcome, Printed};
 use crate::case::Case;
 use crate::encode::encode;
 use crate::listing;
@@ -22,8 +22,8 @@ pub fn why(arguments: &[String], input: &mut dyn Read) -> Outcome {
         [file, first, second] => (file, Some((first, second))),
         list => {
             return Err(Failure::Usage(format!(
-                "expected FILE, or FILE STATE1 STATE2, got {} arguments",
-                list.len()
+                "expected FILE, or FILE STATE1 STATE2, got {}",
+                count(list.len())
             )))
         }
     };

@@ -2,6 +2,7 @@
 
 use super::{Answer, Reason};
 use crate::case::Case;
+use crate::lattice::Lattice;
 use crate::reasons::{Cause, Difference, Initial, Step, Tried};
 use crate::views::View;
 use std::fmt::Write;
@@ -29,7 +30,11 @@ pub fn in_short(case: &Case, answer: &Answer) -> Vec<String> {
     let sentence = |reason: &Reason| {
         let view = reason.view();
         let words = Words { case, view: &view };
-        let label = words.label(answer, reason).replace('\n', " ");
+        let label = match words.label(answer, reason) {
+            Some((who, Of::Has(element))) => format!("For {who} ({element}): "),
+            Some((who, Of::Lacks(element))) => format!("For {who}, which {element} lacks: "),
+            None => String::new(),
+        };
         let short = match (&reason.initial, reason.way.is_empty()) {
             (Some(initial), true) => words.initial(initial),
             _ => words.sentence(&reason.way),
@@ -56,7 +61,17 @@ fn heading(case: &Case, answer: &Answer) -> String {
                 text,
                 "The course's model against itself scores {name} too, so the drawing reaches the ceiling."
             ),
-            false => writeln!(text, "The ceiling, the course's model against itself, is {name}."),
+            false => {
+                let [low, high] = [ceiling, answer.element].map(usize::from);
+                let above = match case.lattice.at_most(low, high) {
+                    true => "; the score is above it",
+                    false => "",
+                };
+                writeln!(
+                    text,
+                    "The ceiling, the course's model against itself, is {name}{above}."
+                )
+            }
         };
     }
     let _ = match (answer.top, answer.pair, answer.no_initial) {
@@ -64,10 +79,22 @@ fn heading(case: &Case, answer: &Answer) -> String {
             text,
             "But the student's model has no initial state, so that nothing was compared."
         ),
-        (true, ..) => writeln!(text, "It is top in every round: nothing holds it down."),
+        (true, pair, _) => {
+            let what = pair.map_or("score", |_| "entry");
+            writeln!(
+                text,
+                "The {what} is top in every round: nothing holds it down."
+            )
+        }
         _ => Ok(()),
     };
     text
+}
+
+/// What the entry or the score is in a view: this element, or a set without the member that the view is of.
+enum Of {
+    Has(String),
+    Lacks(String),
 }
 
 /// The words of one view.
@@ -95,7 +122,11 @@ impl Words<'_> {
     }
 
     fn reason(&self, answer: &Answer, reason: &Reason, all: bool) -> String {
-        let mut text = self.label(answer, reason);
+        let mut text = match self.label(answer, reason) {
+            Some((who, Of::Has(element))) => format!("For {who}: {element}\n"),
+            Some((who, Of::Lacks(element))) => format!("For {who}, which {element} lacks\n"),
+            None => String::new(),
+        };
         if let Some(initial) = &reason.initial {
             text.push_str(&self.initial(initial));
         }
@@ -116,17 +147,17 @@ impl Words<'_> {
     }
 
     /// Whose view it is, and what the entry or the score is in it.
-    fn label(&self, answer: &Answer, reason: &Reason) -> String {
+    fn label(&self, answer: &Answer, reason: &Reason) -> Option<(String, Of)> {
         let labels: Vec<&str> = reason.views.iter().map(|v| v.label.as_str()).collect();
-        match labels[..] {
-            [""] => String::new(),
-            [one] => format!("For {one}: {}\n", self.element(answer.element)),
-            _ => format!(
-                "For {}: {}\n",
-                labels.join(" and "),
-                self.element(answer.element)
-            ),
+        if labels == [""] {
+            return None;
         }
+        let element = self.element(answer.element);
+        let of = match self.case.lattice {
+            Lattice::Power(_) => Of::Lacks(element),
+            _ => Of::Has(element),
+        };
+        Some((labels.join(" and "), of))
     }
 
     fn initial(&self, initial: &Initial) -> String {
@@ -255,8 +286,8 @@ impl Words<'_> {
                     }
                 }
             }
-            Cause::Transition { to, answers, .. } => {
-                let target = self.state(0, *to);
+            Cause::Transition { to, value, answers } => {
+                let target = format!("{}{}", self.state(0, *to), self.unless_top(*value));
                 let goes_on = match answers.first() {
                     None => "does not go on".to_string(),
                     Some(best) => {
@@ -271,9 +302,18 @@ impl Words<'_> {
         }
     }
 
-    /// The student's states on the way; of a long way the first and the last.
+    /// The student's states on the way, each with the value of the arrow to it unless that is top; of a long way the first and the last.
     fn path(&self, way: &[Step]) -> String {
-        let states: Vec<&str> = way.iter().map(|s| self.state(0, s.pair.0)).collect();
+        let arrows = way.iter().map(|step| match &step.cause {
+            Cause::Transition { value, .. } => self.unless_top(*value),
+            Cause::Propositions(_) => String::new(),
+        });
+        let to = std::iter::once(String::new()).chain(arrows);
+        let states: Vec<String> = way
+            .iter()
+            .zip(to)
+            .map(|(step, value)| format!("{}{value}", self.state(0, step.pair.0)))
+            .collect();
         match &states[..] {
             [first, .., last] if states.len() > 3 * ENDS => {
                 format!("{first} -> ... -> {last} in {} steps", states.len() - 1)
