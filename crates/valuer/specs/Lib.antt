@@ -5,3 +5,4 @@ pub mod Values
 pub mod Node
 -- ---- theorems
 pub mod Meaning
+pub mod Over
