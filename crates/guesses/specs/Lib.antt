@@ -1,2 +1,0 @@
--- Guessed meets and joins.
-pub mod Tested

@@ -1,2 +1,0 @@
--- Definitions of `operations`.
-pub mod Table

@@ -1,2 +1,0 @@
--- Definitions of `rounds_ways`.
-pub mod Full
