@@ -1,4 +1,4 @@
--- What the check answers, and the answer from the tests of words. Rests on lattice's Reading, Answer and Accepted, words' Words, Tests, Cong,
+-- What the check answers, and the answer from the tests of words. Rests on lattice's Reading, Answer and Accepted, elements' Words, Tests, Cong,
 -- Lattice, Order, Accepting, Held.
 --   Answered: the answer is the reading's, and an accepted part's operations are in the words
 --   latticeBy, reasonBy: the tests of words, as the code makes them; reading-lattice, reading-reason: what they say of the reading

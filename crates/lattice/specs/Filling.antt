@@ -1,5 +1,5 @@
 -- The words of a lattice as the code fills them, and the rules of its complement on them. Rests on theory's Part and Lists, order's Ordered,
--- lattice's Reading, words' Words, Tests, Accepting, CodesOf, Answer.
+-- lattice's Reading, elements' Words, Tests, Accepting, CodesOf, Answer.
 --   wordsBy: what belongs at each of the 128 places; held-from: filled so, they hold the lattice
 --   involutive, antitonePair, antitone: the rules of the complement, as the code tests them
 --   LatticeWords: a distributive lattice, its codes and the word of its irreducible elements

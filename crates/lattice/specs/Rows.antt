@@ -1,4 +1,4 @@
--- The words of an order, from its bytes row by row. Rests on theory's Lists and Loop, words' Bits.
+-- The words of an order, from its bytes row by row. Rests on theory's Lists and Loop, elements' Bits.
 --   Bytes: the order's bytes stand in a list, each 0 or 1; downIn: the word of the elements at or below one, by the bytes
 --   Rowed: one row is added to the words; rowed-none, rowed-more, rowed-all: its loop
 --   Down: the words of the first rows; down-none, down-more, down-all: the loop over the rows

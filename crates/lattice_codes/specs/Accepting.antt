@@ -1,5 +1,5 @@
 -- The test that an accepted part passes: its order is that of the codes, the | of a code and an irreducible element's code is a code, and so is 0.
--- Exactly the distributive lattices pass it. Rests on order's Ordered, Bounds and Tests, words' Bits and Laws, Tests, Order, Lattice, Birkhoff.
+-- Exactly the distributive lattices pass it. Rests on order's Ordered, Bounds and Tests, elements' Bits and Laws, Tests, Order, Bounded, Birkhoff.
 --   DownSet, CodeAt, set-code: every set of irreducible elements that has those below its own is the code of an element
 --   DistributiveLattice: a partial order with all meets and joins, and distributive
 --   lattice-sound: what passes is one; test-complete: each one passes; lattice-exactly: both; bottom-code: the code of the bottom is 0

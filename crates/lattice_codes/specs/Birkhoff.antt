@@ -1,5 +1,5 @@
 -- Codes of the elements of a lattice, by its irreducible elements: a lattice is distributive exactly when the code of a join is the | of the
--- codes. Rests on order's Ordered, Bounds and Tests, words' Bits and Laws, Tests, Order, Lattice.
+-- codes. Rests on order's Ordered, Bounds and Tests, elements' Bits and Laws, Tests, Order, Lattice.
 --   code-bits: the bits of a code; code-order: the order is that of the codes; code-distinct; code-meet: the code of a meet
 --   distributive-sound: where the | of every two codes is a code, the lattice is distributive; code-join: where it is, that of the join
 --   Irreducible, irreducible-in, irreducible-out: what it is to be irreducible

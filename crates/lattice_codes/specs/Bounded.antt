@@ -1,5 +1,5 @@
 -- The test of refusal 6 by words: in a partial order with a top, where every & of two words is a word, every two elements have a meet, and so a
--- join, the meet of all elements at or above both. Rests on order's Ordered and Bounds, words' Bits, Tests, Order.
+-- join, the meet of all elements at or above both. Rests on order's Ordered and Bounds, elements' Bits, Tests, Order.
 --   Meets: every two elements have a meet; meet-word, word-meet: the word of a meet, and that only a meet has it
 --   closed-at, meets-closed: from and to the test; top-from, top-word: the word of a top
 --   bounded-exactly: the test on the words is that of the order

@@ -1,4 +1,4 @@
--- The words of a distributive lattice hold its operations. Rests on theory's Part, order's Ordered and Bounds, words' Words, Tests, Birkhoff,
+-- The words of a distributive lattice hold its operations. Rests on theory's Part, order's Ordered and Bounds, elements' Words, Tests, Birkhoff,
 -- Accepting.
 --   CodesOf: 128 words hold the codes of the elements and of their complements
 --   held-ops: the operations read from them are the lattice's; held-coded: they are as `words` asks

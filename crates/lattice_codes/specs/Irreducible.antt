@@ -1,5 +1,5 @@
 -- The elements whose bits stand in the codes are exactly the join-irreducible ones. Rests on theory's Irreducible, order's Ordered and Bounds,
--- words' Bits, Tests, Birkhoff.
+-- elements' Bits, Tests, Birkhoff.
 --   irreducible-exactly: the test on the words is theory's definition
 use Prim.Native.Nat.{ℕ, zero, suc, _≤_, _<_}
 use mathlib.Core.Path.{_≡_, refl, sym, ap₂, _∙_}

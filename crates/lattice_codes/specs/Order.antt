@@ -1,4 +1,4 @@
--- The test of refusal 5 by words. Rests on theory's Part and TestLaws, order's Tests and Ordered, words' Bits and Laws, Tests.
+-- The test of refusal 5 by words. Rests on theory's Part and TestLaws, order's Tests and Ordered, elements' Bits and Laws, Tests.
 --   down-at: a bit of the word of an element
 --   by-words, word-in, word-out, word-distinct, ordered-sound: what the test says, with any words; ordered-complete: the other way round
 --   down-within: words in order; down-distinct, down-lt: different elements have different words, one at or below another has the lesser

@@ -1,4 +1,4 @@
--- What the check tests of the words of an order, and the words. Rests on theory's Part and Test, order's Tests, words' Bits and Words.
+-- What the check tests of the words of an order, and the words. Rests on theory's Part and Test, order's Tests, elements' Bits and Words.
 --   anyBelow: a test is passed at some number; any-in, any-out, any-cong
 --   downOf: the word of the elements at or below one; allOf: that of all elements
 --   FoundAt, found-here, found-none: where a word stands

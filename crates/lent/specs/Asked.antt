@@ -1,4 +1,4 @@
--- What a call that reads says, where the standing is lent. Rests on calls' Answer and examination's Read.
+-- What a call that reads says, where the standing is lent. Rests on examination's Read and Answer.
 use Prim.Native.Nat.{ℕ}
 use mathlib.Core.Path.{_≡_}
 use mathlib.Core.List.{List}

@@ -1,18 +1,21 @@
 // The crates at the greatest sizes. For each of three lattices, made by the check of its part, of 64, 64 and 27 elements: the last row of F of
 // a table between models of 64 states and 16 propositions, and the score of F of it; then, at every state of model 1 and on the whole
-// of it, the values of formulas of 255 bytes and of 1 to 3 nested binders. Then one meet is changed: no codes fit the tables, and the row, the
-// score and one fixpoint are worked by the tables.
+// of it, the values of formulas of 255 bytes and of 1 to 3 nested binders.
 mod filling;
 
+use elements::Codes;
+use elements::Lattice;
 use filling::Filling;
 use formula::FormulaCheck;
 use lattice::LatticeCheck;
 use libc::STDOUT_FILENO;
+use model::ModelCheck;
 use model::State;
-use operations::Lattice;
 ghost use mathlib.Core.Path.{_≡_};
 ghost use Prim.Native.Nat.{_+_, _≤_};
 ghost use lib.ListN.{length};
+ghost use Rattle.elements.specs.Words.{Coded};
+ghost use Rattle.valuer.specs.Values.{ModelOver, Reads};
 ghost use Rattle.limits.specs.Full.{Full};
 
 fn show_one(x: u8, after: u8) {
@@ -29,37 +32,42 @@ fn show_values(x: &[u8], from: usize)
     }
 }
 
-fn rows(t: &[u8; 12352], l: Lattice, m1: &[u8], m2: &[u8], s: &[u8], out: &mut [u8])
-    requires { ⌜ Full (now m1) × Full (now m2) × (length (now s) ≡ 4096) × (length (now out) ≡ 4096) ⌝ }
+fn rows(w: &Codes, l: Lattice, m1: &[u8], m2: &[u8], s: &[u8], out: &mut [u8])
+    requires { ⌜ Coded (now w) l × Full (now m1) × Full (now m2) × (length (now s) ≡ 4096) × (length (now out) ≡ 4096) ⌝ }
 {
     for q in 0..64u8 {
-        rowcodes::row(t, l, m1, m2, s, out, State(q));
+        rounds::row(w, l, m1, m2, s, out, State(q));
     }
 }
 
 // The last row of F of the table s, and the score of F of it.
-fn show_row(t: &[u8; 12352], l: Lattice, m1: &[u8], m2: &[u8], s: &[u8])
-    requires { ⌜ Full (now m1) × Full (now m2) × (length (now s) ≡ 4096) ⌝ }
+fn show_row(w: &Codes, l: Lattice, m1: &[u8], m2: &[u8], s: &[u8])
+    requires { ⌜ Coded (now w) l × Full (now m1) × Full (now m2) × (length (now s) ≡ 4096) ⌝ }
 {
     let mut out = [0u8; 4096];
-    rows(t, l, m1, m2, s, &mut out);
+    rows(w, l, m1, m2, s, &mut out);
     io::write_all(STDOUT_FILENO, b"row 63 ");
     show_values(&out, 4032);
-    show_one(rounds::score(t, l, m1, m2, &out).0, b'\n');
+    show_one(rounds::score(w, l, m1, m2, &out).0, b'\n');
 }
 
 // The values of a formula at the states, and that on the whole model.
-fn show(name: &[u8], t: &[u8; 12352], l: Lattice, m: &[u8], f: &[u8])
-    requires { ⌜ Full (now m) ⌝ }
+fn show_value(w: &Codes, l: Lattice, m: &[u8], f: &[u8])
+    requires { ⌜ ModelOver (now w) l (now m) × Full (now m) × Reads (now m) (now f) ⌝ }
+{
+    for q in 0..64u8 {
+        show_one(valuer::value(w, l, m, f, State(q)).0, b' ');
+    }
+    show_one(valuer::whole(w, l, m, f).0, b'\n');
+}
+
+fn show(name: &[u8], w: &Codes, l: Lattice, m: &[u8], f: &[u8])
+    requires { ⌜ ModelOver (now w) l (now m) × Full (now m) ⌝ }
 {
     io::write_all(STDOUT_FILENO, name);
     let answer = formula::check(f, 16);
     match answer {
-        FormulaCheck::Accepted => {
-            let x = valuer::values(t, l, m, f);
-            show_values(&x, 0);
-            show_one(valuer::whole(t, l, m, f).0, b'\n');
-        }
+        FormulaCheck::Accepted => show_value(w, l, m, f),
         FormulaCheck::Refused => {
             io::write_all(STDOUT_FILENO, b"refused\n");
         }
@@ -67,77 +75,85 @@ fn show(name: &[u8], t: &[u8; 12352], l: Lattice, m: &[u8], f: &[u8])
 }
 
 // Formulas of 255 bytes: AX 253 times, and p; 'AX p or' 63 times, and EX p.
-fn show_long(t: &[u8; 12352], l: Lattice, m: &[u8])
-    requires { ⌜ Full (now m) ⌝ }
+fn show_long(w: &Codes, l: Lattice, m: &[u8])
+    requires { ⌜ ModelOver (now w) l (now m) × Full (now m) ⌝ }
 {
     let mut f = [7u8; 255];
     f[253] = 2;
     f[254] = 0;
-    show(b"253 AX ", t, l, m, &f);
+    show(b"253 AX ", w, l, m, &f);
     filling::fill(&mut f, Filling::Joined, 64);
     f[252] = 8;
     f[253] = 2;
     f[254] = 0;
-    show(b"63 or ", t, l, m, &f);
+    show(b"63 or ", w, l, m, &f);
 }
 
-fn show_fixpoint(t: &[u8; 12352], l: Lattice, m: &[u8])
-    requires { ⌜ Full (now m) ⌝ }
+fn show_fixpoint(w: &Codes, l: Lattice, m: &[u8])
+    requires { ⌜ ModelOver (now w) l (now m) × Full (now m) ⌝ }
 {
     show(
         b"nu z. p and AX z ",
-        t,
+        w,
         l,
         m,
         b"\x0a\x06\x02\x00\x07\x04\x00",
     );
 }
 
-fn show_fixpoints(t: &[u8; 12352], l: Lattice, m: &[u8])
-    requires { ⌜ Full (now m) ⌝ }
+fn show_fixpoints(w: &Codes, l: Lattice, m: &[u8])
+    requires { ⌜ ModelOver (now w) l (now m) × Full (now m) ⌝ }
 {
     show(
         b"mu z. p or AX z ",
-        t,
+        w,
         l,
         m,
         b"\x09\x05\x02\x00\x07\x04\x00",
     );
     show(
         b"nu y. mu z. (p and AX y) or AX z ",
-        t,
+        w,
         l,
         m,
         b"\x0a\x09\x05\x06\x02\x00\x07\x04\x01\x07\x04\x00",
     );
     show(
         b"nu x. mu y. nu z. (p and EX x) or (AX y and EX z) ",
-        t,
+        w,
         l,
         m,
         b"\x0a\x09\x0a\x05\x06\x02\x00\x08\x04\x02\x06\x07\x04\x01\x08\x04\x00",
     );
 }
 
-fn over(t: &mut [u8; 12352], l: Lattice, m1: &[u8], m2: &[u8], s: &[u8])
-    requires { ⌜ Full (now m1) × Full (now m2) × (length (now s) ≡ 4096) ⌝ }
+fn show_all(w: &Codes, l: Lattice, m: &[u8])
+    requires { ⌜ ModelOver (now w) l (now m) × Full (now m) ⌝ }
 {
-    show_row(t, l, m1, m2, s);
-    show_fixpoint(t, l, m1);
-    show_long(t, l, m1);
-    show_fixpoints(t, l, m1);
-    t[4096 + 4 * 64 + 4] = 3;
-    io::write_all(STDOUT_FILENO, b"the meet of 4 and 4 being 3\n");
-    show_row(t, l, m1, m2, s);
-    show_fixpoint(t, l, m1);
+    show_fixpoint(w, l, m);
+    show_long(w, l, m);
+    show_fixpoints(w, l, m);
+}
+
+fn over(w: &Codes, l: Lattice, m1: &[u8], m2: &[u8], s: &[u8])
+    requires { ⌜ Coded (now w) l × Full (now m1) × Full (now m2) × (length (now s) ≡ 4096) ⌝ }
+{
+    show_row(w, l, m1, m2, s);
+    let answer = model::check(m1, l.size);
+    match answer {
+        ModelCheck::Refused => {
+            io::write_all(STDOUT_FILENO, b"refused\n");
+        }
+        ModelCheck::Accepted(_, _) => show_all(w, l, m1),
+    }
 }
 
 // The lattice of a part, and the work over it.
 fn checked(part: &[u8], m1: &[u8], m2: &[u8], s: &[u8])
     requires { ⌜ Full (now m1) × Full (now m2) × (length (now s) ≡ 4096) ⌝ }
 {
-    let mut t = [0u8; 12352];
-    let r = lattice::check(part, &mut t);
+    let mut w = [0u64; 128];
+    let r = lattice::check(part, &mut w);
     match r {
         LatticeCheck::Refused(f) => {
             io::write_all(STDOUT_FILENO, b"refused ");
@@ -145,7 +161,7 @@ fn checked(part: &[u8], m1: &[u8], m2: &[u8], s: &[u8])
         }
         LatticeCheck::Accepted(l) => {
             show_one(l.size, b'\n');
-            over(&mut t, l, m1, m2, s);
+            over(&w, l, m1, m2, s);
         }
     }
 }

@@ -178,8 +178,8 @@ pub record RoundSoFar (M₁ M₂ : Model ℕ) (G : (ℕ → ℕ → ℕ) → ℕ
 
 -- the same on bytes, of a whole round: F of the table s is worked into `before`, which gives `out`
 abbrev pub RoundIn : List ℕ → Lattice → List ℕ → List ℕ → List ℕ → List ℕ → List ℕ → Bool → Type 0
-RoundIn t l m₁ m₂ s before out changed =
-    RoundSoFar (modelOf m₁) (modelOf m₂) (FIn t l m₁ m₂) (tableOf s (getD m₂ 0 0)) before (getD m₁ 0 0) out changed
+RoundIn w l m₁ m₂ s before out changed =
+    RoundSoFar (modelOf m₁) (modelOf m₂) (FIn w l m₁ m₂) (tableOf s (getD m₂ 0 0)) before (getD m₁ 0 0) out changed
 
 module _ {M₁ M₂ : Model ℕ} {G : (ℕ → ℕ → ℕ) → ℕ → ℕ → ℕ} {S : ℕ → ℕ → ℕ} {before : List ℕ} where
   pub round-none : RoundSoFar M₁ M₂ G S before 0 before false

@@ -1,4 +1,4 @@
--- Share by the tables of a lattice. Rests on Table, theory's Simulation and Loop, and operations' Table.
+-- Share by the codes of a lattice. Rests on Table, theory's Simulation and Loop, and elements' Words.
 --   shareIn-is: it is theory's share; share-counted: from a count of entries; percent-fits: it fits a byte
 use Prim.Native.Nat.{ℕ, _*_, _/_, _<_}
 use mathlib.Core.Path.{_≡_, refl, ap}
@@ -13,14 +13,14 @@ use Rattle.elements.specs.Words.{atMostIn, opsIn}
 use Rattle.rounds.specs.Table.{shareIn}
 
 -- it is theory's share, whatever the lattice's size and bounds
-pub shareIn-is : (t : List ℕ) (l : Lattice) (e : ℕ) (s : List ℕ) (n : ℕ) → shareIn t e s n ≡ share (opsIn t l) n (λ i. getD s i 0) e
+pub shareIn-is : (w : List ℕ) (l : Lattice) (e : ℕ) (s : List ℕ) (n : ℕ) → shareIn w e s n ≡ share (opsIn w l) n (λ i. getD s i 0) e
 unfolding shareIn share
-shareIn-is t l e s n = refl
+shareIn-is w l e s n = refl
 
 -- c entries are counted: the per cent of c
-pub share-counted : (t : List ℕ) (e : ℕ) (s : List ℕ) (n c : ℕ) → Counted (λ i. atMostIn t e (getD s i 0)) n c → perCent c n ≡ shareIn t e s n
+pub share-counted : (w : List ℕ) (e : ℕ) (s : List ℕ) (n c : ℕ) → Counted (λ i. atMostIn w e (getD s i 0)) n c → perCent c n ≡ shareIn w e s n
 unfolding shareIn
-share-counted t e s n c u = ap (λ (x : ℕ). perCent x n) (u .eq)
+share-counted w e s n c u = ap (λ (x : ℕ). perCent x n) (u .eq)
 
 -- a quotient by twice t, as a per cent is, fits a byte
 pub percent-fits : {x t : ℕ} → 0 < t → x < 256 * (2 * t) → x / (2 * t) < 256

@@ -1,11 +1,13 @@
 // The worked examples 1 to 4 and 6 of document 01, by the functions on tables: each round, T, score, and the shares.
+use elements::Codes;
+use elements::Element;
+use elements::Lattice;
 use lattice::LatticeCheck;
-use operations::Element;
-use operations::Lattice;
 ghost use mathlib.Core.Path.{_≡_};
 ghost use Prim.Native.Nat.{_+_, _*_, _≤_};
 ghost use lib.ListN.{length, getD};
 ghost use Rattle.theory.specs.Part.{ModelShape};
+ghost use Rattle.elements.specs.Words.{Coded};
 ghost use Rattle.rounds.specs.Table.{Shaped};
 
 // ---- printing
@@ -37,13 +39,13 @@ fn show_round(r: usize, s: &[u8], n1: usize, n2: usize)
 }
 
 // What is said of the round that changed nothing.
-fn show_settled(t: &[u8; 12352], l: Lattice, m1: &[u8], m2: &[u8], s: &[u8], r: usize)
-    requires { ⌜ Shaped (now m1) (now m2) (now s) ⌝ }
+fn show_settled(w: &Codes, l: Lattice, m1: &[u8], m2: &[u8], s: &[u8], r: usize)
+    requires { ⌜ Coded (now w) l × Shaped (now m1) (now m2) (now s) ⌝ }
 {
     say(b"settled ", r);
-    let e = rounds::score(t, l, m1, m2, s);
+    let e = rounds::score(w, l, m1, m2, s);
     say(b"score ", e.0 as usize);
-    if rowcodes::is_simulation(t, l, m1, m2, s) {
+    if rounds::is_simulation(w, l, m1, m2, s) {
         printing::say(b"a simulation\n");
     } else {
         printing::say(b"no simulation\n");
@@ -53,8 +55,9 @@ fn show_settled(t: &[u8; 12352], l: Lattice, m1: &[u8], m2: &[u8], s: &[u8], r: 
 // ---- an example
 
 // Works rounds, from all top, up to the first that changes nothing.
-fn settle(t: &[u8; 12352], l: Lattice, m1: &[u8], m2: &[u8])
-    requires { ⌜ ModelShape (now m1) × ModelShape (now m2) × (getD (now m1) 1 0 ≡ getD (now m2) 1 0) × (getD (now m1) 0 0 * getD (now m2) 0 0 ≤ 64) ⌝ }
+fn settle(w: &Codes, l: Lattice, m1: &[u8], m2: &[u8])
+    requires { ⌜ Coded (now w) l × ModelShape (now m1) × ModelShape (now m2) × (getD (now m1) 1 0 ≡ getD (now m2) 1 0)
+        × (getD (now m1) 0 0 * getD (now m2) 0 0 ≤ 64) ⌝ }
 {
     let n1 = model::states(m1);
     let n2 = model::states(m2);
@@ -62,10 +65,10 @@ fn settle(t: &[u8; 12352], l: Lattice, m1: &[u8], m2: &[u8])
     let mut s = [top; 64];
     let mut out = [top; 64];
     for r in 1..17 {
-        let changed = rowcodes::round(t, l, m1, m2, &s, &mut out);
+        let changed = rounds::round(w, l, m1, m2, &s, &mut out);
         show_round(r, &out, n1, n2);
         if !changed {
-            show_settled(t, l, m1, m2, &out, r);
+            show_settled(w, l, m1, m2, &out, r);
             return;
         }
         s = out;
@@ -76,11 +79,11 @@ fn settle(t: &[u8; 12352], l: Lattice, m1: &[u8], m2: &[u8])
 fn example(number: usize, part: &[u8], m1: &[u8], m2: &[u8])
     requires { ⌜ ModelShape (now m1) × ModelShape (now m2) × (getD (now m1) 1 0 ≡ getD (now m2) 1 0) × (getD (now m1) 0 0 * getD (now m2) 0 0 ≤ 64) ⌝ }
 {
-    let mut t = [0u8; 12352];
+    let mut w = [0u64; 128];
     say(b"example ", number);
-    match lattice::check(part, &mut t) {
+    match lattice::check(part, &mut w) {
         LatticeCheck::Refused(f) => printing::refused(f),
-        LatticeCheck::Accepted(l) => settle(&t, l, m1, m2),
+        LatticeCheck::Accepted(l) => settle(&w, l, m1, m2),
     }
 }
 
@@ -115,9 +118,9 @@ fn last_examples() {
 
 // The share of entries at or above 1, of a table of eight entries.
 fn share(word: &[u8], s: &[u8; 8]) {
-    let mut t = [0u8; 12352];
-    lattice::check(&L2, &mut t);
-    say(word, rounds::share(&t, Element(1), s, 8) as usize);
+    let mut w = [0u64; 128];
+    lattice::check(&L2, &mut w);
+    say(word, rounds::share(&w, Element(1), s, 8) as usize);
 }
 
 fn main() {

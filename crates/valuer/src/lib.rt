@@ -81,7 +81,8 @@ fn value_node(
 }
 
 // The second formula of or or and, at place `at`: its map is combined with that of the first, which is in `out`. The array that this takes
-// is here, so that other nodes have none.
+// stands here, so that other nodes have none: with the copy of a map beside it, it is more than the compiler moves into a function that
+// calls itself. In value_node's own frame it would be one more for each level of nesting.
 fn second(
     w: &Codes,
     l: Lattice,
@@ -101,7 +102,8 @@ fn second(
 {
     let mut y = [0u64; 64];
     let next = value_node(w, l, m, f, at, near, mid, far, spare, &mut y);
-    combined(or, model::states(m), &y, out);
+    *spare = *out;
+    combined(or, model::states(m), spare, &y, out);
     next
 }
 

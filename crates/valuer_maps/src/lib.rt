@@ -9,7 +9,7 @@ ghost use mathlib.Core.Path.{_≡_};
 ghost use Prim.Native.Nat.{_≤_, _<_};
 ghost use lib.Bits.{bitAnd, bitOr};
 ghost use lib.Dec.{eqb};
-ghost use lib.ListN.{length, getD, replicate};
+ghost use lib.ListN.{getD, replicate};
 ghost use Rattle.theory.specs.Part.{ModelShape};
 ghost use Rattle.theory.specs.Test.{allBelow};
 ghost use Rattle.elements.specs.Words.{codeIn, negatedCodeIn};
@@ -102,13 +102,14 @@ fn bound(up: bool, x: u64, y: u64) -> u64
     x & y
 }
 
-// The joins (up) or the meets of two maps, the first of which is in `out`.
-pub fn combined(up: bool, n: usize, y: &[u64; 64], out: &mut [u64])
-    requires { ⌜ (n ≤ 64) × (length (now out) ≡ 64) ⌝ }
-    ensures { λ _. ⌜ Combined up (now (out .entry)) (now (y .entry)) n (now (out .exit)) ⌝ }
+// The joins (up) or the meets of two maps.
+pub fn combined(up: bool, n: usize, x: &[u64; 64], y: &[u64; 64], out: &mut [u64; 64])
+    requires { ⌜ n ≤ 64 ⌝ }
+    ensures { λ _. ⌜ Combined up (now (x .entry)) (now (y .entry)) n (now (out .exit)) ⌝ }
 {
+    *out = [0u64; 64];
     for q in 0..n {
-        out[q] = bound(up, out[q], y[q]);
+        out[q] = bound(up, x[q], y[q]);
     }
 }
 

@@ -9,10 +9,10 @@ use Rattle.limits.proofs.rows.Statement.{statement}
 use Rattle.limits.proofs.rows.Tie as tie
 
 abbrev Inv-loop : tie.InvT-loop
-Inv-loop t l m1 m2 s out₀ q₀ out q = (q ≤ 64) × (length out ≡ length out₀)
+Inv-loop w l m1 m2 s out₀ q₀ out q = (q ≤ 64) × (length out ≡ length out₀)
 
 abbrev μ-loop : tie.MeasureT-loop
-μ-loop t l m1 m2 s out₀ q₀ out q = 64 - q
+μ-loop w l m1 m2 s out₀ q₀ out q = 64 - q
 
 loop-holds : tie.Need-loop-holds Inv-loop μ-loop
 loop-holds c = (omega arith, refl)
@@ -20,7 +20,7 @@ loop-holds c = (omega arith, refl)
 row-requires : tie.Need-row-requires Inv-loop μ-loop
 row-requires c κs =
     let p = c .before .before .before .before .before .before .before .pre in
-    (full-shaped _ _ _ (p .0) (p .1) (p .2), full-held _ _ (c .before .before .loop .out) (p .0) (p .1) (c .before .before .loop .inv .1 ∙ p .3), omega (arith, p .0 .states))
+    (p .0, full-shaped _ _ _ (p .1) (p .2) (p .3), full-held _ _ (c .before .before .loop .out) (p .1) (p .2) (c .before .before .loop .inv .1 ∙ p .4), omega (arith, p .1 .states))
 
 loop-again : tie.Need-loop-again Inv-loop μ-loop
 loop-again c = (omega arith, search needs)

@@ -8,21 +8,21 @@ use Rattle.rounds_examples.proofs.settle.Statement.{statement}
 use Rattle.rounds_examples.proofs.settle.Tie as tie
 
 abbrev Inv-loop : tie.InvT-loop
-Inv-loop t l m1 m2 n1 n2 top s₀ out₀ r₀ s out r =
+Inv-loop w l m1 m2 n1 n2 top s₀ out₀ r₀ s out r =
     (r ≤ 17) × (length s ≡ 64) × (length out ≡ 64) × (n1 * n2 ≤ 64) × (getD m1 0 0 * getD m2 0 0 ≤ 64)
 
 abbrev μ-loop : tie.MeasureT-loop
-μ-loop t l m1 m2 n1 n2 top s₀ out₀ r₀ s out r = 17 - r
+μ-loop w l m1 m2 n1 n2 top s₀ out₀ r₀ s out r = 17 - r
 
 loop-holds : tie.Need-loop-holds Inv-loop μ-loop
 loop-holds c =
     let p = c .before .before .before .before .pre in
-    (omega arith, refl, refl, rw (c .before .states .ensures, c .states2 .ensures) (p .3), p .3)
+    (omega arith, refl, refl, rw (c .before .states .ensures, c .states2 .ensures) (p .4), p .4)
 
 round-requires : tie.Need-round-requires Inv-loop μ-loop
 round-requires c κs =
     let p = c .before .before .before .before .before .before .before .before .pre in
-    (record { first = p .0; second = p .1; same-propositions = p .2; held = omega arith }, omega arith)
+    (p .0, record { first = p .1; second = p .2; same-propositions = p .3; held = omega arith }, omega arith)
 
 show-round-requires : tie.Need-show-round-requires Inv-loop μ-loop
 show-round-requires c κs = omega (arith, c .before .before .round .ensures .worked .same-length)
@@ -30,7 +30,7 @@ show-round-requires c κs = omega (arith, c .before .before .round .ensures .wor
 show-settled-requires : tie.Need-show-settled-requires Inv-loop μ-loop
 show-settled-requires c κs =
     let p = c .before .before .before .before .before .before .before .before .before .before .before .before .before .before .pre in
-    record { first = p .0; second = p .1; same-propositions = p .2; held = omega (arith, c .before .before .before .before .before .round .ensures .worked .same-length) }
+    (p .0, record { first = p .1; second = p .2; same-propositions = p .3; held = omega (arith, c .before .before .before .before .before .round .ensures .worked .same-length) })
 
 loop-again : tie.Need-loop-again Inv-loop μ-loop
 loop-again c =

@@ -110,17 +110,17 @@ second-value-node-requires : (t : ℕ) → second-lts.Need-value-node-requires (
 second-value-node-requires t c κs = let p = c .before .before .before .before .pre in (omega (arith, p .0), p .1)
 
 second-states-requires : (t : ℕ) → second-lts.Need-states-requires (s-claims t) (second-at t) second.Post
-second-states-requires t c κs = c .before .before .before .before .before .pre .1 .0 .shape
+second-states-requires t c κs = c .before .before .before .before .before .before .pre .1 .0 .shape
 
 second-combined-requires : (t : ℕ) → second-lts.Need-combined-requires (s-claims t) (second-at t) second.Post
-second-combined-requires t c κs = (omega (arith, c .before .before .states .ensures, c .before .before .before .before .before .before .before .before .pre .1 .0 .shape .states-most), search needs)
+second-combined-requires t c κs = omega (arith, c .before .before .before .states .ensures, c .before .before .before .before .before .before .before .before .before .before .pre .1 .0 .shape .states-most)
 
 second-returns : (t : ℕ) → second-lts.Need-returns (s-claims t) (second-at t) second.Post
 second-returns t c =
     record {
       second = _;
-      node = c .before .before .before .before .value-node .ensures;
-      combined = filled-as (c .combined .ensures) (omega (arith, c .before .before .before .states .ensures)) (λ i k. refl);
+      node = c .before .before .before .before .before .before .value-node .ensures;
+      combined = filled-as (c .combined .ensures) (omega (arith, c .before .before .before .before .states .ensures)) (λ i k. refl);
     }
 
 -- what stands at the place, once it is read and matched

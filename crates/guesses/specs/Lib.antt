@@ -1,3 +1,0 @@
--- Guessed meets and joins.
--- ---- for the code
-pub mod Tested  -- the tests that guessed meets and joins pass
