@@ -119,7 +119,7 @@ pub fn combined(up: bool, n: usize, x: &[u64; 64], y: &[u64; 64], out: &mut [u64
 pub fn all_step(w: &Codes, r: Element, x: u64) -> u64
     ensures { λ y. ⌜ y ≡ bitOr (negatedCodeIn (now (w .entry)) (r .0)) x ⌝ }
 {
-    elements::negated_code(w, r) | x
+    elements::value_code(w, true, r) | x
 }
 
 // What it gives to EX: r & x.
