@@ -100,7 +100,8 @@ module _ {w : List ℕ} {l : Lattice} {m : List ℕ} (o : ModelOver w l m) {f : 
   unfolding bytesOf eval startOf tokenSize
   top-arm s z = rw z (by-one s (λ d g h u. s .ends) (λ d e g h u k. map-start (o .coded) false (getD m 0 0) (o .shape .states-most)))
 
-  pub literal-arm : {x : List ℕ} (p : Proposition) (b : Bool) → Stands f at (Literal p b) i → p .0 < getD m 1 0 → Literals w m b (p .0) x → Node w l m f at near mid far x i
+  pub literal-arm : {x : List ℕ} (p : Proposition) (b : Bool) → Stands f at (Literal p b) i → p .0 < getD m 1 0 → Literals w m b (p .0) x
+      → Node w l m f at near mid far x i
   unfolding bytesOf eval tokenSize
   literal-arm p true s k a = by-one s (λ d g h u. s .ends) (λ d e g h u j. map-literals (o .coded) m true (p .0) k (o .valued) a)
   literal-arm p false s k a = by-one s (λ d g h u. s .ends) (λ d e g h u j. map-literals (o .coded) m false (p .0) k (o .valued) a)
@@ -114,14 +115,19 @@ module _ {w : List ℕ} {l : Lattice} {m : List ℕ} (o : ModelOver w l m) {f : 
   unfolding bytesOf eval tokenSize
   two-arm true s n y =
       by-one s
-      (λ d g h u. let p = of-or (s .ends) g h u in omega (arith, s .ends, n .next d g (p .first), y .node .next d h (right n p), length-append (bytesOf g) (bytesOf h)))
+      (λ d g h u.
+      let p = of-or (s .ends) g h u in
+      omega (arith, s .ends, n .next d g (p .first), y .node .next d h (right n p), length-append (bytesOf g) (bytesOf h)))
       (λ d e g h u q. let p = of-or (s .ends) g h u in map-bound (o .coded) true (n .map d g e (p .first) q) (y .node .map d h e (right n p) q) (y .combined))
   two-arm false s n y =
       by-one s
-      (λ d g h u. let p = of-and (s .ends) g h u in omega (arith, s .ends, n .next d g (p .first), y .node .next d h (right n p), length-append (bytesOf g) (bytesOf h)))
+      (λ d g h u.
+      let p = of-and (s .ends) g h u in
+      omega (arith, s .ends, n .next d g (p .first), y .node .next d h (right n p), length-append (bytesOf g) (bytesOf h)))
       (λ d e g h u q. let p = of-and (s .ends) g h u in map-bound (o .coded) false (n .map d g e (p .first) q) (y .node .map d h e (right n p) q) (y .combined))
 
-  pub next-arm : {x v : List ℕ} {j : ℕ} (b : Bool) → Stands f at (Next b) i → Node w l m f i near mid far x j → NextMap w l m b x v → Node w l m f at near mid far v j
+  pub next-arm : {x v : List ℕ} {j : ℕ} (b : Bool) → Stands f at (Next b) i → Node w l m f i near mid far x j → NextMap w l m b x v
+      → Node w l m f at near mid far v j
   unfolding bytesOf eval tokenSize
   next-arm true s n a =
       by-one s (λ d g h u. omega (arith, s .ends, n .next d g (of-AX (s .ends) g u)))
@@ -141,7 +147,8 @@ module _ {w : List ℕ} {l : Lattice} {m : List ℕ} (o : ModelOver w l m) {f : 
       (λ d e g h u k. n .map d g e far (startOf l false) (of-nu (s .ends) g u) k (rw z (map-start (o .coded) false (getD m 0 0) (o .shape .states-most))))
 
 -- no formula begins with the end or a broken place
-pub no-arm : {w : List ℕ} {l : Lattice} {m f : List ℕ} {at i : ℕ} {near mid far x : List ℕ} {j : ℕ} {t : Token} → Stands f at t i → tokenSize t ≡ 0 → Node w l m f at near mid far x j
+pub no-arm : {w : List ℕ} {l : Lattice} {m f : List ℕ} {at i : ℕ} {near mid far x : List ℕ} {j : ℕ} {t : Token}
+    → Stands f at t i → tokenSize t ≡ 0 → Node w l m f at near mid far x j
 no-arm s z = record {
   next = λ d φ v. absurd (omega (arith, some-bytes v, ap tokenSize (s .token)));
   map = λ d φ e v k. absurd (omega (arith, some-bytes v, ap tokenSize (s .token)));

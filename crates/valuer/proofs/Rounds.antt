@@ -25,8 +25,8 @@ use Rattle.valuer.specs.Node.{Spelled, SlotsHold, rounds, roundLimit, No
 -- ---- a map under one more binder
 
 -- the nearest list holds the new binder's map, the others move one binder out
-bound-holds : {w : List ℕ} {l : Lattice} {n : ℕ} {x near mid far : List ℕ} {d : ℕ} {e : ℕ → ℕ → ℕ} {g : ℕ → ℕ} → suc d ≤ 3 → MapOf w l g n x
-    → SlotsHold w l n near mid far d e → SlotsHold w l n x near mid (suc d) (bind g e)
+bound-holds : {w : List ℕ} {l : Lattice} {n : ℕ} {x near mid far : List ℕ} {d : ℕ} {e : ℕ → ℕ → ℕ} {g : ℕ → ℕ}
+    → suc d ≤ 3 → MapOf w l g n x → SlotsHold w l n near mid far d e → SlotsHold w l n x near mid (suc d) (bind g e)
 unfolding slotOf bind
 bound-holds {w} {l} {n} {x} {near} {mid} {far} {d} {e} {g} b u h = record { at = go }
   where
@@ -38,11 +38,18 @@ bound-holds {w} {l} {n} {x} {near} {mid} {far} {d} {e} {g} b u h = record { at =
 
 -- ---- rounds
 
+-- the body φ applied r times, and one more time to a map
+abbrev turns : List ℕ → Lattice → List ℕ → ℕ → Formula → (ℕ → ℕ → ℕ) → ℕ → ℕ → ℕ
+turns w l m r φ e a = rounds (opsIn w l) (modelOf m) r (roundLimit l m) φ e a
+
+abbrev once : List ℕ → Lattice → List ℕ → Formula → (ℕ → ℕ → ℕ) → (ℕ → ℕ) → ℕ → ℕ
+once w l m φ e x = eval (opsIn w l) (modelOf m) (roundLimit l m) φ (bind x e)
+
 -- x is what r rounds give, whatever body stands at the place, from the element whose code is `start`
 pub record Turned (w : List ℕ) (l : Lattice) (m f : List ℕ) (at : ℕ) (near mid : List ℕ) (start r : ℕ) (x : List ℕ) : Type 0 where
   pub map : (d : ℕ) (φ : Formula) (e : ℕ → ℕ → ℕ) (far : List ℕ) (a : ℕ) → Spelled f at (suc d) (getD m 1 0) φ
       → SlotsHold w l (getD m 0 0) near mid far d e → MapOf w l (λ q. a) (getD m 0 0) (replicate 64 start)
-      → MapOf w l (rounds (opsIn w l) (modelOf m) r (roundLimit l m) φ e a) (getD m 0 0) x
+      → MapOf w l (turns w l m r φ e a) (getD m 0 0) x
 
 module _ {w : List ℕ} {l : Lattice} {m f : List ℕ} {at : ℕ} {near mid : List ℕ} {start : ℕ} where
   pub turned-none : {r : ℕ} → r ≡ 0 → Turned w l m f at near mid start r (replicate 64 start)
@@ -53,7 +60,7 @@ module _ {w : List ℕ} {l : Lattice} {m f : List ℕ} {at : ℕ} {near mid : Li
   module _ {r i : ℕ} {x v : List ℕ} (h : Turned w l m f at near mid start r x) (n : Node w l m f at x near mid v i) where
     turn : (d : ℕ) (φ : Formula) (e : ℕ → ℕ → ℕ) (far : List ℕ) (a : ℕ) → Spelled f at (suc d) (getD m 1 0) φ
         → SlotsHold w l (getD m 0 0) near mid far d e → MapOf w l (λ q. a) (getD m 0 0) (replicate 64 start)
-        → MapOf w l (eval (opsIn w l) (modelOf m) (roundLimit l m) φ (bind (rounds (opsIn w l) (modelOf m) r (roundLimit l m) φ e a) e)) (getD m 0 0) v
+        → MapOf w l (once w l m φ e (turns w l m r φ e a)) (getD m 0 0) v
     turn d φ e far a s k u = n .map (suc d) φ _ s (bound-holds (omega (arith, s .nested)) (h .map d φ e far a s k u) k)
 
     pub turned-more : (k : ℕ) → k ≡ suc r → Turned w l m f at near mid start k v
@@ -65,15 +72,15 @@ module _ {w : List ℕ} {l : Lattice} {m f : List ℕ} {at : ℕ} {near mid : Li
     turned-all z = record { next = n .next; map = λ d φ e far a s k u. rw z at (h .map d φ e far a s k u) }
 
     -- a round that changes nothing
-    pub turned-still : Coded w l → r ≤ roundLimit l m → (k : ℕ) → getD m 0 0 ≤ k → allBelow k (λ q. eqb (getD v q 0) (getD x q 0)) ≡ true → Iterated w l m f at near mid start v i
+    pub turned-still : Coded w l → r ≤ roundLimit l m → (k : ℕ) → getD m 0 0 ≤ k → allBelow k (λ q. eqb (getD v q 0) (getD x q 0)) ≡ true
+        → Iterated w l m f at near mid start v i
     unfolding iterate
     turned-still c b k y z = record {
       next = n .next;
       map = λ d φ e far a s o u.
           let more = turn d φ e far a s o u in
-          let same : (q : ℕ) → q < getD m 0 0 → eval (opsIn w l) (modelOf m) (roundLimit l m) φ (bind (rounds (opsIn w l) (modelOf m) r (roundLimit l m) φ e a) e) q ≡ rounds (opsIn w l) (modelOf m) r (roundLimit l m) φ e a q = λ q j. map-same c more (h .map d φ e far a s o u) q j (eqb-true _ _ (all-at k _ z q (omega arith))) in
-          map-as more
-          (λ q j.
-          same q j
-          ∙ sym (iterate-stays (opsIn w l) (modelOf m) (λ y. eval (opsIn w l) (modelOf m) (roundLimit l m) φ (bind y e)) (body-cong (opsIn w l) (modelOf m) (roundLimit l m) d φ (s .bound) e) (λ i. a) r same (roundLimit l m) b q j));
+          let same : (q : ℕ) → q < getD m 0 0 → once w l m φ e (turns w l m r φ e a) q ≡ turns w l m r φ e a q =
+          λ q j. map-same c more (h .map d φ e far a s o u) q j (eqb-true _ _ (all-at k _ z q (omega arith))) in
+          let stays = iterate-stays (opsIn w l) (modelOf m) (once w l m φ e) (body-cong (opsIn w l) (modelOf m) (roundLimit l m) d φ (s .bound) e) (λ i. a) r same (roundLimit l m) b in
+          map-as more (λ q j. same q j ∙ sym (stays q j));
     }

@@ -68,6 +68,7 @@ fn value_node(
         }
         Token::Next { all } => {
             let next = value_node(w, l, m, f, here, near, mid, far, spare, out);
+            *spare = *out;
             next_values(w, l, m, all, spare, out);
             next
         }

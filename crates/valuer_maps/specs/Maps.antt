@@ -28,7 +28,8 @@ pub record MapOf (w : List ℕ) (l : Lattice) (f : ℕ → ℕ) (n : ℕ) (x : L
   pub code : (q : ℕ) → q < n → CodeOf w (getD x q 0) (f q)
   pub element : (q : ℕ) → q < n → f q < l .size
 
-pub map-as : {w : List ℕ} {l : Lattice} {f g : ℕ → ℕ} {n : ℕ} {x : List ℕ} → MapOf w l f n x → ((q : ℕ) → q < n → f q ≡ g q) → MapOf w l g n x
+pub map-as : {w : List ℕ} {l : Lattice} {f g : ℕ → ℕ} {n : ℕ} {x : List ℕ}
+    → MapOf w l f n x → ((q : ℕ) → q < n → f q ≡ g q) → MapOf w l g n x
 map-as {w} h e = record {
   code = λ q k. record { eq = h .code q k .eq ∙ ap (codeIn w) (e q k) };
   element = λ q k. rw (← e q k) (h .element q k);
@@ -76,7 +77,8 @@ module _ {w : List ℕ} {l : Lattice} (c : Coded w l) where
 
   -- the & over the values v of the code of not-v | f is the code of the meet of v → f
   pub implied : (v : ℕ → ℕ) {f : ℕ → ℕ} {n : ℕ} {x : List ℕ} → MapOf w l f n x
-      → CodeOf w (fold bitAnd (codeIn w (l .top .0)) (λ r. bitOr (negatedCodeIn w (v r)) (getD x r 0)) n) (bigMeet (opsIn w l) n (λ r. imp (opsIn w l) (v r) (f r)))
+      → CodeOf w (fold bitAnd (codeIn w (l .top .0)) (λ r. bitOr (negatedCodeIn w (v r)) (getD x r 0)) n)
+      (bigMeet (opsIn w l) n (λ r. imp (opsIn w l) (v r) (f r)))
   unfolding imp
   implied v {f} {n} u = fold-meets c n _ _ (code-of c (l .top .0)) (λ r j. join-of c {a = opsIn w l .neg (v r)} {b = f r} (negated-of c (v r)) (u .code r j))
 
@@ -98,5 +100,6 @@ module _ {w : List ℕ} {l : Lattice} (c : Coded w l) where
   map-decoded u q k = decode-in c (u .code q k) (u .element q k)
 
   -- equal words, equal values
-  pub map-same : {f g : ℕ → ℕ} {n : ℕ} {x y : List ℕ} → MapOf w l f n x → MapOf w l g n y → (q : ℕ) → q < n → getD x q 0 ≡ getD y q 0 → f q ≡ g q
+  pub map-same : {f g : ℕ → ℕ} {n : ℕ} {x y : List ℕ} → MapOf w l f n x → MapOf w l g n y → (q : ℕ) → q < n
+      → getD x q 0 ≡ getD y q 0 → f q ≡ g q
   map-same u v q k e = sym (map-decoded u q k) ∙ ap (decodeIn w) e ∙ map-decoded v q k

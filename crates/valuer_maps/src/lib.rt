@@ -9,7 +9,7 @@ ghost use mathlib.Core.Path.{_≡_};
 ghost use Prim.Native.Nat.{_≤_, _<_};
 ghost use lib.Bits.{bitAnd, bitOr};
 ghost use lib.Dec.{eqb};
-ghost use lib.ListN.{getD, replicate};
+ghost use lib.ListN.{length, getD, replicate};
 ghost use Rattle.theory.specs.Part.{ModelShape};
 ghost use Rattle.theory.specs.Test.{allBelow};
 ghost use Rattle.elements.specs.Words.{codeIn, negatedCodeIn};
@@ -78,13 +78,12 @@ pub fn literals(
     negated: bool,
     p: Proposition,
     next: usize,
-    out: &mut [u64; 64],
+    out: &mut [u64],
 ) -> usize
-    requires { ⌜ ModelShape (now m) × (p .0 < getD (now m) 1 0) ⌝ }
+    requires { ⌜ ModelShape (now m) × (p .0 < getD (now m) 1 0) × (length (now out) ≡ 64) ⌝ }
     ensures { λ r. ⌜ (r ≡ next) × Literals (now (w .entry)) (now (m .entry)) negated (p .0) (now (out .exit)) ⌝ }
 {
     let n = model::states(m);
-    *out = [0u64; 64];
     for q in 0..n {
         let e = model::label(m, State(q as u8), p);
         out[q] = elements::value_code(w, negated, e);
@@ -103,11 +102,10 @@ fn bound(up: bool, x: u64, y: u64) -> u64
 }
 
 // The joins (up) or the meets of two maps.
-pub fn combined(up: bool, n: usize, x: &[u64; 64], y: &[u64; 64], out: &mut [u64; 64])
-    requires { ⌜ n ≤ 64 ⌝ }
+pub fn combined(up: bool, n: usize, x: &[u64; 64], y: &[u64; 64], out: &mut [u64])
+    requires { ⌜ (n ≤ 64) × (length (now out) ≡ 64) ⌝ }
     ensures { λ _. ⌜ Combined up (now (x .entry)) (now (y .entry)) n (now (out .exit)) ⌝ }
 {
-    *out = [0u64; 64];
     for q in 0..n {
         out[q] = bound(up, x[q], y[q]);
     }
@@ -119,7 +117,7 @@ pub fn combined(up: bool, n: usize, x: &[u64; 64], y: &[u64; 64], out: &mut [u64
 pub fn all_step(w: &Codes, r: Element, x: u64) -> u64
     ensures { λ y. ⌜ y ≡ bitOr (negatedCodeIn (now (w .entry)) (r .0)) x ⌝ }
 {
-    elements::negated_code(w, r) | x
+    elements::value_code(w, true, r) | x
 }
 
 // What it gives to EX: r & x.
@@ -168,22 +166,13 @@ fn next_at(w: &Codes, top: u64, m: &[u8], all: bool, x: &[u64; 64], q: State) ->
     some_next(w, m, x, q)
 }
 
-// AX (all) or EX of the map in `out`, which is copied to `x` first: an array here would be one more for each level of nesting.
-pub fn next_values(
-    w: &Codes,
-    l: Lattice,
-    m: &[u8],
-    all: bool,
-    x: &mut [u64; 64],
-    out: &mut [u64; 64],
-)
-    requires { ⌜ ModelShape (now m) ⌝ }
-    ensures { λ _. ⌜ NextMap (now (w .entry)) l (now (m .entry)) all (now (out .entry)) (now (out .exit)) ⌝ }
+// AX (all) or EX of a map.
+pub fn next_values(w: &Codes, l: Lattice, m: &[u8], all: bool, x: &[u64; 64], out: &mut [u64])
+    requires { ⌜ ModelShape (now m) × (length (now out) ≡ 64) ⌝ }
+    ensures { λ _. ⌜ NextMap (now (w .entry)) l (now (m .entry)) all (now (x .entry)) (now (out .exit)) ⌝ }
 {
     let n = model::states(m);
     let top = elements::code(w, l.top);
-    *x = *out;
-    *out = [0u64; 64];
     for q in 0..n {
         out[q] = next_at(w, top, m, all, x, State(q as u8));
     }

@@ -140,7 +140,9 @@ value-node-add-here t c =
     omega (arith, e, end-most (a .f .now) (a .at))
 
 value-node-literals-requires : (t : ℕ) → value-node-lts.Need-literals-requires (v-claims t) (value-node-at t) value-node.Post
-value-node-literals-requires t c κs = let p = c .before .before .before .before .before .before .before .before .pre .1 in (p .0 .shape, here-literal _ _ (stood t (c .before .before .before .before) _ (c .before .before .token .given .1)) (p .1))
+value-node-literals-requires t c κs =
+    let p = c .before .before .before .before .before .before .before .before .pre .1 in
+    (p .0 .shape, here-literal _ _ (stood t (c .before .before .before .before) _ (c .before .before .token .given .1)) (p .1), search needs)
 
 value-node-value-node-requires : (t : ℕ) → value-node-lts.Need-value-node-requires (v-claims t) (value-node-at t) value-node.Post
 unfolding tokenSize
@@ -168,7 +170,7 @@ value-node-value-node-requires-2 t c κs =
     (omega (arith, fewer t s _ e refl), (p .0, here-inner _ (stood t s _ e) (p .1)))
 
 value-node-next-values-requires : (t : ℕ) → value-node-lts.Need-next-values-requires (v-claims t) (value-node-at t) value-node.Post
-value-node-next-values-requires t c κs = c .before .before .before .before .before .before .before .before .before .before .before .before .pre .1 .0 .shape
+value-node-next-values-requires t c κs = (c .before .before .before .before .before .before .before .before .before .before .before .before .before .pre .1 .0 .shape, search needs)
 
 value-node-iterate-requires : (t : ℕ) → value-node-lts.Need-iterate-requires (v-claims t) (value-node-at t) value-node.Post
 unfolding tokenSize
@@ -204,7 +206,7 @@ value-node-returns-5 t c =
 
 value-node-returns-6 : (t : ℕ) → value-node-lts.Need-returns-6 (v-claims t) (value-node-at t) value-node.Post
 value-node-returns-6 t c =
-    next-arm (c .before .before .before .before .before .before .before .before .before .before .before .before .before .pre .1 .0) _ (stood t (c .before .before .before .before .before .before .before .before .before) _ (c .before .before .before .before .before .before .before .token4 .given .1)) (c .before .before .before .value-node2 .ensures) (c .next-values .ensures)
+    next-arm (c .before .before .before .before .before .before .before .before .before .before .before .before .before .before .pre .1 .0) _ (stood t (c .before .before .before .before .before .before .before .before .before .before) _ (c .before .before .before .before .before .before .before .before .token4 .given .1)) (c .before .before .before .before .value-node2 .ensures) (c .next-values .ensures)
 
 value-node-returns-7 : (t : ℕ) → value-node-lts.Need-returns-7 (v-claims t) (value-node-at t) value-node.Post
 value-node-returns-7 t c =

@@ -18,7 +18,7 @@ abbrev μ-loop : tie.MeasureT-loop
 μ-loop w m negated p next out₀ n q₀ out q = n - q
 
 loop-holds : tie.Need-loop-holds Inv-loop μ-loop
-loop-holds c = (omega arith, refl, filled-none)
+loop-holds c = (omega arith, c .before .before .before .pre .2, filled-none)
 
 loop-again : tie.Need-loop-again Inv-loop μ-loop
 loop-again c =
@@ -27,9 +27,9 @@ loop-again c =
     (omega arith, simp length-set (i .1), filled-more (i .2) (omega arith) (c .value-code .ensures ∙ ap (valueCode (a .negated) (a .w .now)) (c .before .label .ensures)))
 
 returns : tie.Need-returns Inv-loop μ-loop
-returns c = (refl, filled-as (c .before .loop .inv .2) (omega (arith, c .before .before .before .states .ensures)) (λ i b. refl))
+returns c = (refl, filled-as (c .before .loop .inv .2) (omega (arith, c .before .before .states .ensures)) (λ i b. refl))
 
 pub literals-spec : {M : Type 1} → statement M
 literals-spec =
     tie.close (tie.spec Inv-loop μ-loop (λ c κs. search needs) loop-holds (λ c. search needs) (λ c κs. search needs) (λ c κs. search needs)
-    (λ c. search needs) (λ c. search needs) (λ c. search needs) (λ c. search needs) loop-again returns)
+    (λ c. search needs) (λ c. search needs) (λ c. search needs) (λ c. search needs) loop-again (λ c. search needs) returns)

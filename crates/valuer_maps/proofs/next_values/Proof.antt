@@ -17,20 +17,20 @@ abbrev μ-loop : tie.MeasureT-loop
 μ-loop w m all x out₀ n top q₀ out q = n - q
 
 loop-holds : tie.Need-loop-holds Inv-loop μ-loop
-loop-holds c = (omega arith, refl, filled-none)
+loop-holds c = (omega arith, c .before .before .before .before .pre .1, filled-none)
 
 loop-again : tie.Need-loop-again Inv-loop μ-loop
 loop-again c =
-    let i = c .before .before .before .loop .inv in
+    let i = c .before .before .loop .inv in
     (omega arith, simp length-set (i .1), filled-more (i .2) (omega arith) (c .next-at .ensures))
 
 returns : tie.Need-returns Inv-loop μ-loop
 returns c =
-    let a = c .before .before .before .before .before .before .before .args in
-    filled-as (c .before .loop .inv .2) (omega (arith, c .before .before .before .before .before .states .ensures))
-    (λ q b. ap (λ (top : ℕ). nextCode (a .w .now) top (a .m .now) (a .all) (a .out .now) q) (c .before .before .before .before .code .ensures))
+    let a = c .before .before .before .before .before .before .args in
+    filled-as (c .before .loop .inv .2) (omega (arith, c .before .before .before .states .ensures))
+    (λ q b. ap (λ (top : ℕ). nextCode (a .w .now) top (a .m .now) (a .all) (a .x .now) q) (c .before .before .code .ensures))
 
 pub next-values-spec : {M : Type 1} → statement M
 next-values-spec =
     tie.close (tie.spec Inv-loop μ-loop (λ c κs. search needs) (λ c κs. search needs) loop-holds (λ c. search needs) (λ c κs. search needs)
-    (λ c. search needs) (λ c. search needs) (λ c. search needs) (λ c. search needs) loop-again returns)
+    (λ c. search needs) (λ c. search needs) (λ c. search needs) (λ c. search needs) loop-again (λ c. search needs) returns)
