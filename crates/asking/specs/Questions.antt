@@ -1,6 +1,6 @@
 -- What the questions are answered, from what the code found. Rests on examination's Held, rounds' Table and Share, valuer's Values.
 --   Readable, caseScore, caseSimulation, rangeTest: the terms of the code's contracts
---   readable, model-over, valuable, whole-fits, some-entries: a held desk meets what these terms and the functions ask
+--   readable, model-over, formula-on-model, whole-fits, some-entries: a held desk meets what these terms and the functions ask
 --   held-show, held-score, held-share, held-judge, held-whole, held-value: each question answered
 --   share-outside, judge-long, judge-high, whole-outside, value-outside, value-state: each refused with 13
 use Prim.Native.Nat.{ℕ, _+_, _*_, _≤_, _<_}
@@ -27,10 +27,10 @@ use Rattle.rounds.specs.Round.{byte-at, share-cong}
 use Rattle.desk.specs.Desk.{Desk, Question, Call, Reply, wholeTable}
 use Rattle.desk.specs.Case.{ops, latticeSize, model1, model2, N1, N2, tableSize, modelIn, formulaIn, operator, entryAt}
 use Rattle.desk.specs.View.{shownTable}
-use Rattle.desk.specs.CaseParts.{Valuable, model-part, model-valued, formula-part, parts-valuable}
+use Rattle.desk.specs.CaseParts.{FormulaOnModel, model-part, model-valued, formula-part, parts-formula-on-model}
 use Rattle.elements.specs.declared.Lattice.{Lattice}
 use Rattle.elements.specs.Words.{Coded}
-use Rattle.desk.specs.Refused.{tableKept, isModel, numberReply}
+use Rattle.desk.specs.Refused.{tableObeys, isModel, numberReply}
 use Rattle.refusal.specs.declared.Refusal.{Refusal}
 use Rattle.refusal.specs.declared.Refusal.the-variants.{OutOfRange}
 use Rattle.examination.specs.Answer.{Does}
@@ -113,7 +113,7 @@ module _ {d : Desk} {z : Sizes} {w : List ℕ} (h : HeldDesk d z w) where
 
   -- ---- judge
 
-  pub held-judge : (n : ℕ) (b : List ℕ) (x : Bool) → n ≡ z .states1 * z .states2 → eqb (length b) n ≡ true → tableKept n (z .lattice .size) b ≡ true → x ≡ caseSimulation w (z .lattice) bytes b → Does (Call.Ask (Question.Judge b)) d (Reply.Says x) d
+  pub held-judge : (n : ℕ) (b : List ℕ) (x : Bool) → n ≡ z .states1 * z .states2 → eqb (length b) n ≡ true → tableObeys n (z .lattice .size) b ≡ true → x ≡ caseSimulation w (z .lattice) bytes b → Does (Call.Ask (Question.Judge b)) d (Reply.Says x) d
   held-judge n b x m l r f =
       let l' : eqb (length b) (N1 (h .case .holds) * N2 (h .case .holds)) ≡ true = rw (m, h .case .sizes) at l in
       let r' = rw (m, h .case .sizes) at r in
@@ -124,7 +124,7 @@ module _ {d : Desk} {z : Sizes} {w : List ℕ} (h : HeldDesk d z w) where
       let l' : eqb (length b) (N1 (h .case .holds) * N2 (h .case .holds)) ≡ false = rw (m, h .case .sizes) at l in
       held-outside h (Question.Judge b) OutOfRange (rw l')
 
-  pub judge-high : (n : ℕ) (b : List ℕ) → n ≡ z .states1 * z .states2 → eqb (length b) n ≡ true → tableKept n (z .lattice .size) b ≡ false → Does (Call.Ask (Question.Judge b)) d (numberReply OutOfRange) d
+  pub judge-high : (n : ℕ) (b : List ℕ) → n ≡ z .states1 * z .states2 → eqb (length b) n ≡ true → tableObeys n (z .lattice .size) b ≡ false → Does (Call.Ask (Question.Judge b)) d (numberReply OutOfRange) d
   judge-high n b m l r =
       let l' : eqb (length b) (N1 (h .case .holds) * N2 (h .case .holds)) ≡ true = rw (m, h .case .sizes) at l in
       let r' = rw (m, h .case .sizes) at r in
@@ -147,8 +147,8 @@ module _ {d : Desk} {z : Sizes} {w : List ℕ} (h : HeldDesk d z w) where
   pub model-over : (f m : ℕ) → rangeTest f m (z .formulas) ≡ true → ModelOver w (z .lattice) (partAt bytes m)
   model-over f m r = let i = model-of f m r in record { coded = h .case .coded; shape = model-part (h .case) m i .shape; valued = model-valued (h .case) m i }
 
-  pub valuable : (f m : ℕ) → rangeTest f m (z .formulas) ≡ true → Valuable bytes f m
-  valuable f m r = parts-valuable (h .case) f m (formula-of f m r) (model-of f m r)
+  pub formula-on-model : (f m : ℕ) → rangeTest f m (z .formulas) ≡ true → FormulaOnModel bytes f m
+  formula-on-model f m r = parts-formula-on-model (h .case) f m (formula-of f m r) (model-of f m r)
 
   pub held-whole : (f m x : ℕ) → rangeTest f m (z .formulas) ≡ true → WholeValue w (z .lattice) (partAt bytes m) (partAt bytes (3 + f)) x → Does (Call.Ask (Question.Whole f m)) d (Reply.Element x) d
   held-whole f m x r v =

@@ -15,7 +15,7 @@ ghost use lib.ListN.{getD};
 ghost use Rattle.casefile.specs.Directory.{partAt};
 ghost use Rattle.valuer.specs.Values.{ModelOver, ValueAt, WholeValue};
 ghost use Rattle.desk.specs.Desk.{Question};
-ghost use Rattle.desk.specs.CaseParts.{Valuable};
+ghost use Rattle.desk.specs.CaseParts.{FormulaOnModel};
 ghost use Rattle.asking.specs.Answer.{Asks, elementReply};
 ghost use Rattle.asking.specs.Questions.{rangeTest};
 
@@ -33,7 +33,7 @@ fn in_range(f: u8, m: u8, formulas: u8) -> bool
 }
 
 fn whole_of(w: &Codes, l: Lattice, bytes: &[u8], f: u8, m: u8) -> Element
-    requires { ⌜ ModelOver (now w) l (partAt (now bytes) m) × Valuable (now bytes) f m ⌝ }
+    requires { ⌜ ModelOver (now w) l (partAt (now bytes) m) × FormulaOnModel (now bytes) f m ⌝ }
     ensures { λ r. ⌜ WholeValue (now (w .entry)) l (partAt (now (bytes .entry)) m) (partAt (now (bytes .entry)) (3 + f)) (r .0) ⌝ }
 {
     let model = casefile::part(bytes, m);
@@ -61,7 +61,7 @@ pub fn whole(s: Standing, store: &[u8], first: &[u8], second: &[u8], f: u8, m: u
 
 // Model m has a state q.
 fn has_state(bytes: &[u8], f: u8, m: u8, q: State) -> bool
-    requires { ⌜ Valuable (now bytes) f m ⌝ }
+    requires { ⌜ FormulaOnModel (now bytes) f m ⌝ }
     ensures { λ r. ⌜ r ≡ ltb (q .0) (getD (partAt (now (bytes .entry)) m) 0 0) ⌝ }
 {
     let model = casefile::part(bytes, m);
@@ -69,7 +69,7 @@ fn has_state(bytes: &[u8], f: u8, m: u8, q: State) -> bool
 }
 
 fn value_of(w: &Codes, l: Lattice, bytes: &[u8], f: u8, m: u8, q: State) -> Element
-    requires { ⌜ ModelOver (now w) l (partAt (now bytes) m) × Valuable (now bytes) f m × (q .0 < getD (partAt (now bytes) m) 0 0) ⌝ }
+    requires { ⌜ ModelOver (now w) l (partAt (now bytes) m) × FormulaOnModel (now bytes) f m × (q .0 < getD (partAt (now bytes) m) 0 0) ⌝ }
     ensures { λ r. ⌜ ValueAt (now (w .entry)) l (partAt (now (bytes .entry)) m) (partAt (now (bytes .entry)) (3 + f)) (q .0) (r .0) ⌝ }
 {
     let model = casefile::part(bytes, m);

@@ -6,14 +6,14 @@ use lib.ListN.{length, getD}
 use Rattle.casefile.specs.declared.Sizes.{Sizes}
 use Rattle.casefile.specs.declared.CaseCheck.{CaseCheck}
 use Rattle.casefile.specs.declared.CaseCheck.the-variants.{Refused, Accepted}
-use Rattle.lattice.specs.Answer.{boundsOf, CodesOf}
+use Rattle.lattice.specs.Answer.{topAndBottom, CodesOf}
 use Rattle.casefile.specs.Reading.{Content, CaseReading, caseReading, refused, content}
 
 -- the lattice and the sizes of a content
 abbrev pub sizesOf : Content → Sizes
 sizesOf c =
     record {
-      lattice = boundsOf (c .lattice);
+      lattice = topAndBottom (c .lattice);
       states1 = getD (c .model1Bytes) 0 0;
       states2 = getD (c .model2Bytes) 0 0;
       propositions = getD (c .model1Bytes) 1 0;

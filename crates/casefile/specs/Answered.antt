@@ -14,7 +14,7 @@ use Rattle.elements.specs.declared.Lattice.{Lattice}
 use Rattle.refusal.specs.declared.Refusal.{Refusal}
 use Rattle.refusal.specs.declared.Refusal.the-variants.{CaseSize, Directory, PartPlace, BadModel}
 use Rattle.lattice.specs.Reading.{LatticeReading, latticeReading}
-use Rattle.lattice.specs.Answer.{boundsOf, latticeAnswer, CodesOf}
+use Rattle.lattice.specs.Answer.{topAndBottom, latticeAnswer, CodesOf}
 use Rattle.model.specs.Reading.{modelTest, modelAnswer}
 use Rattle.model.specs.declared.ModelCheck.{ModelCheck}
 use Rattle.casefile.specs.declared.CaseCheck.{CaseCheck}
@@ -39,7 +39,7 @@ module _ (b : List ℕ) where
   abbrev fs : List (List ℕ)
   fs = partsFrom b 3 (partCount b - 3)
 
-  rest-same : (P : LatticePart) (x : FormulasReading) → formulasReading (getD (partAt b 1) 1 0) 3 fs ≡ x → restOf b (boundsOf P) (getD (partAt b 1) 0 0) (getD (partAt b 2) 0 0) (getD (partAt b 1) 1 0) (formulasAnswer x) ≡ caseAnswer (afterFormulas (partAt b 0) P (partAt b 1) (partAt b 2) fs x)
+  rest-same : (P : LatticePart) (x : FormulasReading) → formulasReading (getD (partAt b 1) 1 0) 3 fs ≡ x → restOf b (topAndBottom P) (getD (partAt b 1) 0 0) (getD (partAt b 2) 0 0) (getD (partAt b 1) 1 0) (formulasAnswer x) ≡ caseAnswer (afterFormulas (partAt b 0) P (partAt b 1) (partAt b 2) fs x)
   rest-same P (refusedAt i) e = refl
   rest-same P (read φs) e =
       let n : length φs ≡ partCount b - 3 = formulas-read _ 3 fs φs e .as-many ∙ parts-length b 3 (partCount b - 3) in
@@ -49,20 +49,20 @@ module _ (b : List ℕ) where
   abbrev secondReading : LatticePart → Bool → CaseReading
   secondReading P t = cond t (afterFormulas (partAt b 0) P (partAt b 1) (partAt b 2) fs (formulasReading (getD (partAt b 1) 1 0) 3 fs)) (refused (BadModel 2))
 
-  second-same : (P : LatticePart) → secondAnswer b (boundsOf P) (getD (partAt b 1) 0 0) (getD (partAt b 1) 1 0) ≡ caseAnswer (secondReading P (modelTest (P .size) (partAt b 2) && eqb (getD (partAt b 1) 1 0) (getD (partAt b 2) 1 0)))
+  second-same : (P : LatticePart) → secondAnswer b (topAndBottom P) (getD (partAt b 1) 0 0) (getD (partAt b 1) 1 0) ≡ caseAnswer (secondReading P (modelTest (P .size) (partAt b 2) && eqb (getD (partAt b 1) 1 0) (getD (partAt b 2) 1 0)))
   unfolding modelAnswer
   second-same P = go (modelTest (P .size) (partAt b 2)) (eqb (getD (partAt b 1) 1 0) (getD (partAt b 2) 1 0)) refl
     where
-      go : (t u : Bool) → eqb (getD (partAt b 1) 1 0) (getD (partAt b 2) 1 0) ≡ u → afterSecond b (boundsOf P) (getD (partAt b 1) 0 0) (getD (partAt b 1) 1 0) (cond t (ModelCheck.Accepted (getD (partAt b 2) 0 0) (getD (partAt b 2) 1 0)) ModelCheck.Refused) ≡ caseAnswer (secondReading P (t && u))
+      go : (t u : Bool) → eqb (getD (partAt b 1) 1 0) (getD (partAt b 2) 1 0) ≡ u → afterSecond b (topAndBottom P) (getD (partAt b 1) 0 0) (getD (partAt b 1) 1 0) (cond t (ModelCheck.Accepted (getD (partAt b 2) 0 0) (getD (partAt b 2) 1 0)) ModelCheck.Refused) ≡ caseAnswer (secondReading P (t && u))
       go false u e = refl
       go true true e = rw e (rest-same P (formulasReading (getD (partAt b 1) 1 0) 3 fs) refl)
       go true false e = rw e refl
 
-  models-same : (P : LatticePart) → modelsAnswer b (boundsOf P) ≡ caseAnswer (modelsReading (partAt b 0) P (partAt b 1) (partAt b 2) fs)
+  models-same : (P : LatticePart) → modelsAnswer b (topAndBottom P) ≡ caseAnswer (modelsReading (partAt b 0) P (partAt b 1) (partAt b 2) fs)
   unfolding modelsReading modelAnswer
   models-same P = go (modelTest (P .size) (partAt b 1))
     where
-      go : (s : Bool) → afterFirst b (boundsOf P) (cond s (ModelCheck.Accepted (getD (partAt b 1) 0 0) (getD (partAt b 1) 1 0)) ModelCheck.Refused) ≡ caseAnswer (cond s (secondReading P (modelTest (P .size) (partAt b 2) && eqb (getD (partAt b 1) 1 0) (getD (partAt b 2) 1 0))) (refused (BadModel 1)))
+      go : (s : Bool) → afterFirst b (topAndBottom P) (cond s (ModelCheck.Accepted (getD (partAt b 1) 0 0) (getD (partAt b 1) 1 0)) ModelCheck.Refused) ≡ caseAnswer (cond s (secondReading P (modelTest (P .size) (partAt b 2) && eqb (getD (partAt b 1) 1 0) (getD (partAt b 2) 1 0))) (refused (BadModel 1)))
       go false = refl
       go true = second-same P
 

@@ -1,5 +1,5 @@
 -- The directory of a case: where its parts stand, and whether they may stand there. Rests on theory's Test.
---   partCount, directoryEnd, wordAt, partStart, partSize, partEnd, endBefore: what the directory says
+--   partCount, directoryEnd, u16At, partStart, partSize, partEnd, endBefore: what the directory says
 --   sizeTest, directoryTest, placed, misplaced: refusals 1, 2 and 3
 --   partAt, partsFrom, partsOf: the bytes of the parts
 use Prim.Native.Nat.{ℕ, zero, suc, _+_, _*_}
@@ -17,14 +17,14 @@ abbrev pub directoryEnd : List ℕ → ℕ
 directoryEnd b = 1 + 4 * partCount b
 
 -- 'each 16 bits with the low byte first'
-abbrev pub wordAt : List ℕ → ℕ → ℕ
-wordAt b at = getD b at 0 + 256 * getD b (at + 1) 0
+abbrev pub u16At : List ℕ → ℕ → ℕ
+u16At b at = getD b at 0 + 256 * getD b (at + 1) 0
 
 unfoldable pub partStart : List ℕ → ℕ → ℕ
-partStart b i = wordAt b (1 + 4 * i)
+partStart b i = u16At b (1 + 4 * i)
 
 unfoldable pub partSize : List ℕ → ℕ → ℕ
-partSize b i = wordAt b (3 + 4 * i)
+partSize b i = u16At b (3 + 4 * i)
 
 -- the sum is a number of any size: it is not wrapped at 16 bits
 abbrev pub partEnd : List ℕ → ℕ → ℕ

@@ -2,7 +2,7 @@
 use Prim.Native.Nat.{ℕ}
 use mathlib.Core.Path.{_≡_, refl, ap}
 use mathlib.Core.List.{List, [], _∷_}
-use Rattle.theory.specs.Formula.{prop, boundBy, overProps, nestedBinders}
+use Rattle.theory.specs.Formula.{prop, closedUnder, overProps, nestedBinders}
 use Rattle.theory.specs.Part.{topOf, botOf, explicitPart}
 use Rattle.theory.specs.Test.{allBelow, firstBelow}
 use Rattle.theory.specs.Examples.{L3, middleP}
@@ -52,7 +52,7 @@ unfolding firstBelow partStart partSize placed misplaced
 report-placed = record { directory = has-directory reportCase refl refl; each = none-misplaced reportCase refl }
 
 report-parts : PartsRead reportContent
-unfolding boundBy overProps nestedBinders byCode parse formulaReading formulasReading
+unfolding closedUnder overProps nestedBinders byCode parse formulaReading formulasReading
 report-parts =
     record {
       lattice-read = L3-accepted;

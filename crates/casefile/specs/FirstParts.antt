@@ -54,7 +54,7 @@ module _ (b : List ℕ) where
       reading-exactly k (partAt b i) φ .1 (
         w .bytes,
         w .most,
-        and-in (closed φ && overProps k φ) (leb (nestedBinders φ) 3) (and-in (closed φ) (overProps k φ) (w .bound) (w .props)) (le-leb _ _ (w .binders)),
+        and-in (closed φ && overProps k φ) (leb (nestedBinders φ) 3) (and-in (closed φ) (overProps k φ) (w .is-closed) (w .props)) (le-leb _ _ (w .binders)),
       )
 
   no-formula : (i : ℕ) → formulaReading k (partAt b i) ≡ FormulaReading.refused → ¬ HasFormula b i

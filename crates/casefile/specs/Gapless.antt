@@ -1,5 +1,5 @@
 -- The gapless case of a list of parts, and of the parts of a case. Rests on Directory.
---   word, pairs, joined, directory, gapless: a number, the pairs, the parts' bytes, the count with the pairs, and the whole
+--   u16Then, pairs, joined, directory, gapless: a number, the pairs, the parts' bytes, the count with the pairs, and the whole
 --   pairsOf, joinedOf, gaplessOf: the same for the parts of a case
 use Prim.Native.Nat.{ℕ, _+_, _*_, _/_, _%_}
 use mathlib.Core.List.{List, [], _∷_, _++_}
@@ -7,13 +7,13 @@ use lib.ListN.{length}
 use Rattle.casefile.specs.Directory.{directoryEnd, partsOf}
 
 -- a number of 16 bits, low byte first, before b
-abbrev pub word : ℕ → List ℕ → List ℕ
-word x b = x % 256 ∷ x / 256 ∷ b
+abbrev pub u16Then : ℕ → List ℕ → List ℕ
+u16Then x b = x % 256 ∷ x / 256 ∷ b
 
 -- the pairs of offset and length of parts that stand one after the other, the first at `at`
 unfoldable pub pairs : ℕ → List (List ℕ) → List ℕ
 pairs at [] = []
-pairs at (p ∷ ps) = word at (word (length p) (pairs (at + length p) ps))
+pairs at (p ∷ ps) = u16Then at (u16Then (length p) (pairs (at + length p) ps))
 
 -- the bytes of the parts, one after the other
 unfoldable pub joined : List (List ℕ) → List ℕ

@@ -13,7 +13,7 @@ use lib.Seq.{getD-append-add, take-at, drop-at}
 use Rattle.theory.specs.Lattice.{All}
 use Rattle.casefile.specs.Directory.{partCount, directoryEnd, partStart, partSize, endBefore, partAt, partsFrom}
 use Rattle.casefile.specs.Reading.{partsReading, caseReading}
-use Rattle.casefile.specs.Gapless.{word, pairs, joined, directory, gapless}
+use Rattle.casefile.specs.Gapless.{u16Then, pairs, joined, directory, gapless}
 use Rattle.casefile.specs.Placed.{placed-reading}
 use Rattle.casefile.specs.Conditions.{PartPlaced, Placed}
 
@@ -35,16 +35,16 @@ byte-past b pre ys n k at e l f = rw (e, f, ← l) (getD-append-add pre ys k 0)
 
 module _ (b : List ℕ) where
   -- the pair of a part, where the pairs from part i on stand past a front of 1 + 4·i bytes
-  start-read : (i x : ℕ) (pre ys : List ℕ) → b ≡ pre ++ word x ys → length pre ≡ 1 + 4 * i → partStart b i ≡ x
+  start-read : (i x : ℕ) (pre ys : List ℕ) → b ≡ pre ++ u16Then x ys → length pre ≡ 1 + 4 * i → partStart b i ≡ x
   unfolding partStart
   start-read i x pre ys e l =
-      rw (byte-past b pre (word x ys) (1 + 4 * i) 0 (1 + 4 * i) e l (omega arith), byte-past b pre (word x ys) (1 + 4 * i) 1 (1 + 4 * i + 1) e l (omega arith))
+      rw (byte-past b pre (u16Then x ys) (1 + 4 * i) 0 (1 + 4 * i) e l (omega arith), byte-past b pre (u16Then x ys) (1 + 4 * i) 1 (1 + 4 * i + 1) e l (omega arith))
       (omega arith)
 
-  size-read : (i x y : ℕ) (pre ys : List ℕ) → b ≡ pre ++ word x (word y ys) → length pre ≡ 1 + 4 * i → partSize b i ≡ y
+  size-read : (i x y : ℕ) (pre ys : List ℕ) → b ≡ pre ++ u16Then x (u16Then y ys) → length pre ≡ 1 + 4 * i → partSize b i ≡ y
   unfolding partSize
   size-read i x y pre ys e l =
-      rw (byte-past b pre (word x (word y ys)) (1 + 4 * i) 2 (3 + 4 * i) e l (omega arith), byte-past b pre (word x (word y ys)) (1 + 4 * i) 3 (3 + 4 * i + 1) e l (omega arith))
+      rw (byte-past b pre (u16Then x (u16Then y ys)) (1 + 4 * i) 2 (3 + 4 * i) e l (omega arith), byte-past b pre (u16Then x (u16Then y ys)) (1 + 4 * i) 3 (3 + 4 * i + 1) e l (omega arith))
       (omega arith)
 
   -- where the pairs and the parts stand, each past a front of its own, the parts are laid
@@ -60,9 +60,9 @@ module _ (b : List ℕ) where
           within = omega (arith, m, ap length g, length-append front (p ++ (joined ps ++ s)), length-append p (joined ps ++ s));
         },
         laid ps (suc i) (at + length p)
-            (pre ++ word at (word (length p) [])) r (front ++ p) s
-            (e ∙ sym (append-assoc pre (word at (word (length p) [])) (pairs (at + length p) ps ++ r)))
-            (omega (arith, l, length-append pre (word at (word (length p) []))))
+            (pre ++ u16Then at (u16Then (length p) [])) r (front ++ p) s
+            (e ∙ sym (append-assoc pre (u16Then at (u16Then (length p) [])) (pairs (at + length p) ps ++ r)))
+            (omega (arith, l, length-append pre (u16Then at (u16Then (length p) []))))
             (g ∙ sym (append-assoc front p (joined ps ++ s)))
             (omega (arith, m, length-append front p)),
       )

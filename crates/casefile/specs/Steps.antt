@@ -1,7 +1,7 @@
 -- What the steps of the check answer, and what the steps of the writer leave in a buffer. Rests on Answer and Gapless.
 --   wellPlaced, isRead, isAccepted: the tests of the check; partsAnswer, PartsAnswered: what it answers for the parts
 --   afterChecked, modelsAnswer, afterFirst, secondAnswer, afterSecond, restAnswer, restOf, formulasAnswer: the same step by step
---   withWord, withPair, withPairs, withParts: what the steps of the writer leave in a buffer
+--   withU16, withPair, withPairs, withParts: what the steps of the writer leave in a buffer
 use Prim.Native.Nat.{ℕ, _+_, _*_, _-_, _/_, _%_}
 use mathlib.Core.Path.{_≡_}
 use mathlib.Core.Bool.{Bool, true, false, cond, _&&_}
@@ -86,11 +86,11 @@ pub record PartsAnswered (b : List ℕ) (r : CaseCheck) (w : List ℕ) : Type 0 
 -- ---- the writer
 
 -- d with a number of 16 bits at the place `at`, and with the pair of part i
-abbrev pub withWord : List ℕ → ℕ → ℕ → List ℕ
-withWord d at x = set (set d at (x % 256)) (at + 1) (x / 256)
+abbrev pub withU16 : List ℕ → ℕ → ℕ → List ℕ
+withU16 d at x = set (set d at (x % 256)) (at + 1) (x / 256)
 
 abbrev pub withPair : List ℕ → ℕ → ℕ → ℕ → List ℕ
-withPair d i start size = withWord (withWord d (1 + 4 * i) start) (3 + 4 * i) size
+withPair d i start size = withU16 (withU16 d (1 + 4 * i) start) (3 + 4 * i) size
 
 -- d with the pairs of the parts of b, and with the parts themselves, where they stand in the gapless case
 abbrev pub withPairs : List ℕ → List ℕ → List ℕ

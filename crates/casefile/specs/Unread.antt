@@ -12,7 +12,7 @@ use lib.Seq.{getD-take, getD-drop, ext-getD}
 use Rattle.theory.specs.Test.{firstBelow}
 use Rattle.theory.specs.TestLaws.{and-l, FirstAt, first-is, first-unique}
 use Rattle.refusal.specs.declared.Refusal.the-variants.{CaseSize, Directory, PartPlace}
-use Rattle.casefile.specs.Directory.{partCount, directoryEnd, wordAt, partStart, partSize, partEnd, endBefore, placed, sizeTest, directoryTest, misplaced, partAt, partsFrom, partsOf}
+use Rattle.casefile.specs.Directory.{partCount, directoryEnd, u16At, partStart, partSize, partEnd, endBefore, placed, sizeTest, directoryTest, misplaced, partAt, partsFrom, partsOf}
 use Rattle.casefile.specs.Reading.{CaseReading, partsReading, caseReading, storeReading, refused}
 use Rattle.casefile.specs.Placed.{part-of}
 use Rattle.casefile.specs.Conditions.{SameWhereRead}
@@ -43,16 +43,16 @@ module _ (b d : List ℕ) (same : (at : ℕ) → at < directoryEnd b → getD b 
   count-same : partCount b ≡ partCount d
   count-same = same 0 (omega arith)
 
-  word-same : (at : ℕ) → at + 1 < directoryEnd b → wordAt b at ≡ wordAt d at
-  word-same at l = ap₂ (λ x y. x + 256 * y) (same at (omega arith)) (same (at + 1) l)
+  u16-same : (at : ℕ) → at + 1 < directoryEnd b → u16At b at ≡ u16At d at
+  u16-same at l = ap₂ (λ x y. x + 256 * y) (same at (omega arith)) (same (at + 1) l)
 
   start-same : (i : ℕ) → i < partCount b → partStart b i ≡ partStart d i
   unfolding partStart
-  start-same i l = word-same (1 + 4 * i) (omega arith)
+  start-same i l = u16-same (1 + 4 * i) (omega arith)
 
   size-same : (i : ℕ) → i < partCount b → partSize b i ≡ partSize d i
   unfolding partSize
-  size-same i l = word-same (3 + 4 * i) (omega arith)
+  size-same i l = u16-same (3 + 4 * i) (omega arith)
 
   before-same : (i : ℕ) → i < partCount b → endBefore b i ≡ endBefore d i
   before-same zero l = refl

@@ -1,11 +1,11 @@
 -- For loops that write bytes one after the other: what stands so far, and what is still to come. Rests on Gapless and Accepted.
 --   Appended: the first bytes of a buffer are written, and with the rest they are a whole; its laws are appended-start, -left, -length,
---     -byte, -part, -done, -last, -word
---   copied, pair-put: a copy byte by byte, and a pair by two words
+--     -byte, -part, -done, -last, -u16
+--   copied, pair-put: a copy byte by byte, and a pair by two u16 numbers
 --   gapless-fits, directory-fits: a placed case is at least as long as its gapless form, and a buffer for that holds the directory
 --   Writing: where a loop over the parts has come to, and its two kinds, PairsWritten and PartsWritten
 --   writing-start; pairs-turn, parts-turn; writing-end, writing-done: its begin, its turns and its end
---   Room, writing-room, pairs-kept, parts-kept: what a turn asks for, and that the buffer has its length
+--   Room, writing-room, pairs-buffer-length, parts-buffer-length: what a turn asks for, and that the buffer has its length
 --   case-written: the count, the pairs and the parts are the gapless case
 use Prim.Native.Nat.{ℕ, zero, suc, _+_, _*_, _-_, _/_, _%_, _≤_, _<_}
 use mathlib.Core.Path.{_≡_, refl, sym, subst, ap, ap₂, _∙_}
@@ -17,11 +17,11 @@ use lib.ListN.{length, getD, take, drop, set, length-append, length-drop, take-a
 use lib.Seq.{length-take-le, take-length, take-at, drop-cons, drop-append-add, drop-drop, set-at, paste}
 use Rattle.theory.specs.Lists.{written}
 use Rattle.casefile.specs.Directory.{partCount, directoryEnd, partStart, partSize, partAt, partsFrom, partsOf}
-use Rattle.casefile.specs.Gapless.{word, pairs, joined, gapless, pairsOf, joinedOf, gaplessOf}
+use Rattle.casefile.specs.Gapless.{u16Then, pairs, joined, gapless, pairsOf, joinedOf, gaplessOf}
 use Rattle.casefile.specs.Conditions.{Placed}
 use Rattle.casefile.specs.Laid.{pairs-length, gapless-length}
 use Rattle.casefile.specs.Accepted.{part-length, parts-length}
-use Rattle.casefile.specs.Steps.{withWord, withPair, withPairs, withParts}
+use Rattle.casefile.specs.Steps.{withU16, withPair, withPairs, withParts}
 
 -- d was the buffer at first, out is it now. The first `at` bytes are written; with `rest` after them they are `whole`
 pub record Appended (d out : List ℕ) (at : ℕ) (rest whole : List ℕ) : Type 0 where
@@ -79,13 +79,13 @@ appended-last {d} {out} {whole} {at} p w = appended-done (appended-part p (subst
 pub copied : (d : List ℕ) (at : ℕ) (s : List ℕ) (j : ℕ) → j ≤ length s → length s ≤ j → paste d at s j ≡ written at s d
 copied d at s j l m = let e : j ≡ length s = omega arith in rw (e, take-length s) refl
 
--- a pair is written by two words
-pub pair-put : (d e f : List ℕ) (i u v start size : ℕ) → u ≡ i → v ≡ i → e ≡ withWord d (1 + 4 * u) start → f ≡ withWord e (3 + 4 * v) size → f ≡ withPair d i start size
+-- a pair is written by two u16 numbers
+pub pair-put : (d e f : List ℕ) (i u v start size : ℕ) → u ≡ i → v ≡ i → e ≡ withU16 d (1 + 4 * u) start → f ≡ withU16 e (3 + 4 * v) size → f ≡ withPair d i start size
 pair-put d e f i u v start size p q x y = y ∙ rw (x, p, q) refl
 
--- a word is written by two stores
-pub appended-word : {d out rest whole : List ℕ} {at : ℕ} (x : ℕ) → Appended d out at (word x rest) whole → at + 2 ≤ length d → Appended d (withWord out at x) (at + 2) rest whole
-appended-word {d} {out} {rest} {whole} {at} x w l =
+-- a u16 number is written by two stores
+pub appended-u16 : {d out rest whole : List ℕ} {at : ℕ} (x : ℕ) → Appended d out at (u16Then x rest) whole → at + 2 ≤ length d → Appended d (withU16 out at x) (at + 2) rest whole
+appended-u16 {d} {out} {rest} {whole} {at} x w l =
     let e : at + 1 + 1 ≡ at + 2 = omega arith in
     rw e at (appended-byte (x / 256) (appended-byte (x % 256) w (omega arith)) (omega arith))
 
@@ -202,13 +202,13 @@ module _ {b d out : List ℕ} {i at : ℕ} where
       let m : length (partAt b i) ≡ size = r .sized ∙ sym e in
       let k : 1 + 4 * i + 2 ≡ 3 + 4 * i = omega arith in
       let z : 3 + 4 * i + 2 ≡ 1 + 4 * (i + 1) = omega arith in
-      let v = rw k at (appended-word at (rw (parts-next b i l, m) at (w .appended)) (omega (arith, r .directory-within))) in
+      let v = rw k at (appended-u16 at (rw (parts-next b i l, m) at (w .appended)) (omega (arith, r .directory-within))) in
       rw g
       (record {
         placed = w .placed;
         fits = w .fits;
         front = w .front;
-        appended = rw z at (appended-word size v (omega (arith, r .directory-within)));
+        appended = rw z at (appended-u16 size v (omega (arith, r .directory-within)));
         offset = rw m at (offset-next w l);
       })
 
@@ -225,11 +225,11 @@ module _ {b d out : List ℕ} {i at : ℕ} where
         offset = offset-next w l;
       })
 
-  pub pairs-kept : PairsWritten b d out i at → i ≤ partCount b → length out ≡ length d
-  pairs-kept w l = appended-length (w .appended) (omega (arith, directory-fits b d (w .fits)))
+  pub pairs-buffer-length : PairsWritten b d out i at → i ≤ partCount b → length out ≡ length d
+  pairs-buffer-length w l = appended-length (w .appended) (omega (arith, directory-fits b d (w .fits)))
 
-  pub parts-kept : PartsWritten b d out i at → length out ≡ length d
-  parts-kept w = appended-length (w .appended) (omega (arith, w .offset, w .fits))
+  pub parts-buffer-length : PartsWritten b d out i at → length out ≡ length d
+  parts-buffer-length w = appended-length (w .appended) (omega (arith, w .offset, w .fits))
 
 -- ---- the whole case
 

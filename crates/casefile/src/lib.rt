@@ -12,7 +12,7 @@ ghost use Prim.Native.Nat.{_+_, _-_, _≤_, _<_};
 ghost use lib.ListN.{length};
 ghost use Rattle.theory.specs.Lists.{written};
 ghost use Rattle.formula.specs.Bytes.{formulaReading};
-ghost use Rattle.casefile.specs.Directory.{partCount, wordAt, partStart, partSize, partEnd, sizeTest, directoryTest, misplaced, partAt, partsFrom};
+ghost use Rattle.casefile.specs.Directory.{partCount, u16At, partStart, partSize, partEnd, sizeTest, directoryTest, misplaced, partAt, partsFrom};
 ghost use Rattle.casefile.specs.Reading.{formulasReading};
 ghost use Rattle.casefile.specs.Gapless.{gaplessOf};
 ghost use Rattle.casefile.specs.Answer.{CaseAnswered};
@@ -42,9 +42,9 @@ enum FormulasCheck {
 }
 
 // A number of 16 bits, low byte first.
-fn word(bytes: &[u8], at: usize) -> usize
+fn u16_at(bytes: &[u8], at: usize) -> usize
     requires { ⌜ at + 1 < length (now bytes) ⌝ }
-    ensures { λ r. ⌜ (r ≡ wordAt (now (bytes .entry)) at) × (r < 65536) ⌝ }
+    ensures { λ r. ⌜ (r ≡ u16At (now (bytes .entry)) at) × (r < 65536) ⌝ }
 {
     elements::index(bytes[at]) + 256 * elements::index(bytes[at + 1])
 }
@@ -54,7 +54,7 @@ pub fn part_start(bytes: &[u8], i: u8) -> usize
     requires { ⌜ HasDirectory (now bytes) × (i < partCount (now bytes)) ⌝ }
     ensures { λ r. ⌜ (r ≡ partStart (now (bytes .entry)) i) × (r < 65536) ⌝ }
 {
-    word(bytes, 1 + 4 * elements::index(i))
+    u16_at(bytes, 1 + 4 * elements::index(i))
 }
 
 // How many bytes part i has.
@@ -62,7 +62,7 @@ pub fn part_size(bytes: &[u8], i: u8) -> usize
     requires { ⌜ HasDirectory (now bytes) × (i < partCount (now bytes)) ⌝ }
     ensures { λ r. ⌜ (r ≡ partSize (now (bytes .entry)) i) × (r < 65536) ⌝ }
 {
-    word(bytes, 3 + 4 * elements::index(i))
+    u16_at(bytes, 3 + 4 * elements::index(i))
 }
 
 // Where part i ends: a sum that may be past 16 bits.
@@ -238,7 +238,7 @@ pub fn check(bytes: &[u8], w: &mut Codes) -> CaseCheck
     check_parts(bytes, w)
 }
 
-// Writes the gapless case of the parts of an accepted case, and says how many bytes it has. The bytes after it are kept.
+// Writes the gapless case of the parts of an accepted case, and says how many bytes it has. The bytes after it are unchanged.
 pub fn write(bytes: &[u8], out: &mut [u8]) -> usize
     requires { ⌜ Placed (now bytes) × (length (gaplessOf (now bytes)) ≤ length (now out)) ⌝ }
     ensures { λ r. ⌜ (r ≡ length (gaplessOf (now (bytes .entry)))) × (now (out .exit) ≡ written 0 (gaplessOf (now (bytes .entry))) (now (out .entry))) ⌝ }

@@ -7,7 +7,7 @@ ghost use lib.ListN.{length};
 ghost use Rattle.theory.specs.Lists.{written};
 ghost use Rattle.casefile.specs.Gapless.{gaplessOf};
 ghost use Rattle.casefile.specs.Conditions.{Placed};
-ghost use Rattle.casefile.specs.Steps.{withWord, withPair, withPairs, withParts};
+ghost use Rattle.casefile.specs.Steps.{withU16, withPair, withPairs, withParts};
 
 // Writes bytes at a place of a buffer.
 fn copy(part: &[u8], out: &mut [u8], at: usize)
@@ -21,9 +21,9 @@ fn copy(part: &[u8], out: &mut [u8], at: usize)
 }
 
 // Writes a number of 16 bits, low byte first.
-fn put_word(out: &mut [u8], at: usize, x: usize)
+fn put_u16(out: &mut [u8], at: usize, x: usize)
     requires { ⌜ (at + 1 < length (now out)) × (x < 65536) ⌝ }
-    ensures { λ _. ⌜ now (out .exit) ≡ withWord (now (out .entry)) at x ⌝ }
+    ensures { λ _. ⌜ now (out .exit) ≡ withU16 (now (out .entry)) at x ⌝ }
 {
     out[at] = (x % 256) as u8;
     out[at + 1] = (x / 256) as u8;
@@ -34,8 +34,8 @@ fn put_pair(out: &mut [u8], i: u8, start: usize, size: usize)
     requires { ⌜ (4 + 4 * i < length (now out)) × (start < 65536) × (size < 65536) ⌝ }
     ensures { λ _. ⌜ now (out .exit) ≡ withPair (now (out .entry)) i start size ⌝ }
 {
-    put_word(out, 1 + 4 * elements::index(i), start);
-    put_word(out, 3 + 4 * elements::index(i), size);
+    put_u16(out, 1 + 4 * elements::index(i), start);
+    put_u16(out, 3 + 4 * elements::index(i), size);
 }
 
 // Writes the pairs of offset and length, for parts without gaps.

@@ -1,6 +1,6 @@
 -- Formula f and model m of an accepted case, as parts of its bytes: for the proofs of the code that values them. Rests on Case, Refused and
 -- casefile's Caller.
---   Valuable: what valuing formula f on model m asks of a case; parts-valuable: an accepted case fulfils it
+--   FormulaOnModel: what valuing formula f on model m asks of a case; parts-formula-on-model: an accepted case fulfils it
 --   ModelPart, model-part: part m of an accepted case is model m of its content; model-valued: its values are elements; formula-part: part 3 + f is read as formula f
 use Prim.Native.Nat.{ℕ, _+_, _≤_, _<_}
 use mathlib.Core.Path.{_≡_, refl, sym, ap}
@@ -24,7 +24,7 @@ use Rattle.desk.specs.Case.{modelIn, formulaIn}
 use Rattle.desk.specs.Refused.{isModel}
 
 -- what valuing formula f on model m asks of the case b: the parts stand in it, and read as a model and a formula
-pub record Valuable (b : List ℕ) (f m : ℕ) : Type 0 where
+pub record FormulaOnModel (b : List ℕ) (f m : ℕ) : Type 0 where
   pub placed : Placed b
   pub model-below : m < partCount b
   pub formula-in : 3 + f < partCount b
@@ -58,8 +58,8 @@ module _ {b : List ℕ} {z : Sizes} {w : List ℕ} (a : AcceptedCase b z w) wher
     pub formula-part : formulaReading (getD (partAt b m) 1 0) (partAt b (3 + f)) ≡ read (formulaIn (a .holds) f)
     formula-part = rw (model-part m model .propositions, a .parts .formula f formula-below) (a .sound .formulas .each f formula-below)
 
-    pub parts-valuable : Valuable b f m
-    parts-valuable =
+    pub parts-formula-on-model : FormulaOnModel b f m
+    parts-formula-on-model =
         let p = model-part m model in
         record {
           placed = a .placed;

@@ -1,5 +1,5 @@
 -- Demand 1, of every call on every desk; that it holds is `demand1` (Demand1Holds). Rests on Refused, Perform, casefile's Conditions and RefusedAs.
---   Demand1: the demand. A refusal alters nothing, and what it answers: alters-nothing, lent-kept, numbered, show-refused
+--   Demand1: the demand. A refusal alters nothing, and what it answers: alters-nothing, lent-unchanged, numbered, show-refused
 --     which refusal is given, and exactly when: at-11, refused-as (1 to 10, a field for each), at-12, after-12, ranges, only
 --     every other input is accepted: case-accepted, open-accepted, other-accepted
 --   InStore: a content in the store, and the refusal of the call's own conditions there, if one is broken
@@ -20,14 +20,14 @@ use Rattle.desk.specs.View.{View, viewOf}
 use Rattle.desk.specs.Refused.{short, Rules, conditions, callConditions, InRange, refusalsOf, OneOf, firstRefusal, examined, accepted}
 use Rattle.desk.specs.Perform.{perform}
 
--- a content whose rules the desk keeps, and x is the refusal of the call's own conditions there, if one is broken
+-- a content whose rules the desk obeys, and x is the refusal of the call's own conditions there, if one is broken
 abbrev pub InStore : Call → Desk → Option Refusal → Type 0
 InStore k d x = (c : Content) × Rules d c × (firstRefusal (callConditions k) (viewOf c d) ≡ x)
 
 pub record Demand1 (k : Call) (d : Desk) : Type 0 where
   -- 'a refusal alters nothing'
   pub alters-nothing : (r : Refusal) → examined k d ≡ refused r → perform k d .desk ≡ d
-  pub lent-kept : (r : Refusal) → examined k d ≡ refused r → perform k d .lent ≡ callLentBuffers k
+  pub lent-unchanged : (r : Refusal) → examined k d ≡ refused r → perform k d .lent ≡ callLentBuffers k
   -- it gives number and part; 'A refused show returns an empty part and no refusal number.'
   pub numbered : (r : Refusal) → isShow k ≡ false → examined k d ≡ refused r → perform k d .reply ≡ Reply.Refused (numberOf r) (partOf r)
   pub show-refused : (r : Refusal) → isShow k ≡ true → examined k d ≡ refused r → perform k d .reply ≡ Reply.Shown []

@@ -101,7 +101,7 @@ module _ (k : Call) (d : Desk) where
   demand1 =
       record {
         alters-nothing = λ r e. ap (λ x. x .desk) (perform-refused k d r e);
-        lent-kept = λ r e. ap (λ x. x .lent) (perform-refused k d r e);
+        lent-unchanged = λ r e. ap (λ x. x .lent) (perform-refused k d r e);
         numbered = λ r s e. ap (λ x. x .reply) (perform-refused k d r e) ∙ refused-numbered k r s;
         show-refused = λ r s e. ap (λ x. x .reply) (perform-refused k d r e) ∙ refused-shown k r s;
         at-11 = (short-only, is-short k d);

@@ -88,7 +88,7 @@ module _ (c : Content) (h : ContentSound c) where
   value-by : (f m : ℕ) → f < length (c .formulas) → (u : Formula → (ℕ → ℕ → ℕ) → ℕ → ℕ) → Calculus (ops c) (modelIn c m) u → SameMap (ops c) (modelIn c m) (valueAt (ops c) (modelIn c m) (formulaIn c f)) (u (formulaIn c f) (λ v i. ops c .bot))
   value-by f m k u a =
       let p = formula-part (model1 c .propositions) _ (formulaIn c f) (h .formulas .each f k) in
-      value-of m (formulaIn c f) (p .bound) (p .props) u a
+      value-of m (formulaIn c f) (p .is-closed) (p .props) u a
 
 pub value-asked : (f m q : ℕ) (d : Desk) (c : Content) → examined (Call.Ask (Question.Value f m q)) d ≡ content c → (u : Formula → (ℕ → ℕ → ℕ) → ℕ → ℕ) → Calculus (ops c) (modelIn c m) u → asked (Question.Value f m q) d ≡ Reply.Element (u (formulaIn c f) (λ v i. ops c .bot) q)
 unfolding answer

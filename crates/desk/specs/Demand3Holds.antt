@@ -1,6 +1,6 @@
 -- Demand 3 holds. Rests on Demand3, Listed, Next, Stands, RefusedLaws, and theory's Rounds, Preservation, Height and Sharp.
 --   demand3: every list of calls with an accepted opening in it has the demand; listed: the claim holds for whatever last accepted opening and T
---   claimed: the claim from the invariant; T-most-sharp: another bound of T
+--   claimed: the claim from the invariant; T-most-sharp: another limit of T
 --   ranges, asked-next; value-next, whole-next, score-next, share-next, judge-yes, judge-no: what it says of the questions one by one
 use Prim.Native.Nat.{ℕ, suc, _+_, _-_, _≤_, _<_}
 use mathlib.Core.Path.{_≡_, refl, sym, ap, _∙_, subst}

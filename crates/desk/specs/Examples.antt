@@ -11,10 +11,10 @@ use Rattle.theory.specs.Lattice.{imp, iff, bigMeet, bigJoin}
 use Rattle.theory.specs.Value.{iterate, bind, allNext, someNext, eval, valueAt, wholeValue}
 use Rattle.theory.specs.Simulation.{propositionPart, successorPart, F, roundOf, score, count, share}
 use Rattle.theory.specs.Part.{isMeet, isJoin, meetOf, joinOf, topOf, botOf, element}
-use Rattle.theory.specs.Formula.{boundBy, overProps, nestedBinders}
+use Rattle.theory.specs.Formula.{closedUnder, overProps, nestedBinders}
 use Rattle.theory.specs.Test.{allBelow, firstBelow}
 use Rattle.theory.specs.Lists.{tab}
-use Rattle.lattice.specs.Reading.{isPanel, latticeOf, explicitForm, latticeForm, reflexive, antisymmetric, transitive, partialOrder, bounded, distributive, complementRules, require, partReading, latticeReading}
+use Rattle.lattice.specs.Reading.{isPanel, latticeOf, explicitForm, latticeForm, reflexive, antisymmetric, transitive, partialOrder, meetsAndJoins, distributive, complementRules, require, partReading, latticeReading}
 use Rattle.model.specs.Reading.{elementsOnly, modelTest}
 use Rattle.formula.specs.Bytes.{byCode, parse, formulaReading}
 use Rattle.refusal.specs.declared.Refusal.{Refusal}
@@ -24,7 +24,7 @@ use Rattle.casefile.specs.Gapless.{pairs, joined, gapless}
 use Rattle.casefile.specs.Examples.{reportCase}
 use Rattle.rounds.specs.Table.{rowSame, changedBelow, simulationTest}
 use Rattle.desk.specs.Desk.{Desk, Question, Call, Reply}
-use Rattle.desk.specs.Refused.{short, rulesKept, spoiled, examined, accepted, refusedReply}
+use Rattle.desk.specs.Refused.{short, rulesObeyed, spoiled, examined, accepted, refusedReply}
 use Rattle.desk.specs.Moved.{opened, worked, stepped}
 use Rattle.desk.specs.Perform.{answer, moved, lentAfter, perform}
 use Rattle.desk.specs.Run.{replies}
@@ -105,5 +105,5 @@ abbrev pub AnswersAs : List (Call × Reply) → Type 0
 AnswersAs l = replies (map (λ x. x .0) l) zeros ≡ map (λ x. x .1) l
 
 pub examples-answer : AnswersAs calls1 × AnswersAs calls4
-unfolding imp iff bigMeet bigJoin iterate bind allNext someNext eval valueAt wholeValue propositionPart successorPart F roundOf score count share isMeet isJoin meetOf joinOf topOf botOf element boundBy overProps nestedBinders allBelow firstBelow isPanel latticeOf explicitForm latticeForm reflexive antisymmetric transitive partialOrder bounded distributive complementRules require partReading latticeReading elementsOnly modelTest byCode parse formulaReading partStart partSize placed misplaced partsFrom formulasReading modelsReading caseReading pairs joined gapless tab rowSame changedBelow simulationTest short rulesKept spoiled examined accepted opened worked stepped answer moved lentAfter perform replies
+unfolding imp iff bigMeet bigJoin iterate bind allNext someNext eval valueAt wholeValue propositionPart successorPart F roundOf score count share isMeet isJoin meetOf joinOf topOf botOf element closedUnder overProps nestedBinders allBelow firstBelow isPanel latticeOf explicitForm latticeForm reflexive antisymmetric transitive partialOrder meetsAndJoins distributive complementRules require partReading latticeReading elementsOnly modelTest byCode parse formulaReading partStart partSize placed misplaced partsFrom formulasReading modelsReading caseReading pairs joined gapless tab rowSame changedBelow simulationTest short rulesObeyed spoiled examined accepted opened worked stepped answer moved lentAfter perform replies
 examples-answer = (refl, refl)

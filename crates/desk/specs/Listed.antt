@@ -1,7 +1,7 @@
 -- Lists of calls, and the invariant of demand 3 after them. Rests on Run, RefusedLaws, Stands, Stepping, Next.
 --   last-opening, opening-T: a list with an accepted opening in it has a last one, whose case has a T
 --   Since, since: after a list with no accepted opening the invariant holds, and each accepted step answered what it says
---   run-append: one list after another; call-keeps, reading-keeps: a refused call, and one that neither opens nor steps, leaves the desk as it was
+--   run-append: one list after another; call-unchanged, reading-unchanged: a refused call, and one that neither opens nor steps, leaves the desk as it was
 --   step-stands: an accepted step moves the invariant on, and answers what it says
 use Prim.Native.Nat.{ℕ, zero, suc, _+_, _<_}
 use mathlib.Core.Path.{_≡_, refl, sym, ap, _∙_, subst}
@@ -10,7 +10,7 @@ use mathlib.Core.List.{List, [], _∷_, _++_}
 use native.Mathlib.Nat.{not-suc-le-zero}
 use native.Mathlib.Omega.{arith}
 use lib.ListN.{length, getD}
-use Rattle.theory.specs.Simulation.{one}
+use Rattle.theory.specs.Simulation.{indicator}
 use Rattle.theory.specs.Height.{longest-chain}
 use Rattle.theory.specs.Rounds.{T-exists}
 use Rattle.theory.specs.TestLaws.{false-true}
@@ -54,7 +54,7 @@ unfolding openings run
 last-opening [] d h = absurd (not-suc-le-zero h)
 last-opening (k ∷ ks) d h = go (openings ks (perform k d .desk)) refl (last-opening ks (perform k d .desk)) (isOpen k && accepted k d) refl h
   where
-    go : (n : ℕ) → openings ks (perform k d .desk) ≡ n → (0 < n → LastOpening ks (perform k d .desk)) → (t : Bool) → (isOpen k && accepted k d) ≡ t → 0 < one t + n → LastOpening (k ∷ ks) d
+    go : (n : ℕ) → openings ks (perform k d .desk) ≡ n → (0 < n → LastOpening ks (perform k d .desk)) → (t : Bool) → (isOpen k && accepted k d) ≡ t → 0 < indicator t + n → LastOpening (k ∷ ks) d
     go (suc n) p later t q l =
         let w = later (omega arith) in
         record { before = k ∷ w .before; case = w .case; after = w .after; list = ap (λ (x : List Call). k ∷ x) (w .list); holds = w .holds; opens = w .opens; last = w .last }
@@ -74,25 +74,25 @@ opening-T {ks} {d} l =
 
 -- ---- a call that neither opens nor steps, and every refused call, leaves the desk as it was
 
-moved-keeps : (k : Call) (c : Content) (d : Desk) → isOpen k ≡ false → isStep k ≡ false → moved k c d ≡ d
+moved-unchanged : (k : Call) (c : Content) (d : Desk) → isOpen k ≡ false → isStep k ≡ false → moved k c d ≡ d
 unfolding moved
-moved-keeps (Call.Open b) c d o s = absurd (false-true o refl)
-moved-keeps Call.Step c d o s = absurd (false-true s refl)
-moved-keeps Call.Show c d o s = refl
-moved-keeps (Call.Ask q) c d o s = refl
+moved-unchanged (Call.Open b) c d o s = absurd (false-true o refl)
+moved-unchanged Call.Step c d o s = absurd (false-true s refl)
+moved-unchanged Call.Show c d o s = refl
+moved-unchanged (Call.Ask q) c d o s = refl
 
-pub call-keeps : (k : Call) (d : Desk) → (isOpen k && accepted k d) ≡ false → (isStep k && accepted k d) ≡ false → perform k d .desk ≡ d
-call-keeps k d o s = go (accepted k d) refl (isOpen k) refl (isStep k) refl o s
+pub call-unchanged : (k : Call) (d : Desk) → (isOpen k && accepted k d) ≡ false → (isStep k && accepted k d) ≡ false → perform k d .desk ≡ d
+call-unchanged k d o s = go (accepted k d) refl (isOpen k) refl (isStep k) refl o s
   where
     go : (a : Bool) → accepted k d ≡ a → (x : Bool) → isOpen k ≡ x → (y : Bool) → isStep k ≡ y → (x && a) ≡ false → (y && a) ≡ false → perform k d .desk ≡ d
     go false a x p y q o s = let w = refused-refusal k d a in ap (λ z. z .desk) (perform-refused k d (w .0) (w .1))
     go true a true p y q o s = absurd (false-true o refl)
     go true a false p true q o s = absurd (false-true s refl)
-    go true a false p false q o s = let w = accepted-content k d a in ap (λ z. z .desk) (perform-accepted k d (w .0) (w .1)) ∙ moved-keeps k (w .0) d p q
+    go true a false p false q o s = let w = accepted-content k d a in ap (λ z. z .desk) (perform-accepted k d (w .0) (w .1)) ∙ moved-unchanged k (w .0) d p q
 
 -- 'The last six calls alter no buffer and no standing', accepted or refused: standing, store and both tables are as they were
-pub reading-keeps : (k : Call) (d : Desk) → isOpen k ≡ false → isStep k ≡ false → perform k d .desk ≡ d
-reading-keeps k d o s = call-keeps k d (ap (λ (x : Bool). x && accepted k d) o) (ap (λ (x : Bool). x && accepted k d) s)
+pub reading-unchanged : (k : Call) (d : Desk) → isOpen k ≡ false → isStep k ≡ false → perform k d .desk ≡ d
+reading-unchanged k d o s = call-unchanged k d (ap (λ (x : Bool). x && accepted k d) o) (ap (λ (x : Bool). x && accepted k d) s)
 
 -- ---- after s accepted steps, a list of calls with no accepted opening in it
 
@@ -130,10 +130,10 @@ module _ {c : Content} {T : ℕ} where
     where
       go : (x : Bool) → (isOpen k && accepted k d) ≡ x → (t : Bool) → (isStep k && accepted k d) ≡ t
           → ((n : ℕ) (f : Desk) → Stands c T n f → openings ks f ≡ 0 → Since c T n (stepAnswers ks f) (run ks f))
-          → one x + openings ks (perform k d .desk) ≡ 0
+          → indicator x + openings ks (perform k d .desk) ≡ 0
           → Since c T s (cond t (perform k d .reply ∷ stepAnswers ks (perform k d .desk)) (stepAnswers ks (perform k d .desk))) (run ks (perform k d .desk))
       go true x t q later o = absurd (omega arith)
       go false x true q later o =
           let v = step-stands k s d w q in
           answers-more s (perform k d .reply) (stepAnswers ks (perform k d .desk)) (run ks (perform k d .desk)) (v .1) (later (s + 1) (perform k d .desk) (v .0) (omega arith))
-      go false x false q later o = later s (perform k d .desk) (subst (Stands c T s) (sym (call-keeps k d x q)) w) (omega arith)
+      go false x false q later o = later s (perform k d .desk) (subst (Stands c T s) (sym (call-unchanged k d x q)) w) (omega arith)

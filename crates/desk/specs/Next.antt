@@ -36,7 +36,7 @@ use Rattle.desk.specs.Run.{roundAfter, answerAfter, viewAfter, AnsweredF
 use Rattle.desk.specs.RefusedLaws.{Unspoiled, opens-or-not, open-long, in-store, perform-refused, perform-accepted}
 use Rattle.desk.specs.RulesLaws.{Long, long-not-short, range-exactly, broken-exactly, refusal-one}
 use Rattle.desk.specs.ViewLaws.{SameView, conditions-cong, answer-cong}
-use Rattle.desk.specs.Stands.{known-sound, Going, Ended, Progress, GoingAt, EndedAt, Stands, sizes-most}
+use Rattle.desk.specs.Stands.{known-sound, BeforeT, AtT, Progress, DeskBeforeT, DeskAtT, Stands, sizes-most}
 
 -- ---- s is round · N1 + row
 
@@ -56,8 +56,8 @@ pub record Position (c : Content) (T s : ℕ) (x : Standing) : Type 0 where
   pub answer-is : stepAnswer x ≡ answerAfter c T s
 
 module _ {c : Content} {T s : ℕ} {x : Standing} where
-  going-position : {whole other : List ℕ} → Going c T s x whole other → Position c T s x
-  going-position g =
+  beforeT-position : {whole other : List ℕ} → BeforeT c T s x whole other → Position c T s x
+  beforeT-position g =
       let d : s / N1 c ≡ x .round = div-of (N1 c) (x .round) (x .row) s (g .row-below) (g .count) in
       let m : s % N1 c ≡ x .row = mod-of (N1 c) (x .round) (x .row) s (g .row-below) (g .count) in
       let b : min (s / N1 c) T ≡ x .round = rw d (min-eq-left (omega (arith, g .below))) in
@@ -72,8 +72,8 @@ module _ {c : Content} {T s : ℕ} {x : Standing} where
         answer-is = rw (g .unsettled, ne-eqb _ _ n, p, m);
       }
 
-  ended-position : 0 < N1 c → Ended c T s x → Position c T s x
-  ended-position states e =
+  atT-position : 0 < N1 c → AtT c T s x → Position c T s x
+  atT-position states e =
       let p : roundAfter c T s ≡ T = min-eq-right (le-div-iff-mul-le states .1 (e .enough)) in
       record {
         round-is = e .at-T ∙ sym p;
@@ -85,7 +85,7 @@ module _ {c : Content} {T s : ℕ} {x : Standing} where
       }
 
   pub position : {whole other : List ℕ} → 0 < N1 c → Progress c T s x whole other → Position c T s x
-  position states h = ⊎-elim going-position (ended-position states) (h .place)
+  position states h = ⊎-elim beforeT-position (atT-position states) (h .place)
 
 no-refusal : (x : Option Refusal) → noRefusal x ≡ true → x ≡ none
 no-refusal none e = refl
@@ -122,8 +122,8 @@ module _ {c : Content} {T s : ℕ} {d : Desk} (w : Stands c T s d) where
   T-limit : T ≤ limit c + 1
   T-limit = T-at-most-size (content-is-sound .laws) (model1 c) (model2 c) T (w .known .isT)
 
-  going-rules : GoingAt c T s d → Rules d c
-  going-rules g =
+  beforeT-rules : DeskBeforeT c T s d → Rules d c
+  beforeT-rules g =
       record {
         reads = store-reads-as;
         size1 = w .sizes .0;
@@ -138,8 +138,8 @@ module _ {c : Content} {T s : ℕ} {d : Desk} (w : Stands c T s d) where
         second-below = below .1;
       }
 
-  ended-rules : EndedAt c T s d → Rules d c
-  ended-rules x =
+  atT-rules : DeskAtT c T s d → Rules d c
+  atT-rules x =
       record {
         reads = store-reads-as;
         size1 = w .sizes .0;
@@ -155,7 +155,7 @@ module _ {c : Content} {T s : ℕ} {d : Desk} (w : Stands c T s d) where
       }
 
   pub stands-unspoiled : Unspoiled d c
-  stands-unspoiled = record { long = long-not-short d long; rules = ⊎-elim going-rules ended-rules (w .progress .place) }
+  stands-unspoiled = record { long = long-not-short d long; rules = ⊎-elim beforeT-rules atT-rules (w .progress .place) }
 
   -- the refusals that are left: those of a case that is to be opened, and those after 12
   pub next-refusal : (k : Call) (r : Refusal) → examined k d ≡ refused r → CaseNumber r ⊎ (12 < numberOf r)

@@ -1,7 +1,7 @@
 -- Which refusal a call gets, or the content that it works on. Rests on Desk, Case, View, theory's Test, casefile's Reading, and refusal.
 --   short, by tooShort: 11, a buffer is too short
---   Rules: 12, the rules of the standing, the store and the tables; spoiled, by spoiledAs, keptFor and rulesKept: their test
---   sizesKept, rowKept, settledKept, roundKept, standingKept, tableKept: the test rule by rule
+--   Rules: 12, the rules of the standing, the store and the tables; spoiled, by spoiledAs, obeysFor and rulesObeyed: their test
+--   sizesObey, rowObeys, settledObeys, roundObeys, standingObeys, tableObeys: the test rule by rule
 --   Condition: what a question asks of its arguments after 12; conditionTest, ConditionHolds: as a test and as a statement; refusalOf: its refusal
 --   conditions, callConditions: those of a question and of a call, in order; refusalsOf, OneOf: their refusals
 --   AllHold, InRange: all hold; FirstBroken: which is the first that is broken
@@ -36,38 +36,38 @@ short d = tooShort (d .store) (d .first) (d .second)
 -- ---- 12: 'when, and only when, one of these is broken', for N1, N2 and n
 
 -- 'with the standing's sizes'
-abbrev pub sizesKept : ℕ → ℕ → Standing → Bool
-sizesKept n1 n2 s = eqb (s .states1) n1 && eqb (s .states2) n2
+abbrev pub sizesObey : ℕ → ℕ → Standing → Bool
+sizesObey n1 n2 s = eqb (s .states1) n1 && eqb (s .states2) n2
 
 -- 'Next row is below N1; at next row 0 nothing has changed yet.'
-abbrev pub rowKept : ℕ → Standing → Bool
-rowKept n1 s = ltb (s .row) n1 && (eqb (s .row) 0 ⇒ not (s .changed))
+abbrev pub rowObeys : ℕ → Standing → Bool
+rowObeys n1 s = ltb (s .row) n1 && (eqb (s .row) 0 ⇒ not (s .changed))
 
 -- 'Unsettled, the round is at most N1·N2·(n − 1); settled, it is 1 to N1·N2·(n − 1) + 1 and next row is 0.'
-abbrev pub settledKept : ℕ → Standing → Bool
-settledKept most s = leb 1 (s .round) && leb (s .round) (most + 1) && eqb (s .row) 0
+abbrev pub settledObeys : ℕ → Standing → Bool
+settledObeys most s = leb 1 (s .round) && leb (s .round) (most + 1) && eqb (s .row) 0
 
-abbrev pub roundKept : ℕ → Standing → Bool
-roundKept most s = cond (s .settled) (settledKept most s) (leb (s .round) most)
+abbrev pub roundObeys : ℕ → Standing → Bool
+roundObeys most s = cond (s .settled) (settledObeys most s) (leb (s .round) most)
 
-abbrev pub standingKept : ℕ → ℕ → ℕ → Standing → Bool
-standingKept n1 n2 n s = sizesKept n1 n2 s && rowKept n1 s && roundKept (n1 * n2 * (n - 1)) s
+abbrev pub standingObeys : ℕ → ℕ → ℕ → Standing → Bool
+standingObeys n1 n2 n s = sizesObey n1 n2 s && rowObeys n1 s && roundObeys (n1 * n2 * (n - 1)) s
 
 -- 'The first N1·N2 bytes of both tables are below n.'
-abbrev pub tableKept : ℕ → ℕ → List ℕ → Bool
-tableKept count n t = allBelow count (λ i. ltb (getD t i 0) n)
+abbrev pub tableObeys : ℕ → ℕ → List ℕ → Bool
+tableObeys count n t = allBelow count (λ i. ltb (getD t i 0) n)
 
-unfoldable pub rulesKept : ℕ → ℕ → ℕ → Desk → Bool
-rulesKept n1 n2 n d = standingKept n1 n2 n (d .standing) && tableKept (n1 * n2) n (d .first) && tableKept (n1 * n2) n (d .second)
+unfoldable pub rulesObeyed : ℕ → ℕ → ℕ → Desk → Bool
+rulesObeyed n1 n2 n d = standingObeys n1 n2 n (d .standing) && tableObeys (n1 * n2) n (d .first) && tableObeys (n1 * n2) n (d .second)
 
 -- the same rules for the sizes of a content
-abbrev pub keptFor : Content → Desk → Bool
-keptFor c d = rulesKept (N1 c) (N2 c) (latticeSize c) d
+abbrev pub obeysFor : Content → Desk → Bool
+obeysFor c d = rulesObeyed (N1 c) (N2 c) (latticeSize c) d
 
--- 'The store reads as a lattice, two models and formulas that open accepts', and the other rules are kept
+-- 'The store reads as a lattice, two models and formulas that open accepts', and the other rules are obeyed
 abbrev pub spoiledAs : Desk → CaseReading → Bool
 spoiledAs d (refused r) = true
-spoiledAs d (content c) = not (keptFor c d)
+spoiledAs d (content c) = not (obeysFor c d)
 
 unfoldable pub spoiled : Desk → Bool
 spoiled d = spoiledAs d (storeReading (d .store))
@@ -107,7 +107,7 @@ conditionTest (Condition.Model m) v = isModel m
 conditionTest (Condition.State m q) v = ltb q (modelIn (v .holds) m .states)
 conditionTest (Condition.Element e) v = ltb e (latticeSize (v .holds))
 conditionTest (Condition.TableLength t) v = eqb (length t) (tableSize (v .holds))
-conditionTest (Condition.TableBytes t) v = tableKept (tableSize (v .holds)) (latticeSize (v .holds)) t
+conditionTest (Condition.TableBytes t) v = tableObeys (tableSize (v .holds)) (latticeSize (v .holds)) t
 
 -- and as a statement; `condition-exactly` (RulesLaws) ties the two
 abbrev pub ConditionHolds : Condition → View → Type 0
@@ -181,7 +181,7 @@ afterRules c (some r) = refused r
 -- 12, then the call's own conditions
 abbrev pub ofStore : Call → Desk → CaseReading → CaseReading
 ofStore k d (refused r) = refused SpoiledDesk
-ofStore k d (content c) = cond (keptFor c d) (afterRules c (firstRefusal (callConditions k) (viewOf c d))) (refused SpoiledDesk)
+ofStore k d (content c) = cond (obeysFor c d) (afterRules c (firstRefusal (callConditions k) (viewOf c d))) (refused SpoiledDesk)
 
 -- 'open uses 11 and 1 to 10, the other calls 11, 12, 13'
 abbrev pub afterShort : Call → Desk → CaseReading

@@ -18,7 +18,7 @@ use Rattle.casefile.specs.Reading.{Content, CaseReading, refused, content, case
 use Rattle.casefile.specs.Accepted.{refused-content}
 use Rattle.desk.specs.Desk.{Desk, Call, isOpen, callLentBuffers}
 use Rattle.desk.specs.View.{viewOf}
-use Rattle.desk.specs.Refused.{short, keptFor, spoiledAs, Rules, spoiled, callConditions, firstRefusal, afterRules, ofStore, afterShort, examined, isContent, accepted, refusedReply}
+use Rattle.desk.specs.Refused.{short, obeysFor, spoiledAs, Rules, spoiled, callConditions, firstRefusal, afterRules, ofStore, afterShort, examined, isContent, accepted, refusedReply}
 use Rattle.desk.specs.Perform.{perform, performed, answer, moved, lentAfter}
 use Rattle.desk.specs.RulesLaws.{rules-in, spoiled-exactly}
 
@@ -66,7 +66,7 @@ is-spoiled k d o s p = other-long k d o s ∙ go (storeReading (d .store)) p
   where
     go : (x : CaseReading) → spoiledAs d x ≡ true → ofStore k d x ≡ refused SpoiledDesk
     go (refused r) h = refl
-    go (content c) h = rules (keptFor c d) h
+    go (content c) h = rules (obeysFor c d) h
       where
         rules : (t : Bool) → not t ≡ true → cond t (afterRules c (firstRefusal (callConditions k) (viewOf c d))) (refused SpoiledDesk) ≡ refused SpoiledDesk
         rules true h = absurd (false-true refl h)

@@ -1,7 +1,7 @@
 -- What the steps that are left in a round do, and that demand 3 goes through them. Rests on RoundLeft, Stepping, Listed, Settling and rounds' Rest.
 --   ended: the desk after the last row of a round
 --   one-finished: where one step is left; rest-finished, settled-finished: where an accepted desk is unsettled, and where it is settled
---   step-keeps-rules: a row that is not the last leaves a desk to which neither 11 nor 12 applies
+--   step-obeys-rules: a row that is not the last leaves a desk to which neither 11 nor 12 applies
 --   acts-run, acts-demand3: a list with the rest of a round in it is a list of calls
 use Prim.Native.Nat.{ℕ, zero, suc, _+_, _*_, _-_, _≤_, _<_}
 use mathlib.Core.Path.{_≡_, refl, sym, ap, ap₂, _∙_}
@@ -119,8 +119,8 @@ module _ (c : Content) where
         ltb-true _ _ (row-elements (ops c) (model1 c) (model2 c) (operator c) elements (shownTable c d) (d .standing .row) (otherTable d) (u .rules .row-below) other-room (λ j l. lt-ltb _ _ (other-below j l)) i k)
 
     -- a row that is not the last: the rules of 11 and 12 hold again
-    pub step-keeps-rules : d .standing .row + 1 < N1 c → Unspoiled (rowDone d) c
-    step-keeps-rules l =
+    pub step-obeys-rules : d .standing .row + 1 < N1 c → Unspoiled (rowDone d) c
+    step-obeys-rules l =
         let w = d .standing .secondWhole in
         record {
           long = long-not-short (rowDone d) (record {
@@ -178,7 +178,7 @@ module _ (c : Content) where
   steps-end (suc m) d u s n =
       let no : ¬ (d .standing .row + 1 ≡ N1 c) = λ z. omega arith in
       let p = performs d (rowDone d) u s (moves-to d false (ne-eqb _ _ no)) in
-      let i = steps-end m (rowDone d) (step-keeps-rules d u s (omega arith)) refl (omega arith) in (
+      let i = steps-end m (rowDone d) (step-obeys-rules d u s (omega arith)) refl (omega arith) in (
         ap (λ (a : After). run (replicate (suc m) Call.Step) (a .desk)) p ∙ i .0 ∙ ended-next (suc m) d,
         ap (λ (a : After). getD (replies (replicate (suc m) Call.Step) (a .desk)) m Reply.Row) p ∙ i .1 ∙ ap (λ (e : Desk). stepAnswer (e .standing)) (ended-next (suc m) d),
       )

@@ -17,7 +17,7 @@ use Rattle.desk.specs.Refused.{examined}
 use Rattle.desk.specs.Moved.{opened}
 use Rattle.desk.specs.Perform.{After, perform, moved}
 use Rattle.desk.specs.RefusedLaws.{perform-accepted}
-use Rattle.desk.specs.Stands.{Stands, GoingAt, EndedAt}
+use Rattle.desk.specs.Stands.{Stands, DeskBeforeT, DeskAtT}
 use Rattle.desk.specs.Next.{at, stands-unspoiled}
 use Rattle.desk.specs.Settling.{steps-stand, opened-stands}
 use Rattle.desk.specs.RoundLeft.{stepsLeft, finished, Act, runActs}
@@ -49,13 +49,13 @@ record Between (c : Content) (T n : ℕ) (d : Desk) : Type 0 where
 
 module _ {c : Content} {T : ℕ} where
   between-more : (n : ℕ) (d : Desk) → Between c T n d → Between c T (n + 1) (finished d .desk)
-  between-more n d w = ⊎-elim going done (w .stands .progress .place)
+  between-more n d w = ⊎-elim beforeT done (w .stands .progress .place)
     where
       next : Stands c T (w .steps + stepsLeft d) (finished d .desk)
       next = steps-stand (stepsLeft d) (w .steps) d (w .stands)
 
-      going : GoingAt c T (w .steps) d → Between c T (n + 1) (finished d .desk)
-      going g =
+      beforeT : DeskBeforeT c T (w .steps) d → Between c T (n + 1) (finished d .desk)
+      beforeT g =
           let e = rest-finished c d (stands-unspoiled (w .stands)) (g .unsettled) in
           record {
             steps = w .steps + stepsLeft d;
@@ -64,7 +64,7 @@ module _ {c : Content} {T : ℕ} where
             round-is = ap (λ (a : After). a .desk .standing .round) e ∙ ap (λ (r : ℕ). r + 1) (w .round-is) ∙ under n T (omega (arith, w .round-is, g .below));
           }
 
-      done : EndedAt c T (w .steps) d → Between c T (n + 1) (finished d .desk)
+      done : DeskAtT c T (w .steps) d → Between c T (n + 1) (finished d .desk)
       done x =
           let e = settled-finished c d (stands-unspoiled (w .stands)) (x .isSettled) in
           let l = reached n T .0 (sym (w .round-is) ∙ x .at-T) in

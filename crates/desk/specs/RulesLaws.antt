@@ -25,7 +25,7 @@ use Rattle.casefile.specs.Reading.{Content, CaseReading, refused, content, case
 use Rattle.desk.specs.Desk.{Desk, Question}
 use Rattle.desk.specs.Case.{N1, N2, latticeSize, tableSize, limit}
 use Rattle.desk.specs.View.{View}
-use Rattle.desk.specs.Refused.{short, sizesKept, rowKept, settledKept, roundKept, rulesKept, keptFor, spoiledAs, Rules, spoiled, isModel, Condition, conditionTest, ConditionHolds, refusalOf, conditions, AllHold, InRange, FirstBroken, refusalsOf, OneOf, firstRefusal}
+use Rattle.desk.specs.Refused.{short, sizesObey, rowObeys, settledObeys, roundObeys, rulesObeyed, obeysFor, spoiledAs, Rules, spoiled, isModel, Condition, conditionTest, ConditionHolds, refusalOf, conditions, AllHold, InRange, FirstBroken, refusalsOf, OneOf, firstRefusal}
 
 -- ---- the lengths that refusal 11 asks for
 
@@ -51,25 +51,25 @@ long-not-short d w = rw (le-ltb (length (d .store)) 24576 (w .store-long), le-lt
 -- ---- the rules of 12
 
 -- the tests say what Rules says
-pub rules-in : (d : Desk) (c : Content) → Rules d c → keptFor c d ≡ true
-unfolding rulesKept
+pub rules-in : (d : Desk) (c : Content) → Rules d c → obeysFor c d ≡ true
+unfolding rulesObeyed
 rules-in d c w =
     and-in _ _
     (and-in _ _ (and-in _ _ (and-in _ _ sizes row) (round (d .standing .settled) refl)) (all-in _ _ (λ i l. lt-ltb _ _ (w .first-below i l))))
     (all-in _ _ (λ i l. lt-ltb _ _ (w .second-below i l)))
   where
-    sizes : sizesKept (N1 c) (N2 c) (d .standing) ≡ true
+    sizes : sizesObey (N1 c) (N2 c) (d .standing) ≡ true
     sizes = and-in _ _ (eq-eqb _ _ (w .size1)) (eq-eqb _ _ (w .size2))
 
-    row : rowKept (N1 c) (d .standing) ≡ true
+    row : rowObeys (N1 c) (d .standing) ≡ true
     row = and-in _ _ (lt-ltb _ _ (w .row-below)) (⇒-in (eqb (d .standing .row) 0) (not (d .standing .changed)) (λ z. ap not (w .nothing-yet (eqb-true _ _ z))))
 
-    round : (t : Bool) → d .standing .settled ≡ t → cond t (settledKept (limit c) (d .standing)) (leb (d .standing .round) (limit c)) ≡ true
+    round : (t : Bool) → d .standing .settled ≡ t → cond t (settledObeys (limit c) (d .standing)) (leb (d .standing .round) (limit c)) ≡ true
     round true e = and-in _ _ (and-in _ _ (le-leb _ _ (w .settled-least e)) (le-leb _ _ (w .settled-most e))) (eq-eqb _ _ (w .settled-row e))
     round false e = le-leb _ _ (w .unsettled-most e)
 
-pub rules-out : (d : Desk) (c : Content) → storeReading (d .store) ≡ content c → keptFor c d ≡ true → Rules d c
-unfolding rulesKept
+pub rules-out : (d : Desk) (c : Content) → storeReading (d .store) ≡ content c → obeysFor c d ≡ true → Rules d c
+unfolding rulesObeyed
 rules-out d c e h =
     record {
       reads = e;
@@ -77,7 +77,7 @@ rules-out d c e h =
       size2 = eqb-true _ _ (search (and-l, and-r));
       row-below = ltb-true _ _ (search (and-l, and-r));
       nothing-yet = λ z. not-true _ (⇒-elim (eqb (d .standing .row) 0) (not (d .standing .changed)) (search (and-l, and-r)) (eq-eqb _ _ z));
-      unsettled-most = λ z. leb-true _ _ (sym (cond-false (d .standing .settled) (settledKept (limit c) (d .standing)) (leb (d .standing .round) (limit c)) z) ∙ round);
+      unsettled-most = λ z. leb-true _ _ (sym (cond-false (d .standing .settled) (settledObeys (limit c) (d .standing)) (leb (d .standing .round) (limit c)) z) ∙ round);
       settled-least = λ z. let k = settled z in leb-true _ _ (search (and-l, and-r));
       settled-most = λ z. let k = settled z in leb-true _ _ (search (and-l, and-r));
       settled-row = λ z. let k = settled z in eqb-true _ _ (search (and-l, and-r));
@@ -85,11 +85,11 @@ rules-out d c e h =
       second-below = λ i l. ltb-true _ _ (all-at (tableSize c) (λ j. ltb (getD (d .second) j 0) (latticeSize c)) (search (and-l, and-r)) i l);
     }
   where
-    round : roundKept (limit c) (d .standing) ≡ true
+    round : roundObeys (limit c) (d .standing) ≡ true
     round = search (and-l, and-r)
 
-    settled : d .standing .settled ≡ true → settledKept (limit c) (d .standing) ≡ true
-    settled z = sym (cond-true (d .standing .settled) (settledKept (limit c) (d .standing)) (leb (d .standing .round) (limit c)) z) ∙ round
+    settled : d .standing .settled ≡ true → settledObeys (limit c) (d .standing) ≡ true
+    settled z = sym (cond-true (d .standing .settled) (settledObeys (limit c) (d .standing)) (leb (d .standing .round) (limit c)) z) ∙ round
 
 pub spoiled-exactly : (d : Desk) → (spoiled d ≡ false) ↔ ((c : Content) × Rules d c)
 unfolding spoiled
@@ -97,7 +97,7 @@ spoiled-exactly d = (λ p. go (storeReading (d .store)) refl p, λ w. rw (w .1 .
   where
     go : (x : CaseReading) → storeReading (d .store) ≡ x → spoiledAs d x ≡ false → (c : Content) × Rules d c
     go (refused r) e h = absurd (false-true h refl)
-    go (content c) e h = (c, rules-out d c e (not-false (keptFor c d) h))
+    go (content c) e h = (c, rules-out d c e (not-false (obeysFor c d) h))
 
 -- ---- the conditions after 12
 

@@ -10,7 +10,7 @@ use mathlib.Core.Bool.{true, cond, _&&_}
 use mathlib.Core.Logic.{_↔_}
 use mathlib.Core.List.{List, [], _∷_, _++_}
 use lib.Dec.{eqb}
-use Rattle.theory.specs.Simulation.{one}
+use Rattle.theory.specs.Simulation.{indicator}
 use Rattle.refusal.specs.declared.Refusal.{Refusal}
 use Rattle.casefile.specs.Reading.{Content, content}
 use Rattle.desk.specs.Desk.{Desk, Question, Call, Reply, isOpen, isStep, lentBuffers}
@@ -27,7 +27,7 @@ run (k ∷ ks) d = run ks (perform k d .desk)
 -- the number of accepted openings in a list
 unfoldable pub openings : List Call → Desk → ℕ
 openings [] d = 0
-openings (k ∷ ks) d = one (isOpen k && accepted k d) + openings ks (perform k d .desk)
+openings (k ∷ ks) d = indicator (isOpen k && accepted k d) + openings ks (perform k d .desk)
 
 -- the answers of the accepted steps in a list, the first of them first
 unfoldable pub stepAnswers : List Call → Desk → List Reply

@@ -1,7 +1,7 @@
 -- The invariant of demand 3, 'this desk is what the content c gives after s accepted steps', and that an accepted opening starts it.
 -- Rests on Case, Refused, Moved, RulesLaws, rounds' Round, casefile's Accepted and Content.
 --   Known: the content of an accepted case, and its T; known-sound, sizes-most, some-states: what it gives
---   SizesAre: the standing's sizes; Going, Ended, Progress: before T, at T, and what holds of both; GoingAt, EndedAt, ProgressAt: the same of a desk
+--   SizesAre: the standing's sizes; BeforeT, AtT, Progress: before T, at T, and what holds of both; DeskBeforeT, DeskAtT, ProgressAt: the same of a desk
 --   Stands: the invariant; opening-starts: an accepted opening starts it
 use Prim.Native.Nat.{ℕ, _+_, _*_, _≤_, _<_}
 use mathlib.Core.Path.{_≡_, refl, _∙_}
@@ -42,7 +42,7 @@ SizesAre c x = (x .states1 ≡ N1 c) × (x .states2 ≡ N2 c)
 
 module _ (c : Content) (T : ℕ) where
   -- before T: s is round · N1 + row, and the rows below the next row of the next round stand in the other table
-  pub record Going (s : ℕ) (x : Standing) (whole other : List ℕ) : Type 0 where
+  pub record BeforeT (s : ℕ) (x : Standing) (whole other : List ℕ) : Type 0 where
     pub unsettled : x .settled ≡ false
     pub below : x .round < T
     pub row-below : x .row < N1 c
@@ -51,7 +51,7 @@ module _ (c : Content) (T : ℕ) where
     pub so-far : RoundSoFar (model1 c) (model2 c) (operator c) (tableOf whole (N2 c)) before (x .row) other (x .changed)
 
   -- at T
-  pub record Ended (s : ℕ) (x : Standing) : Type 0 where
+  pub record AtT (s : ℕ) (x : Standing) : Type 0 where
     pub isSettled : x .settled ≡ true
     pub at-T : x .round ≡ T
     pub row-0 : x .row ≡ 0
@@ -65,14 +65,14 @@ module _ (c : Content) (T : ℕ) where
     pub whole-elements : (i : ℕ) → i < tableSize c → Element (ops c) (getD whole i 0)
     pub other-elements : (i : ℕ) → i < tableSize c → Element (ops c) (getD other i 0)
     pub shown : SameTable (ops c) (model1 c) (model2 c) (tableOf whole (N2 c)) (roundIn c (x .round))
-    pub place : Going s x whole other ⊎ Ended s x
+    pub place : BeforeT s x whole other ⊎ AtT s x
 
   -- the same of a desk's standing and tables
-  abbrev pub GoingAt : ℕ → Desk → Type 0
-  GoingAt s d = Going s (d .standing) (wholeTable d) (otherTable d)
+  abbrev pub DeskBeforeT : ℕ → Desk → Type 0
+  DeskBeforeT s d = BeforeT s (d .standing) (wholeTable d) (otherTable d)
 
-  abbrev pub EndedAt : ℕ → Desk → Type 0
-  EndedAt s d = Ended s (d .standing)
+  abbrev pub DeskAtT : ℕ → Desk → Type 0
+  DeskAtT s d = AtT s (d .standing)
 
   abbrev pub ProgressAt : ℕ → Desk → Type 0
   ProgressAt s d = Progress s (d .standing) (wholeTable d) (otherTable d)

@@ -20,7 +20,7 @@ use Rattle.rounds.specs.Round.{RoundSoFar, RoundDone, round-none, round-more, r
 use Rattle.desk.specs.Desk.{Standing, Desk, wholeTable, otherTable}
 use Rattle.desk.specs.Case.{ops, model1, model2, N1, N2, tableSize, operator, roundIn}
 use Rattle.desk.specs.Moved.{rowWorked, changedNow, nextRow, nextRound, worked, stepped}
-use Rattle.desk.specs.Stands.{Known, known-sound, SizesAre, Going, Ended, Progress, GoingAt, EndedAt, ProgressAt, Stands, sizes-most, some-states}
+use Rattle.desk.specs.Stands.{Known, known-sound, SizesAre, BeforeT, AtT, Progress, DeskBeforeT, DeskAtT, ProgressAt, Stands, sizes-most, some-states}
 
 -- the same of equal tables
 progress-with : {c : Content} {T s : ℕ} {x : Standing} {whole other whole′ other′ : List ℕ} → whole′ ≡ whole → other′ ≡ other → Progress c T s x whole other → Progress c T s x whole′ other′
@@ -57,7 +57,7 @@ turn-other false f g o = refl
 
 module _ {c : Content} {T : ℕ} (known : Known c T) where
   -- ---- one row more
-  module _ {s : ℕ} {x : Standing} {whole other : List ℕ} (h : Progress c T s x whole other) (g : Going c T s x whole other) where
+  module _ {s : ℕ} {x : Standing} {whole other : List ℕ} (h : Progress c T s x whole other) (g : BeforeT c T s x whole other) where
     abbrev round : ℕ
     round = x .round
 
@@ -116,7 +116,7 @@ module _ {c : Content} {T : ℕ} (known : Known c T) where
           absurd (known .isT .least (suc round) (omega arith) q (subst (λ (x : ℕ). SameTable (ops c) (model1 c) (model2 c) (roundIn c (suc round)) (roundIn c x)) p (done .unchanged .0 n))))
           (eq-or-lt-of-le (g .below))
 
-      place-after : (n : Bool) → now ≡ n → Going c T (s + 1) (nextRound n x) out whole ⊎ Ended c T (s + 1) (nextRound n x)
+      place-after : (n : Bool) → now ≡ n → BeforeT c T (s + 1) (nextRound n x) out whole ⊎ AtT c T (s + 1) (nextRound n x)
       place-after true n =
           inl
           (record {
@@ -173,7 +173,7 @@ module _ {c : Content} {T : ℕ} (known : Known c T) where
         × (cond w (worked c d .first) (worked c d .second) ≡ cond w (cond (d .standing .secondWhole) (rowWorked c d) (d .first)) (cond (d .standing .secondWhole) (d .second) (rowWorked c d)))
     tables-are w = (ap₂ (cond w) second-is first-is, ap₂ (cond w) first-is second-is)
 
-  worked-stands : {s : ℕ} {d : Desk} → Stands c T s d → GoingAt c T s d → Stands c T (s + 1) (worked c d)
+  worked-stands : {s : ℕ} {d : Desk} → Stands c T s d → DeskBeforeT c T s d → Stands c T (s + 1) (worked c d)
   unfolding worked
   worked-stands {s} {d} w g = go (eqb (d .standing .row + 1) (N1 c)) refl
     where
@@ -199,9 +199,9 @@ module _ {c : Content} {T : ℕ} (known : Known c T) where
   pub step-moves : {s : ℕ} {d : Desk} → Stands c T s d → Stands c T (s + 1) (stepped c d)
   step-moves {s} {d} w =
       ⊎-elim
-      (λ (g : GoingAt c T s d).
+      (λ (g : DeskBeforeT c T s d).
       subst (Stands c T (s + 1)) (sym (unsettled-works d (g .unsettled))) (worked-stands w g))
-      (λ (x : EndedAt c T s d).
+      (λ (x : DeskAtT c T s d).
       subst (Stands c T (s + 1)) (sym (settled-stays d (x .isSettled)))
       (stands-with w d refl (w .sizes)
       (record {

@@ -1,7 +1,7 @@
 -- 'Table bytes past N1·N2 and store bytes past 24,576 are never written', and no buffer changes its length. Rests on RefusedLaws, Moved,
 -- theory's Written.
---   SameFrom, Unwritten: what is kept of a buffer, and of the buffers of a desk
---   never-written: an accepted call keeps it, on every desk; unaltered: so does one that alters nothing
+--   SameFrom, Unwritten: what is unchanged of a buffer, and of the buffers of a desk
+--   never-written: an accepted call leaves it so, on every desk; unaltered: so does one that alters nothing
 use Prim.Native.Nat.{ℕ, _+_, _*_, _≤_, _<_}
 use mathlib.Core.Path.{_≡_, refl, sym, ap, subst}
 use mathlib.Core.Bool.{Bool, true, false, cond}

@@ -11,7 +11,7 @@ use Rattle.casefile.specs.Reading.{Content, CaseReading, refused, content}
 use Rattle.casefile.specs.Answer.{sizesOf}
 use Rattle.casefile.specs.declared.Sizes.{Sizes}
 use Rattle.desk.specs.Desk.{Desk, Call, Reply}
-use Rattle.desk.specs.Refused.{standingKept, tableKept, examined}
+use Rattle.desk.specs.Refused.{standingObeys, tableObeys, examined}
 use Rattle.desk.specs.Perform.{perform}
 use Rattle.examination.specs.declared.Standing.{Standing}
 use Rattle.examination.specs.declared.Examined.{Examined}
@@ -21,9 +21,9 @@ use Rattle.examination.specs.Read.{standingOf}
 -- the rules of 12 beside the store's reading, for the sizes z; they do not look at the store
 abbrev pub rulesOf : Standing → Sizes → List ℕ → List ℕ → Bool
 rulesOf s z first second =
-    standingKept (z .states1) (z .states2) (z .lattice .size) (standingOf s)
-    && tableKept (z .states1 * z .states2) (z .lattice .size) first
-    && tableKept (z .states1 * z .states2) (z .lattice .size) second
+    standingObeys (z .states1) (z .states2) (z .lattice .size) (standingOf s)
+    && tableObeys (z .states1 * z .states2) (z .lattice .size) first
+    && tableObeys (z .states1 * z .states2) (z .lattice .size) second
 
 abbrev pub examinedAnswer : CaseReading → Examined
 examinedAnswer (refused r) = Refused r

@@ -2,7 +2,7 @@
 -- Rests on Answer, casefile's Caller, and desk's RefusedLaws.
 --   HeldDesk, when-held: what is known of a desk that is held
 --   held-shown, held-question, held-outside, refused-call: what a call does that is answered, refused for its conditions, or by the examination
---   case-few, few: N1·N2 is at most 4,096; table-kept: the test of a table's bytes, from that of the code
+--   case-few, few: N1·N2 is at most 4,096; table-obeys: the test of a table's bytes, from that of the code
 --   short-examined, unread-examined, spoiled-examined, held-examined: the four answers of the examination
 --   show-examined: the examination of show is that of step
 use Prim.Native.Nat.{ℕ, _+_, _*_, _≤_}
@@ -26,7 +26,7 @@ use Rattle.casefile.specs.Caller.{AcceptedCase, accepted-as}
 use Rattle.desk.specs.Desk.{Desk, Question, Call, Reply, wholeTable, isOpen, lentBuffers, callLentBuffers}
 use Rattle.desk.specs.Case.{tableSize}
 use Rattle.desk.specs.View.{View, viewOf}
-use Rattle.desk.specs.Refused.{short, tableKept, rulesKept, keptFor, spoiled, conditions, firstRefusal, afterRules, ofStore, examined, refusedReply, numberReply}
+use Rattle.desk.specs.Refused.{short, tableObeys, rulesObeyed, obeysFor, spoiled, conditions, firstRefusal, afterRules, ofStore, examined, refusedReply, numberReply}
 use Rattle.desk.specs.Perform.{answerTo, answer, moved, lentAfter}
 use Rattle.desk.specs.RefusedLaws.{Unspoiled, is-short, is-spoiled, in-store, outcome, Outcome, too-short, broken, outside, inside, other-accepted, perform-refused, perform-accepted}
 use Rattle.desk.specs.RulesLaws.{Long, long-enough, rules-out}
@@ -38,7 +38,7 @@ use Rattle.examination.specs.Answer.{examinedAnswer, DeskExamined, Does,
 
 pub record HeldDesk (d : Desk) (z : Sizes) (w : List ℕ) : Type 0 where
   pub case : AcceptedCase (take 24576 (d .store)) z w
-  pub kept : Unspoiled d (case .holds)
+  pub unspoiled : Unspoiled d (case .holds)
   pub lengths : Long d
 
 pub when-held : (d : Desk) (r : Examined) (z : Sizes) (w : List ℕ) → DeskExamined d r w → r ≡ Held z → HeldDesk d z w
@@ -50,7 +50,7 @@ when-held d r z w a k = go (examined Call.Step d) refl (sym k ∙ a .answer)
     go (content c) e h =
         let q : z ≡ sizesOf c = cc in
         let u = other-accepted Call.Step d c refl e .held in
-        record { case = accepted-as (take 24576 (d .store)) c z w (u .rules .reads) q (a .codes c e); kept = u; lengths = long-enough d (u .long) }
+        record { case = accepted-as (take 24576 (d .store)) c z w (u .rules .reads) q (a .codes c e); unspoiled = u; lengths = long-enough d (u .long) }
 
 -- a table has at most 4,096 entries
 pub case-few : {b : List ℕ} {z : Sizes} {w : List ℕ} → AcceptedCase b z w → z .states1 * z .states2 ≤ 4096
@@ -60,8 +60,8 @@ pub few : {d : Desk} {z : Sizes} {w : List ℕ} → HeldDesk d z w → z .states
 few h = case-few (h .case)
 
 -- a table's bytes are tested from place 0 on
-pub table-kept : (table : List ℕ) (m count n : ℕ) (r : Bool) → r ≡ allBelow m (λ i. ltb (getD table (0 + i) 0) n) → m ≡ count → r ≡ tableKept count n table
-table-kept table m count n r e q = e ∙ all-cong m _ _ (λ i l. ap (λ (j : ℕ). ltb (getD table j 0) n) (zero-add i)) ∙ ap (λ (k : ℕ). tableKept k n table) q
+pub table-obeys : (table : List ℕ) (m count n : ℕ) (r : Bool) → r ≡ allBelow m (λ i. ltb (getD table (0 + i) 0) n) → m ≡ count → r ≡ tableObeys count n table
+table-obeys table m count n r e q = e ∙ all-cong m _ _ (λ i l. ap (λ (j : ℕ). ltb (getD table j 0) n) (zero-add i)) ∙ ap (λ (k : ℕ). tableObeys k n table) q
 
 -- show and a question on a desk that is held: answered, or refused for the first of its conditions that is broken
 module _ {d : Desk} {z : Sizes} {w : List ℕ} (h : HeldDesk d z w) where
@@ -70,14 +70,14 @@ module _ {d : Desk} {z : Sizes} {w : List ℕ} (h : HeldDesk d z w) where
 
   pub held-shown : Does Call.Show d (Reply.Shown (take (tableSize (h .case .holds)) (wholeTable d))) d
   unfolding answer moved lentAfter
-  held-shown = perform-accepted Call.Show d (h .case .holds) (in-store Call.Show d (h .case .holds) refl (h .kept))
+  held-shown = perform-accepted Call.Show d (h .case .holds) (in-store Call.Show d (h .case .holds) refl (h .unspoiled))
 
   pub held-question : (q : Question) → firstRefusal (conditions q) heldView ≡ none → DoesWith (answerTo q heldView .lent) (Call.Ask q) d (answerTo q heldView .reply) d
   unfolding answer moved lentAfter
-  held-question q i = perform-accepted (Call.Ask q) d (h .case .holds) (in-store (Call.Ask q) d (h .case .holds) refl (h .kept) ∙ ap (afterRules (h .case .holds)) i)
+  held-question q i = perform-accepted (Call.Ask q) d (h .case .holds) (in-store (Call.Ask q) d (h .case .holds) refl (h .unspoiled) ∙ ap (afterRules (h .case .holds)) i)
 
   pub held-outside : (q : Question) (r : Refusal) → firstRefusal (conditions q) heldView ≡ some r → DoesWith (lentBuffers q) (Call.Ask q) d (numberReply r) d
-  held-outside q r i = perform-refused (Call.Ask q) d r (in-store (Call.Ask q) d (h .case .holds) refl (h .kept) ∙ ap (afterRules (h .case .holds)) i)
+  held-outside q r i = perform-refused (Call.Ask q) d r (in-store (Call.Ask q) d (h .case .holds) refl (h .unspoiled) ∙ ap (afterRules (h .case .holds)) i)
 
 -- ---- after the answer that it is refused, every call but open is refused so
 
@@ -117,17 +117,17 @@ unfolding spoiled
 unread-examined d f w s e = refused-examined d SpoiledDesk w (is-spoiled Call.Step d refl s (rw e))
 
 module _ (d : Desk) (z : Sizes) (w : List ℕ) (s : short d ≡ false) (a : AcceptedCase (take 24576 (d .store)) z w) where
-  abbrev kept : Bool
-  kept = rulesKept (z .states1) (z .states2) (z .lattice .size) d
+  abbrev obeyed : Bool
+  obeyed = rulesObeyed (z .states1) (z .states2) (z .lattice .size) d
 
-  rules-same : kept ≡ keptFor (a .holds) d
+  rules-same : obeyed ≡ obeysFor (a .holds) d
   rules-same = rw (a .sizes)
 
-  pub spoiled-examined : (x : Bool) → x ≡ kept → x ≡ false → DeskExamined d (Refused SpoiledDesk) w
+  pub spoiled-examined : (x : Bool) → x ≡ obeyed → x ≡ false → DeskExamined d (Refused SpoiledDesk) w
   unfolding spoiled
   spoiled-examined x q f = refused-examined d SpoiledDesk w (is-spoiled Call.Step d refl s (rw (a .reads, ← rules-same, ← q, f)))
 
-  pub held-examined : (x : Bool) → x ≡ kept → x ≡ true → DeskExamined d (Held z) w
+  pub held-examined : (x : Bool) → x ≡ obeyed → x ≡ true → DeskExamined d (Held z) w
   held-examined x q f =
       let e = in-store Call.Step d (a .holds) refl (record { long = s; rules = rules-out d (a .holds) (a .reads) (sym rules-same ∙ sym q ∙ f) }) in
       record {

@@ -9,7 +9,7 @@ ghost use lib.ListN.{length};
 ghost use Rattle.examination.specs.Read.{standingOf, deskOf};
 ghost use Rattle.examination.specs.Answer.{rulesOf, examinedAnswer, DeskExamined};
 ghost use Rattle.desk.specs.Desk.{Call};
-ghost use Rattle.desk.specs.Refused.{tooShort, rowKept, roundKept, standingKept, examined};
+ghost use Rattle.desk.specs.Refused.{tooShort, rowObeys, roundObeys, standingObeys, examined};
 
 // Where the desk stands. Its layout is C's, since the exported calls take and give it by value.
 #[repr(C)]
@@ -64,8 +64,8 @@ fn round_limit(n1: u8, n2: u8, n: u8) -> usize
 }
 
 // Next row is below N1; at next row 0 nothing has changed yet.
-fn row_kept(s: Standing, n1: u8) -> bool
-    ensures { λ r. ⌜ r ≡ rowKept n1 (standingOf s) ⌝ }
+fn row_obeys(s: Standing, n1: u8) -> bool
+    ensures { λ r. ⌜ r ≡ rowObeys n1 (standingOf s) ⌝ }
 {
     if n1 <= s.row {
         return false;
@@ -77,9 +77,9 @@ fn row_kept(s: Standing, n1: u8) -> bool
 }
 
 // Unsettled, the round is at most `most`; settled, it is 1 to one more and next row is 0.
-fn round_kept(s: Standing, most: usize) -> bool
+fn round_obeys(s: Standing, most: usize) -> bool
     requires { ⌜ most < 16777216 ⌝ }
-    ensures { λ r. ⌜ r ≡ roundKept most (standingOf s) ⌝ }
+    ensures { λ r. ⌜ r ≡ roundObeys most (standingOf s) ⌝ }
 {
     let at = s.round as usize;
     if s.settled {
@@ -94,8 +94,8 @@ fn round_kept(s: Standing, most: usize) -> bool
     at <= most
 }
 
-fn standing_kept(s: Standing, n1: u8, n2: u8, n: u8) -> bool
-    ensures { λ r. ⌜ r ≡ standingKept n1 n2 n (standingOf s) ⌝ }
+fn standing_obeys(s: Standing, n1: u8, n2: u8, n: u8) -> bool
+    ensures { λ r. ⌜ r ≡ standingObeys n1 n2 n (standingOf s) ⌝ }
 {
     if s.states1 != n1 {
         return false;
@@ -103,14 +103,14 @@ fn standing_kept(s: Standing, n1: u8, n2: u8, n: u8) -> bool
     if s.states2 != n2 {
         return false;
     }
-    if !row_kept(s, n1) {
+    if !row_obeys(s, n1) {
         return false;
     }
-    round_kept(s, round_limit(n1, n2, n))
+    round_obeys(s, round_limit(n1, n2, n))
 }
 
 // The rules of 12 beside the store's reading.
-fn rules_kept(s: Standing, z: Sizes, first: &[u8], second: &[u8]) -> bool
+fn rules_obeyed(s: Standing, z: Sizes, first: &[u8], second: &[u8]) -> bool
     requires { ⌜ (z .states1 * z .states2 ≤ length (now first)) × (z .states1 * z .states2 ≤ length (now second)) ⌝ }
     ensures { λ r. ⌜ r ≡ rulesOf s z (now (first .entry)) (now (second .entry)) ⌝ }
 {
@@ -118,7 +118,7 @@ fn rules_kept(s: Standing, z: Sizes, first: &[u8], second: &[u8]) -> bool
     let n2 = z.states2;
     let l = z.lattice;
     let n = l.size;
-    if !standing_kept(s, n1, n2, n) {
+    if !standing_obeys(s, n1, n2, n) {
         return false;
     }
     let count = table_size(z);
@@ -138,7 +138,7 @@ pub fn examine(s: Standing, store: &[u8], first: &[u8], second: &[u8], w: &mut C
     match casefile::check(&store[..24576], w) {
         CaseCheck::Refused(_) => Examined::Refused(Refusal::SpoiledDesk),
         CaseCheck::Accepted(z) => {
-            if rules_kept(s, z, first, second) {
+            if rules_obeyed(s, z, first, second) {
                 Examined::Held(z)
             } else {
                 Examined::Refused(Refusal::SpoiledDesk)

@@ -3,4 +3,4 @@
 pub mod Numbers  -- the numbers of a reply, of show's table, and of what a desk holds
 pub mod Finished  -- what the export of the rest of a round says
 -- ---- for the code
-pub mod Told  -- the numbers lose nothing of a reply, and follow from what the calls do
+pub mod NumbersLaws  -- the numbers lose nothing of a reply, and follow from what the calls do

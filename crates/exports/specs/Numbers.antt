@@ -1,8 +1,8 @@
 -- The numbers that the exports answer, for each of the desk's replies and for what a desk holds. Rests on desk's Desk, Case, Refused and Perform,
 -- refusal's Number, and examination's Read.
 --   numbers: the numbers of a reply
---   Tells, TellsAsked: what an export of a call says, and one of a call that only reads
---   named, namedBytes, Names: what show's export says
+--   DoneInNumbers, AskedInNumbers: what an export of a call says, and one of a call that only reads
+--   named, namedBytes, ShownInNumbers: what show's export says
 --   sized: what the export of a desk's sizes says
 use Prim.Native.Nat.{ℕ}
 use mathlib.Core.Path.{_≡_}
@@ -59,13 +59,13 @@ numbers (Reply.Says b) = given 7 (yesNo b)
 numbers (Reply.Shown b) = given 8 0
 
 -- the call k on the desk d is answered with these numbers, and leaves the desk e: standing, store and both tables
-pub record Tells (k : Call) (d : Desk) (x : Answer) (e : Desk) : Type 0 where
+pub record DoneInNumbers (k : Call) (d : Desk) (x : Answer) (e : Desk) : Type 0 where
   pub answer : x ≡ numbers (perform k d .reply)
   pub after : e ≡ perform k d .desk
 
 -- the question q on the desk of these four is answered with these numbers, and leaves that desk
-abbrev pub TellsAsked : Question → Standing → List ℕ → List ℕ → List ℕ → Answer → Type 0
-TellsAsked q s store first second x = Tells (Call.Ask q) (deskOf s store first second) x (deskOf s store first second)
+abbrev pub AskedInNumbers : Question → Standing → List ℕ → List ℕ → List ℕ → Answer → Type 0
+AskedInNumbers q s store first second x = DoneInNumbers (Call.Ask q) (deskOf s store first second) x (deskOf s store first second)
 
 -- ---- show
 
@@ -79,7 +79,7 @@ abbrev pub namedBytes : Shown → Desk → List ℕ
 namedBytes x d = take (x .length) (cond (eqb (x .table) 2) (d .second) (d .first))
 
 -- show's export: the table and the length by the desk's examination, and the bytes that they name are what show answers; the desk as it was
-pub record Names (d : Desk) (x : Shown) : Type 0 where
+pub record ShownInNumbers (d : Desk) (x : Shown) : Type 0 where
   pub names : x ≡ named d (examined Call.Show d)
   pub bytes : perform Call.Show d ≡ record { reply = Reply.Shown (namedBytes x d); desk = d; lent = [] }
 

@@ -3,7 +3,7 @@ use crate::Moved;
 use crate::numbers::stepped;
 use examination::Standing;
 ghost use Rattle.examination.specs.Read.{deskOf};
-ghost use Rattle.exports.specs.Finished.{TellsFinished};
+ghost use Rattle.exports.specs.Finished.{FinishedInNumbers};
 
 // Works the rows of the round that are left, as so many steps do.
 #[no_mangle]
@@ -13,7 +13,7 @@ pub extern "C" fn koelchair_finish_round(
     first: &mut [u8],
     second: &mut [u8],
 ) -> Moved
-    ensures { λ r. ⌜ TellsFinished (deskOf s (now (store .entry)) (now (first .entry)) (now (second .entry)))
+    ensures { λ r. ⌜ FinishedInNumbers (deskOf s (now (store .entry)) (now (first .entry)) (now (second .entry)))
         (r .answer) (deskOf (r .standing) (now (store .entry)) (now (first .exit)) (now (second .exit))) ⌝ }
 {
     let o = moving::finish_round(s, store, first, second);

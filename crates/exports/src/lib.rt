@@ -61,7 +61,7 @@ pub struct DeskSizes {
     pub formulas: u8,
 }
 
-// Writes what the program `report` prints for a case at the start of the text, and says how many bytes it has. The bytes after it are kept.
+// Writes what the program `report` prints for a case at the start of the text, and says how many bytes it has. The bytes after it are unchanged.
 #[no_mangle]
 pub extern "C" fn koelchair_listing(case: &[u8], text: &mut [u8; 16384]) -> usize
     ensures { λ r. ⌜ (r ≡ length (listingText (now (case .entry))))

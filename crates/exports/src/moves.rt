@@ -5,7 +5,7 @@ use crate::numbers::stepped;
 use examination::Standing;
 ghost use Rattle.desk.specs.Desk.{Call};
 ghost use Rattle.examination.specs.Read.{deskOf};
-ghost use Rattle.exports.specs.Numbers.{Tells};
+ghost use Rattle.exports.specs.Numbers.{DoneInNumbers};
 
 // Takes a case, and makes the desk anew.
 #[no_mangle]
@@ -16,7 +16,7 @@ pub extern "C" fn koelchair_open(
     first: &mut [u8],
     second: &mut [u8],
 ) -> Moved
-    ensures { λ r. ⌜ Tells (Call.Open (now (case .entry))) (deskOf s (now (store .entry)) (now (first .entry)) (now (second .entry)))
+    ensures { λ r. ⌜ DoneInNumbers (Call.Open (now (case .entry))) (deskOf s (now (store .entry)) (now (first .entry)) (now (second .entry)))
         (r .answer) (deskOf (r .standing) (now (store .exit)) (now (first .exit)) (now (second .exit))) ⌝ }
 {
     let o = moving::open(s, case, store, first, second);
@@ -36,7 +36,7 @@ pub extern "C" fn koelchair_step(
     first: &mut [u8],
     second: &mut [u8],
 ) -> Moved
-    ensures { λ r. ⌜ Tells Call.Step (deskOf s (now (store .entry)) (now (first .entry)) (now (second .entry)))
+    ensures { λ r. ⌜ DoneInNumbers Call.Step (deskOf s (now (store .entry)) (now (first .entry)) (now (second .entry)))
         (r .answer) (deskOf (r .standing) (now (store .entry)) (now (first .exit)) (now (second .exit))) ⌝ }
 {
     let o = moving::step(s, store, first, second);

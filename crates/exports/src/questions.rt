@@ -9,7 +9,7 @@ use examination::Standing;
 use model::State;
 ghost use Rattle.desk.specs.Desk.{Question};
 ghost use Rattle.examination.specs.Read.{deskOf};
-ghost use Rattle.exports.specs.Numbers.{TellsAsked, Names};
+ghost use Rattle.exports.specs.Numbers.{AskedInNumbers, ShownInNumbers};
 
 // Which table is the whole one, and how many of its bytes are shown.
 #[no_mangle]
@@ -19,7 +19,7 @@ pub extern "C" fn koelchair_show<'a>(
     first: &'a [u8],
     second: &'a [u8],
 ) -> Shown
-    ensures { λ r. ⌜ Names (deskOf s (now (store .entry)) (now (first .entry)) (now (second .entry))) r ⌝ }
+    ensures { λ r. ⌜ ShownInNumbers (deskOf s (now (store .entry)) (now (first .entry)) (now (second .entry))) r ⌝ }
 {
     let shown = asking::show(s, store, first, second);
     let n = shown.len();
@@ -52,7 +52,7 @@ pub extern "C" fn koelchair_value(
     model: u8,
     state: u8,
 ) -> Answer
-    ensures { λ r. ⌜ TellsAsked (Question.Value formula model state) s (now (store .entry)) (now (first .entry)) (now (second .entry)) r ⌝ }
+    ensures { λ r. ⌜ AskedInNumbers (Question.Value formula model state) s (now (store .entry)) (now (first .entry)) (now (second .entry)) r ⌝ }
 {
     element(asking::value(s, store, first, second, formula, model, State(state)))
 }
@@ -67,7 +67,7 @@ pub extern "C" fn koelchair_whole(
     formula: u8,
     model: u8,
 ) -> Answer
-    ensures { λ r. ⌜ TellsAsked (Question.Whole formula model) s (now (store .entry)) (now (first .entry)) (now (second .entry)) r ⌝ }
+    ensures { λ r. ⌜ AskedInNumbers (Question.Whole formula model) s (now (store .entry)) (now (first .entry)) (now (second .entry)) r ⌝ }
 {
     element(asking::whole(s, store, first, second, formula, model))
 }
@@ -80,7 +80,7 @@ pub extern "C" fn koelchair_score<'a>(
     first: &'a [u8],
     second: &'a [u8],
 ) -> Answer
-    ensures { λ r. ⌜ TellsAsked Question.Score s (now (store .entry)) (now (first .entry)) (now (second .entry)) r ⌝ }
+    ensures { λ r. ⌜ AskedInNumbers Question.Score s (now (store .entry)) (now (first .entry)) (now (second .entry)) r ⌝ }
 {
     element(asking::score(s, store, first, second))
 }
@@ -94,7 +94,7 @@ pub extern "C" fn koelchair_share<'a>(
     second: &'a [u8],
     e: u8,
 ) -> Answer
-    ensures { λ r. ⌜ TellsAsked (Question.Share e) s (now (store .entry)) (now (first .entry)) (now (second .entry)) r ⌝ }
+    ensures { λ r. ⌜ AskedInNumbers (Question.Share e) s (now (store .entry)) (now (first .entry)) (now (second .entry)) r ⌝ }
 {
     per_cent(asking::share(s, store, first, second, Element(e)))
 }
@@ -108,7 +108,7 @@ pub extern "C" fn koelchair_judge(
     second: &[u8],
     table: &[u8],
 ) -> Answer
-    ensures { λ r. ⌜ TellsAsked (Question.Judge (now (table .entry))) s (now (store .entry)) (now (first .entry)) (now (second .entry)) r ⌝ }
+    ensures { λ r. ⌜ AskedInNumbers (Question.Judge (now (table .entry))) s (now (store .entry)) (now (first .entry)) (now (second .entry)) r ⌝ }
 {
     judged(asking::judge(s, store, first, second, table))
 }

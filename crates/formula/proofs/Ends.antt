@@ -13,7 +13,7 @@ use lib.Dec.{ltb, leb}
 use lib.ListN.{length, drop, length-append, length-drop}
 use lib.Seq.{drop-drop, drop-at}
 use borrow.Author.Tests.{le-leb, lt-leb, leb-true}
-use Rattle.theory.specs.Formula.{Formula, bottom, top, prop, negated, var, or, and, AX, EX, mu, nu, boundBy, overProps, nestedBinders}
+use Rattle.theory.specs.Formula.{Formula, bottom, top, prop, negated, var, or, and, AX, EX, mu, nu, closedUnder, overProps, nestedBinders}
 use Rattle.theory.specs.TestLaws.{and-l, and-r, and-in, and-false, bool-same}
 use Rattle.formula.specs.Bytes.{bytesOf, Parsed, parsed, unparsed, unary, binary, parse}
 use Rattle.formula.specs.RoundTrip.{bytes-parse}
@@ -43,61 +43,61 @@ one-more : (d n : ℕ) → d + suc n ≡ d + 1 + n
 one-more d n = omega arith
 
 -- the rules for a formula of two parts are those for both
-joined : (k d : ℕ) (f g : Formula) → (boundBy d f && boundBy d g && (overProps k f && overProps k g) && leb (d + max (nestedBinders f) (nestedBinders g)) 3) ≡ (allowedUnder k d f && allowedUnder k d g)
+joined : (k d : ℕ) (f g : Formula) → (closedUnder d f && closedUnder d g && (overProps k f && overProps k g) && leb (d + max (nestedBinders f) (nestedBinders g)) 3) ≡ (allowedUnder k d f && allowedUnder k d g)
 unfolding allowedUnder
 joined k d f g =
     rw (deepest d (nestedBinders f) (nestedBinders g))
-    (shuffled (boundBy d f) (boundBy d g) (overProps k f) (overProps k g) (leb (d + nestedBinders f) 3) (leb (d + nestedBinders g) 3))
+    (shuffled (closedUnder d f) (closedUnder d g) (overProps k f) (overProps k g) (leb (d + nestedBinders f) 3) (leb (d + nestedBinders g) 3))
 
 module _ (k d : ℕ) where
   pub under-or : (f g : Formula) → allowedUnder k d (or f g) ≡ (allowedUnder k d f && allowedUnder k d g)
-  unfolding allowedUnder boundBy overProps nestedBinders
+  unfolding allowedUnder closedUnder overProps nestedBinders
   under-or f g = joined k d f g
 
   pub under-and : (f g : Formula) → allowedUnder k d (and f g) ≡ (allowedUnder k d f && allowedUnder k d g)
-  unfolding allowedUnder boundBy overProps nestedBinders
+  unfolding allowedUnder closedUnder overProps nestedBinders
   under-and f g = joined k d f g
 
   pub under-bottom : d ≤ 3 → allowedUnder k d bottom ≡ true
-  unfolding allowedUnder boundBy overProps nestedBinders
+  unfolding allowedUnder closedUnder overProps nestedBinders
   under-bottom l = le-leb (d + 0) 3 (omega arith)
 
   pub under-top : d ≤ 3 → allowedUnder k d top ≡ true
-  unfolding allowedUnder boundBy overProps nestedBinders
+  unfolding allowedUnder closedUnder overProps nestedBinders
   under-top l = le-leb (d + 0) 3 (omega arith)
 
   pub under-prop : d ≤ 3 → (p : ℕ) → allowedUnder k d (prop p) ≡ ltb p k
-  unfolding allowedUnder boundBy overProps nestedBinders
+  unfolding allowedUnder closedUnder overProps nestedBinders
   under-prop l p = rw (le-leb (d + 0) 3 (omega arith)) (and-true (ltb p k))
 
   pub under-negated : d ≤ 3 → (p : ℕ) → allowedUnder k d (negated p) ≡ ltb p k
-  unfolding allowedUnder boundBy overProps nestedBinders
+  unfolding allowedUnder closedUnder overProps nestedBinders
   under-negated l p = rw (le-leb (d + 0) 3 (omega arith)) (and-true (ltb p k))
 
   pub under-var : d ≤ 3 → (v : ℕ) → allowedUnder k d (var v) ≡ ltb v d
-  unfolding allowedUnder boundBy overProps nestedBinders
+  unfolding allowedUnder closedUnder overProps nestedBinders
   under-var l v = rw (le-leb (d + 0) 3 (omega arith)) (and-true (ltb v d && true) ∙ and-true (ltb v d))
 
   pub under-AX : (f : Formula) → allowedUnder k d (AX f) ≡ allowedUnder k d f
-  unfolding allowedUnder boundBy overProps nestedBinders
+  unfolding allowedUnder closedUnder overProps nestedBinders
   under-AX f = refl
 
   pub under-EX : (f : Formula) → allowedUnder k d (EX f) ≡ allowedUnder k d f
-  unfolding allowedUnder boundBy overProps nestedBinders
+  unfolding allowedUnder closedUnder overProps nestedBinders
   under-EX f = refl
 
   pub under-mu : (f : Formula) → allowedUnder k d (mu f) ≡ allowedUnder k (d + 1) f
-  unfolding allowedUnder boundBy overProps nestedBinders
+  unfolding allowedUnder closedUnder overProps nestedBinders
   under-mu f = rw (one-more d (nestedBinders f), add-one)
 
   pub under-nu : (f : Formula) → allowedUnder k d (nu f) ≡ allowedUnder k (d + 1) f
-  unfolding allowedUnder boundBy overProps nestedBinders
+  unfolding allowedUnder closedUnder overProps nestedBinders
   under-nu f = rw (one-more d (nestedBinders f), add-one)
 
   -- nothing is allowed under four binders
   pub under-four : 4 ≤ d → (f : Formula) → allowedUnder k d f ≡ false
   unfolding allowedUnder
-  under-four l f = rw (lt-leb (d + nestedBinders f) 3 (omega arith)) (and-false (boundBy d f && overProps k f))
+  under-four l f = rw (lt-leb (d + nestedBinders f) 3 (omega arith)) (and-false (closedUnder d f && overProps k f))
 
   -- ---- the end of a formula, from the ends of its parts
 

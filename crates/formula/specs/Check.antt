@@ -9,7 +9,7 @@ use mathlib.Core.List.{List}
 use native.Mathlib.Omega.{arith}
 use lib.Dec.{leb}
 use lib.ListN.{length, drop}
-use Rattle.theory.specs.Formula.{Formula, boundBy, overProps, nestedBinders}
+use Rattle.theory.specs.Formula.{Formula, closedUnder, overProps, nestedBinders}
 use Rattle.formula.specs.Bytes.{Parsed, parsed, unparsed, parse, FormulaReading, read, refused}
 use Rattle.formula.specs.declared.FormulaCheck.the-variants.{Accepted, Refused}
 use Rattle.formula.specs.declared.NodeEnd.{NodeEnd}
@@ -20,7 +20,7 @@ use Rattle.formula.specs.Answer.{checked}
 
 -- the rules for a formula that stands under d binders; under none they are `allowed`
 unfoldable pub allowedUnder : ℕ → ℕ → Formula → Bool
-allowedUnder k d f = boundBy d f && overProps k f && leb (d + nestedBinders f) 3
+allowedUnder k d f = closedUnder d f && overProps k f && leb (d + nestedBinders f) 3
 
 -- a formula that ends at a place, where a test is passed
 abbrev pub endIf : Bool → ℕ → NodeEnd

@@ -5,6 +5,6 @@ pub mod Answer  -- what the check of a formula part answers
 -- ---- theorems
 pub mod RoundTrip  -- the parse and the bytes of a formula are inverse to one another
 pub mod ByToken  -- the parse goes by tokens
-pub mod Examples  -- formula parts at their bounds, by computation
+pub mod Examples  -- formula parts at their limits, by computation
 -- ---- for the code
 pub mod Check  -- what the check answers at each place of a part

@@ -166,7 +166,7 @@ pub record FormulaPart (k : ℕ) (b : List ℕ) (φ : Formula) : Type 0 where
   pub bytes : b ≡ bytesOf φ
   pub least : 1 ≤ length b
   pub most : length b ≤ 255
-  pub bound : closed φ ≡ true
+  pub is-closed : closed φ ≡ true
   pub props : overProps k φ ≡ true
   pub binders : nestedBinders φ ≤ 3
 
@@ -178,7 +178,7 @@ formula-part k b φ e =
       bytes = h .0;
       least = omega (arith, bytes-least φ, ap length (h .0));
       most = h .1;
-      bound = and-l (closed φ) (overProps k φ) both;
+      is-closed = and-l (closed φ) (overProps k φ) both;
       props = and-r (closed φ) (overProps k φ) both;
       binders = leb-true _ _ (and-r (closed φ && overProps k φ) (leb (nestedBinders φ) 3) (h .2));
     }

@@ -1,4 +1,4 @@
-// Formula parts: whether the rules of the formula are kept, in one pass over the tokens (tokens).
+// Formula parts: whether the rules of the formula are obeyed, in one pass over the tokens (tokens).
 ghost use mathlib.Core.Path.{_≡_};
 ghost use Prim.Native.Nat.{_≤_};
 ghost use lib.Dec.{ltb};
@@ -27,11 +27,11 @@ enum NodeEnd {
     Broken,
 }
 
-// A number that has to be below a bound: the formula ends after it.
-fn number_below(number: u8, bound: u8, end: usize) -> NodeEnd
-    ensures { λ r. ⌜ r ≡ endIf (ltb number bound) end ⌝ }
+// A number that has to be below a limit: the formula ends after it.
+fn number_below(number: u8, limit: u8, end: usize) -> NodeEnd
+    ensures { λ r. ⌜ r ≡ endIf (ltb number limit) end ⌝ }
 {
-    if number < bound {
+    if number < limit {
         NodeEnd::At(NodeFacts { end: end })
     } else {
         NodeEnd::Broken

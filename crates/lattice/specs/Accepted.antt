@@ -15,12 +15,12 @@ use Rattle.theory.specs.Lattice.{Laws}
 use Rattle.theory.specs.Part.{LatticePart, meetOf, joinOf, opsOf, explicitPart}
 use Rattle.refusal.specs.declared.Refusal.{Refusal}
 use Rattle.order.specs.DeMorgan.{DeMorganLattice}
-use Rattle.order.specs.Ordered.{Formed, ordered-out, ordered-in, bounded-out, bounded-in}
+use Rattle.order.specs.Ordered.{Formed, ordered-out, ordered-in, meetsAndJoins-out, meetsAndJoins-in}
 use Rattle.order.specs.Sound.{LatticeSound, lawsOf}
-use Rattle.order.specs.Exactly.{lattice-ordered, lattice-bounded, lattice-distributive, lattice-complements, sound-lattice}
+use Rattle.order.specs.Exactly.{lattice-ordered, lattice-meetsAndJoins, lattice-distributive, lattice-complements, sound-lattice}
 use Rattle.lattice.specs.Panel.{panelPart}
 use Rattle.lattice.specs.Numbered.{explicit-out}
-use Rattle.lattice.specs.Reading.{LatticeReading, accepted, isPanel, latticeOf, explicitForm, latticeForm, partialOrder, bounded, distributive, complementRules, require, partReading, latticeReading}
+use Rattle.lattice.specs.Reading.{LatticeReading, accepted, isPanel, latticeOf, explicitForm, latticeForm, partialOrder, meetsAndJoins, distributive, complementRules, require, partReading, latticeReading}
 
 pub formed : (b : List ℕ) → latticeForm b ≡ true → Formed (latticeOf b)
 unfolding latticeForm latticeOf
@@ -43,11 +43,11 @@ unfolding latticeReading partReading
 accepted-sound b P h =
     let f = require-out (latticeForm b) _ _ P h in
     let o = require-out (partialOrder (latticeOf b .size) (latticeOf b .order)) _ _ P (f .1) in
-    let w = require-out (bounded (latticeOf b)) _ _ P (o .1) in
+    let w = require-out (meetsAndJoins (latticeOf b)) _ _ P (o .1) in
     let d = require-out (distributive (latticeOf b .size) (meetOf (latticeOf b)) (joinOf (latticeOf b))) _ _ P (w .1) in
     let n = require-out (complementRules (latticeOf b .size) (latticeOf b .order) (latticeOf b .complement)) _ _ P (d .1) in
     let q : latticeOf b ≡ P = cc (n .1) in
-    (sym q, record { formed = formed b (f .0); ordered = ordered-out _ (o .0); bounds = bounded-out _ (w .0); distributes = d .0; complements = n .0 })
+    (sym q, record { formed = formed b (f .0); ordered = ordered-out _ (o .0); meets-and-joins = meetsAndJoins-out _ (w .0); distributes = d .0; complements = n .0 })
 
 -- Where no refusal applies, the operations read from the part obey the laws of a distributive De Morgan lattice.
 pub accepted-is-lattice : (b : List ℕ) (P : LatticePart) → latticeReading b ≡ accepted P → Laws (opsOf P)
@@ -57,7 +57,7 @@ accepted-is-lattice b P h = let w = accepted-sound b P h in rw (w .0) (lawsOf (l
 pub lattice-is-accepted : (b : List ℕ) → latticeForm b ≡ true → DeMorganLattice (latticeOf b) → latticeReading b ≡ accepted (latticeOf b)
 unfolding latticeReading partReading require
 lattice-is-accepted b f D =
-    rw (f, ordered-in _ (lattice-ordered _ D), bounded-in _ (lattice-bounded _ D), lattice-distributive _ D, lattice-complements _ D)
+    rw (f, ordered-in _ (lattice-ordered _ D), meetsAndJoins-in _ (lattice-meetsAndJoins _ D), lattice-distributive _ D, lattice-complements _ D)
 
 -- Accepted are exactly the parts of the right form whose order and complement are those of a distributive De Morgan lattice.
 pub lattice-exactly : (b : List ℕ) → (latticeReading b ≡ accepted (latticeOf b)) ↔ ((latticeForm b ≡ true) × DeMorganLattice (latticeOf b))

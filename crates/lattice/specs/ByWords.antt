@@ -16,17 +16,17 @@ use Rattle.theory.specs.TestLaws.{and-in, false-true, not-passed}
 use Rattle.elements.specs.declared.Lattice.{Lattice}
 use Rattle.refusal.specs.declared.Refusal.{Refusal}
 use Rattle.refusal.specs.declared.Refusal.the-variants.{NoPartialOrder, NoMeetOrJoin, NotDistributive, BadComplement}
-use Rattle.order.specs.Tests.{partialOrder, bounded, distributive, complementRules}
-use Rattle.order.specs.Ordered.{ordered-in, ordered-out, bounded-in}
+use Rattle.order.specs.Tests.{partialOrder, meetsAndJoins, distributive, complementRules}
+use Rattle.order.specs.Ordered.{ordered-in, ordered-out, meetsAndJoins-in}
 use Rattle.lattice.specs.declared.LatticeCheck.{LatticeCheck}
 use Rattle.lattice.specs.declared.LatticeCheck.the-variants.{Refused, Accepted}
 use Rattle.lattice.specs.Reading.{LatticeReading, refused, accepted, require, partReading}
-use Rattle.lattice.specs.Answer.{boundsOf, latticeAnswer}
+use Rattle.lattice.specs.Answer.{topAndBottom, latticeAnswer}
 use Rattle.elements.specs.Words.{opsIn, Coded}
-use Rattle.lattice_codes.specs.Tests.{wordsIn, codesBy, downOf, allOf, isWord, ordered, closed, irreducibles, codeOf, latticeTest, boundedTest}
+use Rattle.lattice_codes.specs.Tests.{wordsIn, codesBy, downOf, allOf, isWord, ordered, closed, irreducibles, codeOf, latticeTest, meetsAndJoinsTest}
 use Rattle.lattice_codes.specs.Cong.{isWord-cong, closed-cong, irreducibles-cong, ordered-cong}
 use Rattle.lattice_codes.specs.Order.{ordered-exactly}
-use Rattle.lattice_codes.specs.Bounded.{bounded-exactly}
+use Rattle.lattice_codes.specs.MeetsJoinsFound.{meetsAndJoins-exactly}
 use Rattle.lattice_codes.specs.Accepting.{DistributiveLattice, lattice-sound, lattice-exactly}
 
 -- ---- the tests on lists of words
@@ -59,11 +59,11 @@ module _ (P : LatticePart) (down : List ℕ) (f : Filled (downOf P) (P .size) do
       (isWord-cong (P .size) (wordsIn codes) (codeOf P) (g .at) 0)
 
   module _ (some : 0 < P .size) where
-    reason-is : reasonBy (P .size) down ≡ cond (partialOrder (P .size) (P .order)) (cond (boundedTest P) NotDistributive NoMeetOrJoin) NoPartialOrder
+    reason-is : reasonBy (P .size) down ≡ cond (partialOrder (P .size) (P .order)) (cond (meetsAndJoinsTest P) NotDistributive NoMeetOrJoin) NoPartialOrder
     unfolding reasonBy
     reason-is =
         let x = ordered-cong (P .size) (wordsIn down) (downOf P) (wordsIn down) (downOf P) (f .at) (f .at) ∙ ordered-exactly P in
-        let y : (closed (P .size) (wordsIn down) (allOf (P .size)) false && isWord (P .size) (wordsIn down) (allOf (P .size))) ≡ boundedTest P =
+        let y : (closed (P .size) (wordsIn down) (allOf (P .size)) false && isWord (P .size) (wordsIn down) (allOf (P .size))) ≡ meetsAndJoinsTest P =
         ap₂ _&&_ (closed-cong (P .size) (wordsIn down) (downOf P) (f .at) (allOf (P .size)) false) (isWord-cong (P .size) (wordsIn down) (downOf P) (f .at) (allOf (P .size))) in
         λ i. cond (x i) (cond (y i) NotDistributive NoMeetOrJoin) NoPartialOrder
 
@@ -71,17 +71,17 @@ module _ (P : LatticePart) (down : List ℕ) (f : Filled (downOf P) (P .size) do
     pub reading-reason : latticeTest P ≡ false → partReading P ≡ refused (reasonBy (P .size) down)
     unfolding partReading require
     reading-reason t =
-        go (partialOrder (P .size) (P .order)) refl (bounded P) refl (distributive (P .size) (meetOf P) (joinOf P)) refl ∙ ap refused (sym reason-is)
+        go (partialOrder (P .size) (P .order)) refl (meetsAndJoins P) refl (distributive (P .size) (meetOf P) (joinOf P)) refl ∙ ap refused (sym reason-is)
       where
-        go : (x : Bool) → partialOrder (P .size) (P .order) ≡ x → (y : Bool) → bounded P ≡ y → (z : Bool) → distributive (P .size) (meetOf P) (joinOf P) ≡ z
+        go : (x : Bool) → partialOrder (P .size) (P .order) ≡ x → (y : Bool) → meetsAndJoins P ≡ y → (z : Bool) → distributive (P .size) (meetOf P) (joinOf P) ≡ z
             → require x NoPartialOrder (require y NoMeetOrJoin (require z NotDistributive (require (complementRules (P .size) (P .order) (P .complement)) BadComplement (accepted P))))
-            ≡ refused (cond x (cond (boundedTest P) NotDistributive NoMeetOrJoin) NoPartialOrder)
+            ≡ refused (cond x (cond (meetsAndJoinsTest P) NotDistributive NoMeetOrJoin) NoPartialOrder)
         go false p y q z r = refl
-        go true p false q z r = rw (bounded-exactly P (ordered-out P p) some ∙ q)
-        go true p true q false r = rw (bounded-exactly P (ordered-out P p) some ∙ q)
+        go true p false q z r = rw (meetsAndJoins-exactly P (ordered-out P p) some ∙ q)
+        go true p true q false r = rw (meetsAndJoins-exactly P (ordered-out P p) some ∙ q)
         go true p true q true r = absurd (false-true t (lattice-exactly P some ∙ and-in _ _ (and-in _ _ p q) r))
 
 -- of a distributive lattice, the complement's rules are left to test
 pub reading-lattice : (P : LatticePart) → DistributiveLattice P → partReading P ≡ require (complementRules (P .size) (P .order) (P .complement)) BadComplement (accepted P)
 unfolding partReading require
-reading-lattice P D = rw (ordered-in P (D .order), bounded-in P (D .bounds), D .distributes)
+reading-lattice P D = rw (ordered-in P (D .order), meetsAndJoins-in P (D .meets-and-joins), D .distributes)

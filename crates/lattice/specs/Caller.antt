@@ -1,7 +1,7 @@
 -- What a caller of the check learns of a part from the answer. Rests on theory's Lattice, order's Sound, lattice_codes' Held, Reading, Answer and
 -- Accepted.
 --   codes-ops, codes-coded: the codes of an accepted part hold its operations, and are as `elements` asks
---   AcceptedPart: the part is accepted, size and bounds and codes are its own, no refusal applies, and the laws hold
+--   AcceptedPart: the part is accepted, size, top, bottom and codes are its own, no refusal applies, and the laws hold
 --   when-accepted, when-refused: after each answer
 use Prim.Native.Nat.{ℕ}
 use mathlib.Core.Path.{_≡_, refl}
@@ -17,23 +17,23 @@ use Rattle.lattice_codes.specs.Accepting.{DistributiveLattice}
 use Rattle.lattice_codes.specs.Held.{held-ops, held-coded}
 use Rattle.lattice.specs.declared.LatticeCheck.the-variants.{Refused, Accepted}
 use Rattle.lattice.specs.Reading.{LatticeReading, refused, accepted, latticeOf, latticeReading}
-use Rattle.lattice.specs.Answer.{boundsOf, CodesOf, Answered}
+use Rattle.lattice.specs.Answer.{topAndBottom, CodesOf, Answered}
 use Rattle.lattice.specs.Accepted.{accepted-sound}
 
 module _ (P : LatticePart) (s : LatticeSound P) (w : List ℕ) (h : CodesOf P w) where
   lattice : DistributiveLattice P
-  lattice = record { order = s .ordered; bounds = s .bounds; distributes = s .distributes }
+  lattice = record { order = s .ordered; meets-and-joins = s .meets-and-joins; distributes = s .distributes }
 
-  pub codes-ops : opsIn w (boundsOf P) ≡ opsOf P
+  pub codes-ops : opsIn w (topAndBottom P) ≡ opsOf P
   codes-ops = held-ops P (s .formed) lattice w h
 
-  pub codes-coded : Coded w (boundsOf P)
+  pub codes-coded : Coded w (topAndBottom P)
   codes-coded = held-coded P (s .formed) lattice w h
 
 -- after the answer that the part b is accepted with the numbers l
 pub record AcceptedPart (b : List ℕ) (l : Lattice) (w : List ℕ) : Type 0 where
   pub reading : latticeReading b ≡ accepted (latticeOf b)
-  pub bounds : l ≡ boundsOf (latticeOf b)
+  pub top-and-bottom : l ≡ topAndBottom (latticeOf b)
   pub codes : CodesOf (latticeOf b) w
   pub ops : opsIn w l ≡ opsOf (latticeOf b)
   pub coded : Coded w l
@@ -49,11 +49,11 @@ when-accepted b l w h = go (latticeReading b) refl h
         let s = accepted-sound b P e in
         let h = v .answer in
         let c : CodesOf (latticeOf b) w = rw (← s .0) (v .codes P refl) in
-        let q : l ≡ boundsOf (latticeOf b) = rw (← s .0) (let q : l ≡ boundsOf P = cc in q) in
+        let q : l ≡ topAndBottom (latticeOf b) = rw (← s .0) (let q : l ≡ topAndBottom P = cc in q) in
         let p : opsIn w l ≡ opsOf (latticeOf b) = rw q (codes-ops (latticeOf b) (s .1) w c) in
         record {
           reading = rw (← s .0) e;
-          bounds = q;
+          top-and-bottom = q;
           codes = c;
           ops = p;
           coded = rw q (codes-coded (latticeOf b) (s .1) w c);

@@ -4,11 +4,11 @@ use mathlib.Core.Path.{_≡_, refl}
 use Rattle.theory.specs.Part.{isMeet, isJoin, meetOf, joinOf, explicitPart}
 use Rattle.theory.specs.Test.{allBelow, firstBelow}
 use Rattle.theory.specs.Examples.{L1, L2, L3, subsets}
-use Rattle.lattice.specs.Reading.{isPanel, latticeOf, explicitForm, latticeForm, reflexive, antisymmetric, transitive, partialOrder, bounded, distributive, complementRules, require, partReading, accepted, latticeReading}
+use Rattle.lattice.specs.Reading.{isPanel, latticeOf, explicitForm, latticeForm, reflexive, antisymmetric, transitive, partialOrder, meetsAndJoins, distributive, complementRules, require, partReading, accepted, latticeReading}
 
 -- of each the whole reading is computed
 readings : (latticeReading L1 ≡ accepted (explicitPart L1)) × (latticeReading L2 ≡ accepted (explicitPart L2)) × (latticeReading L3 ≡ accepted (explicitPart L3)) × (latticeReading subsets ≡ accepted (explicitPart subsets))
-unfolding isMeet isJoin meetOf joinOf allBelow firstBelow isPanel latticeOf explicitForm latticeForm reflexive antisymmetric transitive partialOrder bounded distributive complementRules require partReading latticeReading
+unfolding isMeet isJoin meetOf joinOf allBelow firstBelow isPanel latticeOf explicitForm latticeForm reflexive antisymmetric transitive partialOrder meetsAndJoins distributive complementRules require partReading latticeReading
 readings = (refl, refl, refl, refl)
 
 -- one element

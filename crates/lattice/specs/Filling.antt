@@ -20,12 +20,12 @@ use Rattle.elements.specs.declared.Lattice.{Lattice}
 use Rattle.refusal.specs.declared.Refusal.{Refusal}
 use Rattle.refusal.specs.declared.Refusal.the-variants.{BadComplement}
 use Rattle.order.specs.Tests.{all2, complementRules}
-use Rattle.order.specs.Bounds.{element-lt, element-cong}
+use Rattle.order.specs.Searched.{element-lt, element-cong}
 use Rattle.order.specs.Ordered.{Formed}
 use Rattle.lattice.specs.declared.LatticeCheck.{LatticeCheck}
 use Rattle.lattice.specs.declared.LatticeCheck.the-variants.{Refused, Accepted}
 use Rattle.lattice.specs.Reading.{LatticeReading, refused, accepted, require, partReading}
-use Rattle.lattice.specs.Answer.{boundsOf}
+use Rattle.lattice.specs.Answer.{topAndBottom}
 use Rattle.elements.specs.Words.{within}
 use Rattle.lattice_codes.specs.Tests.{wordsIn, downOf, isWord, irreducibles, codeOf, FoundAt}
 use Rattle.lattice_codes.specs.Cong.{isWord-cong}
@@ -132,7 +132,7 @@ module _ {P : LatticePart} {codes : List ℕ} {mask : ℕ} (f : Formed P) (L : L
         let bl : l .bottom .0 < P .size = ltb-true _ _ (sym (b .word) ∙ c 0 ∙ bottom-is-word P f D) in
         let u : l .top .0 ≡ topOf P = sym (top-found P f D _ tl (sym (L .codes-are .at _ tl) ∙ t .hit tl ∙ L .mask-is)) in
         let d : l .bottom .0 ≡ botOf P = sym (bottom-found P f D _ bl (sym (L .codes-are .at _ bl) ∙ b .hit bl)) in
-        let e : l ≡ boundsOf P = λ i. record { size = s i; top = record { 0 = u i }; bottom = record { 0 = d i } } in
+        let e : l ≡ topAndBottom P = λ i. record { size = s i; top = record { 0 = u i }; bottom = record { 0 = d i } } in
         rw (rules-accepted (sym rules ∙ and-in _ _ x y))
         (record {
           answer = ap Accepted e;

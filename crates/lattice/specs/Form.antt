@@ -14,7 +14,7 @@ use borrow.Author.Tests.{eqb-true, lt-ltb, le-leb, eq-eqb}
 use lib.Dec.{ltb, eqb}
 use lib.ListN.{length, getD}
 use Rattle.theory.specs.Part.{explicitPart}
-use Rattle.theory.specs.Simulation.{one}
+use Rattle.theory.specs.Simulation.{indicator}
 use Rattle.theory.specs.Test.{allBelow}
 use Rattle.theory.specs.TestLaws.{and-l, not-passed, false-true, all-in}
 use Rattle.lattice.specs.Panel.{panelPart}
@@ -72,7 +72,7 @@ module _ (b : List ℕ) where
 -- ---- one entry of the order
 
 -- a byte that is 0 or 1
-bit : (x : ℕ) → x < 2 → x ≡ one (eqb x 1)
+bit : (x : ℕ) → x < 2 → x ≡ indicator (eqb x 1)
 bit zero l = refl
 bit (suc zero) l = refl
 bit (suc (suc x)) l = absurd (omega arith)
@@ -81,7 +81,7 @@ bit (suc (suc x)) l = absurd (omega arith)
 pub record OrderEntry (b : List ℕ) (n i j : ℕ) : Type 0 where
   pub product : i * n ≤ 4096
   pub inside : 1 + n + (i * n + j) < length b
-  pub value : getD b (1 + n + (i * n + j)) 0 ≡ one (latticeOf b .order i j)
+  pub value : getD b (1 + n + (i * n + j)) 0 ≡ indicator (latticeOf b .order i j)
 
 pub order-at : (b : List ℕ) (n i j : ℕ) → latticeForm b ≡ true → isPanel b ≡ false → n ≡ getD b 0 0 → i < latticeOf b .size → j < latticeOf b .size → OrderEntry b n i j
 order-at b n i j f p e l m =
@@ -95,10 +95,10 @@ order-at b n i j f p e l m =
     record {
       product = omega arith;
       inside = omega (arith, w .exact);
-      value = bit _ (w .orders _ c) ∙ ap one v;
+      value = bit _ (w .orders _ c) ∙ ap indicator v;
     }
 
-pub panel-at : (b : List ℕ) (i j : ℕ) → isPanel b ≡ true → i < latticeOf b .size → j < latticeOf b .size → (i * 27 + j < 729) × (panelEntry (i * 27 + j) ≡ one (latticeOf b .order i j))
+pub panel-at : (b : List ℕ) (i j : ℕ) → isPanel b ≡ true → i < latticeOf b .size → j < latticeOf b .size → (i * 27 + j < 729) × (panelEntry (i * 27 + j) ≡ indicator (latticeOf b .order i j))
 panel-at b i j p l m =
     let q = part-panel b p in
     let l2 : i < 27 = rw (← ap (λ P. P .size) q) l in

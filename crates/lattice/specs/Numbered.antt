@@ -1,6 +1,6 @@
--- Which of the refusals 4 to 8 a lattice part is given. Rests on order's Ordered and Bounds, refusal's First, Reading, Conditions.
+-- Which of the refusals 4 to 8 a lattice part is given. Rests on order's Ordered and Searched, refusal's First, Reading, Conditions.
 --   explicit-out: the form test of an explicit part, as facts
---   form-exactly, ordered-exactly, bounded-exactly, distributive-exactly, complements-exactly: each test says what its statement says
+--   form-exactly, ordered-exactly, meetsAndJoins-exactly, distributive-exactly, complements-exactly: each test says what its statement says
 --   lattice-refused: each refusal is given exactly when the part breaks what it asks and nothing earlier, and no other is given
 use Prim.Native.Nat.{ℕ, _+_, _*_, _≤_, _<_}
 use mathlib.Core.Path.{_≡_, refl, ap}
@@ -18,10 +18,10 @@ use Rattle.refusal.specs.declared.Refusal.{Refusal}
 use Rattle.refusal.specs.declared.Refusal.the-variants.{LatticeForm, NoPartialOrder, NoMeetOrJoin, NotDistributive, BadComplement}
 use Rattle.refusal.specs.Number.{numberOf}
 use Rattle.refusal.specs.First.{first-here, first-later, first-never}
-use Rattle.order.specs.Bounds.{all2-at, all2-in, all3-at, all3-in, join-reversed, meet-some}
+use Rattle.order.specs.Searched.{all2-at, all2-in, all3-at, all3-in, join-reversed, meet-some}
 use Rattle.order.specs.DeMorgan.{reversed}
-use Rattle.order.specs.Ordered.{ordered-out, ordered-in, bounded-out, bounded-in, meet-at, join-at}
-use Rattle.lattice.specs.Reading.{LatticeReading, refused, accepted, isPanel, latticeOf, explicitForm, latticeForm, partialOrder, bounded, distributive, complementRules, require, partReading, latticeReading}
+use Rattle.order.specs.Ordered.{ordered-out, ordered-in, meetsAndJoins-out, meetsAndJoins-in, meet-at, join-at}
+use Rattle.lattice.specs.Reading.{LatticeReading, refused, accepted, isPanel, latticeOf, explicitForm, latticeForm, partialOrder, meetsAndJoins, distributive, complementRules, require, partReading, latticeReading}
 use Rattle.lattice.specs.Conditions.{ExplicitForm, HasForm, Ordered, MeetsAndJoins, Distributive, ComplementRules, LatticeRefused}
 
 -- ---- refusal 4
@@ -75,20 +75,20 @@ module _ (P : LatticePart) where
   pub ordered-exactly : (partialOrder (P .size) (P .order) ≡ true) ↔ Ordered P
   ordered-exactly = (ordered-out P, ordered-in P)
 
-  pub bounded-exactly : (bounded P ≡ true) ↔ MeetsAndJoins P
-  bounded-exactly = (there, back)
+  pub meetsAndJoins-exactly : (meetsAndJoins P ≡ true) ↔ MeetsAndJoins P
+  meetsAndJoins-exactly = (there, back)
     where
-      there : bounded P ≡ true → MeetsAndJoins P
+      there : meetsAndJoins P ≡ true → MeetsAndJoins P
       there t =
-          let w = bounded-out P t in
+          let w = meetsAndJoins-out P t in
           record {
             meet = λ a b l m. (meetOf P a b, w .meet-lt a b l m, meet-at P w a b l m);
             join = λ a b l m. (joinOf P a b, w .join-lt a b l m, join-at P w a b l m);
           }
 
-      back : MeetsAndJoins P → bounded P ≡ true
+      back : MeetsAndJoins P → meetsAndJoins P ≡ true
       back w =
-          bounded-in P
+          meetsAndJoins-in P
           (record {
             meet-lt = λ a b l m. let x = w .meet a b l m in meet-some P a b (x .0) (x .1) (x .2);
             join-lt = λ a b l m. let x = w .join a b l m in rw join-reversed (meet-some (reversed P) a b (x .0) (x .1) (x .2));
@@ -160,7 +160,7 @@ module _ (b : List ℕ) where
   from7 = require test7 NotDistributive from8
 
   abbrev from6 : LatticeReading
-  from6 = require (bounded P) NoMeetOrJoin from7
+  from6 = require (meetsAndJoins P) NoMeetOrJoin from7
 
   abbrev from5 : LatticeReading
   from5 = require test5 NoPartialOrder from6
@@ -177,7 +177,7 @@ module _ (b : List ℕ) where
 
     never6 : numberOf r < 6 → from6 ≡ refused r → ⊥
     unfolding require
-    never6 l = first-never (bounded P) (differ NoMeetOrJoin r (λ e. omega arith)) (never7 (omega arith))
+    never6 l = first-never (meetsAndJoins P) (differ NoMeetOrJoin r (λ e. omega arith)) (never7 (omega arith))
 
     never5 : numberOf r < 5 → from5 ≡ refused r → ⊥
     unfolding require
@@ -194,7 +194,7 @@ module _ (b : List ℕ) where
 
     after6 : {X : Type 0} → 6 < numberOf r → (from7 ≡ refused r) ↔ X → (from6 ≡ refused r) ↔ (MeetsAndJoins P × X)
     unfolding require
-    after6 l = first-later (bounded P) (bounded-exactly P) (differ NoMeetOrJoin r (λ e. omega arith))
+    after6 l = first-later (meetsAndJoins P) (meetsAndJoins-exactly P) (differ NoMeetOrJoin r (λ e. omega arith))
 
     after7 : {X : Type 0} → 7 < numberOf r → (from8 ≡ refused r) ↔ X → (from7 ≡ refused r) ↔ (Distributive P × X)
     unfolding require
@@ -206,7 +206,7 @@ module _ (b : List ℕ) where
       record {
         at-4 = first-here (latticeForm b) (form-exactly b) (never5 LatticeForm (omega arith));
         at-5 = after4 _ (omega arith) (first-here test5 (ordered-exactly P) (never6 NoPartialOrder (omega arith)));
-        at-6 = after4 _ (omega arith) (after5 _ (omega arith) (first-here (bounded P) (bounded-exactly P) (never7 NoMeetOrJoin (omega arith))));
+        at-6 = after4 _ (omega arith) (after5 _ (omega arith) (first-here (meetsAndJoins P) (meetsAndJoins-exactly P) (never7 NoMeetOrJoin (omega arith))));
         at-7 =
             after4 _ (omega arith) (after5 _ (omega arith) (after6 _ (omega arith)
             (first-here test7 (distributive-exactly P) (never8 NotDistributive (omega arith)))));
@@ -216,7 +216,7 @@ module _ (b : List ℕ) where
         only = λ r.
             require-number (latticeForm b) LatticeForm r (omega arith)
             (require-number test5 NoPartialOrder r (omega arith)
-            (require-number (bounded P) NoMeetOrJoin r (omega arith)
+            (require-number (meetsAndJoins P) NoMeetOrJoin r (omega arith)
             (require-number test7 NotDistributive r (omega arith)
             (require-number test8 BadComplement r (omega arith) (λ e. absurd (not-accepted e))))));
       }

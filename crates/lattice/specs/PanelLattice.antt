@@ -13,12 +13,12 @@ use lib.Dec.{ltb, leb, eqb}
 use lib.ListN.{length, getD}
 use Rattle.theory.specs.Lattice.{Ops, Laws}
 use Rattle.theory.specs.Descent.{all-map}
-use Rattle.theory.specs.Simulation.{one}
+use Rattle.theory.specs.Simulation.{indicator}
 use Rattle.theory.specs.Part.{opsOf, explicitPart}
 use Rattle.theory.specs.TestLaws.{and-l, and-r, and-in, all-in}
 use Rattle.lattice.specs.Panel.{panelOrder, panelPart}
 use Rattle.lattice.specs.Reading.{isPanel, latticeOf, latticeForm, accepted, latticeReading}
-use Rattle.order.specs.Bounds.{one-test}
+use Rattle.order.specs.Searched.{indicator-test}
 use Rattle.theory.specs.Height.{distinct-le}
 use Rattle.lattice.specs.Accepted.{lattice-is-accepted}
 use Rattle.order.specs.Exactly.{ops-lattice}
@@ -188,7 +188,7 @@ pub record PanelBytes (b : List ℕ) : Type 0 where
   pub size : getD b 0 0 ≡ 27
   pub exact : length b ≡ 757
   pub complements : (a : ℕ) → a < 27 → getD b (1 + a) 0 ≡ 26 - a
-  pub orders : (i j : ℕ) → i < 27 → j < 27 → getD b (28 + (i * 27 + j)) 0 ≡ one (panelOrder i j)
+  pub orders : (i j : ℕ) → i < 27 → j < 27 → getD b (28 + (i * 27 + j)) 0 ≡ indicator (panelOrder i j)
 
 module _ (b : List ℕ) (w : PanelBytes b) where
   not-panel : isPanel b ≡ false
@@ -198,12 +198,12 @@ module _ (b : List ℕ) (w : PanelBytes b) where
   explicit : latticeOf b ≡ explicitPart b
   explicit = part-explicit b not-panel
 
-  one-below : (t : Bool) → ltb (one t) 2 ≡ true
-  one-below true = refl
-  one-below false = refl
+  indicator-below : (t : Bool) → ltb (indicator t) 2 ≡ true
+  indicator-below true = refl
+  indicator-below false = refl
 
   same-orders : (i j : ℕ) → i < 27 → j < 27 → explicitPart b .order i j ≡ panelOrder i j
-  same-orders i j l m = rw (w .size) (ap (λ x. eqb x 1) (w .orders i j l m) ∙ one-test _)
+  same-orders i j l m = rw (w .size) (ap (λ x. eqb x 1) (w .orders i j l m) ∙ indicator-test _)
 
   has-form : latticeForm b ≡ true
   has-form =
@@ -211,7 +211,7 @@ module _ (b : List ℕ) (w : PanelBytes b) where
       (all-in 27 _ (λ i l. lt-ltb (getD b (1 + i) 0) (getD b 0 0) (rw (w .size, w .complements i l) (omega arith))))
       ∙ all-in 729 _ (λ k l.
       let e : k / 27 * 27 + k % 27 ≡ k = omega arith in
-      ap (λ x. ltb x 2) (rw e at (w .orders (k / 27) (k % 27) (omega arith) (omega arith))) ∙ one-below (panelOrder (k / 27) (k % 27)))
+      ap (λ x. ltb x 2) (rw e at (w .orders (k / 27) (k % 27) (omega arith) (omega arith))) ∙ indicator-below (panelOrder (k / 27) (k % 27)))
 
   -- An explicit part with the panel's 27 elements has the panel's operations, and is accepted too.
   pub panel-bytes-same : opsOf (latticeOf b) ≡ opsOf panelPart

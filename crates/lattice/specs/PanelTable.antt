@@ -10,13 +10,13 @@ use native.Mathlib.Omega.{arith}
 use borrow.Author.Tests.{le-leb, leb-true}
 use lib.Dec.{leb}
 use lib.ListN.{getD}
-use Rattle.theory.specs.Simulation.{one}
+use Rattle.theory.specs.Simulation.{indicator}
 use Rattle.theory.specs.TestLaws.{and-in, and-l, and-r, false-true}
 use Rattle.lattice.specs.Panel.{panelOrder}
 
 -- the panel's order, entry by entry
 abbrev pub panelEntry : ℕ → ℕ
-panelEntry k = one (panelOrder (k / 27) (k % 27))
+panelEntry k = indicator (panelOrder (k / 27) (k % 27))
 
 -- these bytes are the panel's order
 pub record PanelOrder (b : List ℕ) : Type 0 where
@@ -38,13 +38,13 @@ places-exactly i j = (
   λ h. and-in _ _ (and-in _ _ (le-leb _ _ (h .0)) (le-leb _ _ (h .1))) (le-leb _ _ (h .2)),
 )
 
-one-exactly : (x : Bool) → (one x ≡ 1) ↔ (x ≡ true)
-one-exactly true = (λ e. refl, λ e. refl)
-one-exactly false = (λ e. absurd (let z : _≡_ {A = ℕ} 0 1 = e in omega arith), λ e. absurd (false-true refl e))
+indicator-exactly : (x : Bool) → (indicator x ≡ 1) ↔ (x ≡ true)
+indicator-exactly true = (λ e. refl, λ e. refl)
+indicator-exactly false = (λ e. absurd (let z : _≡_ {A = ℕ} 0 1 = e in omega arith), λ e. absurd (false-true refl e))
 
 pub panel-entry-exactly : (bytes : List ℕ) → PanelOrder bytes → (i j : ℕ) → i < 27 → j < 27 → (getD bytes (27 * i + j) 0 ≡ 1) ↔ PlacesAtMost i j
 panel-entry-exactly bytes h i j l m =
     let x : (27 * i + j) / 27 ≡ i = omega arith in
     let y : (27 * i + j) % 27 ≡ j = omega arith in
-    let e : getD bytes (27 * i + j) 0 ≡ one (panelOrder i j) = rw (x, y) at (h .at (27 * i + j) (omega arith)) in
-    (λ p. places-exactly i j .0 (one-exactly (panelOrder i j) .0 (sym e ∙ p)), λ p. e ∙ one-exactly (panelOrder i j) .1 (places-exactly i j .1 p))
+    let e : getD bytes (27 * i + j) 0 ≡ indicator (panelOrder i j) = rw (x, y) at (h .at (27 * i + j) (omega arith)) in
+    (λ p. places-exactly i j .0 (indicator-exactly (panelOrder i j) .0 (sym e ∙ p)), λ p. e ∙ indicator-exactly (panelOrder i j) .1 (places-exactly i j .1 p))

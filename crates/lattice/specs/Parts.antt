@@ -9,10 +9,10 @@ use native.Mathlib.Omega.{arith}
 use lib.Dec.{eqb}
 use lib.ListN.{length, getD}
 use Rattle.theory.specs.Lists.{Filled}
-use Rattle.theory.specs.Loop.{one-most}
+use Rattle.theory.specs.Loop.{indicator-most}
 use Rattle.theory.specs.Part.{LatticePart, explicitPart, element}
-use Rattle.theory.specs.Simulation.{one}
-use Rattle.order.specs.Bounds.{one-test, element-lt}
+use Rattle.theory.specs.Simulation.{indicator}
+use Rattle.order.specs.Searched.{indicator-test, element-lt}
 use Rattle.order.specs.Ordered.{Formed}
 use Rattle.lattice.specs.Panel.{panelOrder, panelPart}
 use Rattle.lattice.specs.Reading.{isPanel, latticeOf, latticeForm}
@@ -29,7 +29,7 @@ pub panel-bytes : (s : List ℕ) → length s ≡ 729 → PanelOrder s → Bytes
 panel-bytes s e p =
     record {
       fits = omega arith;
-      small = λ i l. let z : 0 + i ≡ i = omega arith in rw z (omega (arith, p .at i l, one-most (panelOrder (i / 27) (i % 27))));
+      small = λ i l. let z : 0 + i ≡ i = omega arith in rw z (omega (arith, p .at i l, indicator-most (panelOrder (i / 27) (i % 27))));
     }
 
 pub panel-down : (b s out : List ℕ) → isPanel b ≡ true → PanelOrder s → Filled (downIn s 0 27) 27 out → Filled (downOf (latticeOf b)) (latticeOf b .size) out
@@ -40,7 +40,7 @@ panel-down b s out p w f = rw (part-panel b p) (record { at = λ a l. f .at a l 
         let z : 0 + i * 27 + a ≡ i * 27 + a = omega arith in
         let x : (i * 27 + a) / 27 ≡ i = omega arith in
         let y : (i * 27 + a) % 27 ≡ a = omega arith in
-        ap (λ (j : ℕ). eqb (getD s j 0) 1) z ∙ ap (λ (v : ℕ). eqb v 1) (w .at (i * 27 + a) (omega arith)) ∙ one-test _ ∙ ap₂ panelOrder x y
+        ap (λ (j : ℕ). eqb (getD s j 0) 1) z ∙ ap (λ (v : ℕ). eqb v 1) (w .at (i * 27 + a) (omega arith)) ∙ indicator-test _ ∙ ap₂ panelOrder x y
 
 -- ---- an explicit part
 

@@ -2,7 +2,7 @@
 -- Panel.
 --   isPanel, latticeOf: what the bytes say; explicitForm, latticeForm: refusal 4
 --   LatticeReading, require, partReading, latticeReading: the refusal, or the part accepted
---   reflexive, antisymmetric, transitive, partialOrder, bounded, distributive, complementRules: order's tests, passed on
+--   reflexive, antisymmetric, transitive, partialOrder, meetsAndJoins, distributive, complementRules: order's tests, passed on
 use Prim.Native.Nat.{ℕ, _+_, _*_}
 use mathlib.Core.Bool.{Bool, true, false, cond, _&&_, _||_}
 use mathlib.Core.List.{List}
@@ -14,7 +14,7 @@ use Rattle.refusal.specs.declared.Refusal.{Refusal}
 use Rattle.refusal.specs.declared.Refusal.the-variants.{LatticeForm, NoPartialOrder, NoMeetOrJoin, NotDistributive, BadComplement}
 use Rattle.lattice.specs.Panel.{panelPart}
 -- the tests of refusals 5 to 8
-unfoldable pub use Rattle.order.specs.Tests.{reflexive, antisymmetric, transitive, partialOrder, bounded, distributive, complementRules}
+unfoldable pub use Rattle.order.specs.Tests.{reflexive, antisymmetric, transitive, partialOrder, meetsAndJoins, distributive, complementRules}
 
 -- ---- what the bytes say
 
@@ -51,7 +51,7 @@ require t f next = cond t next (refused f)
 unfoldable pub partReading : LatticePart → LatticeReading
 partReading P =
     require (partialOrder (P .size) (P .order)) NoPartialOrder
-    (require (bounded P) NoMeetOrJoin
+    (require (meetsAndJoins P) NoMeetOrJoin
     (require (distributive (P .size) (meetOf P) (joinOf P)) NotDistributive
     (require (complementRules (P .size) (P .order) (P .complement)) BadComplement
     (accepted P))))

@@ -15,7 +15,7 @@ use lib.Bits.{bitOr}
 use lib.Dec.{eqb}
 use lib.ListN.{length, getD, set}
 use lib.Seq.{getD-set-same, getD-set-other}
-use Rattle.theory.specs.Simulation.{one}
+use Rattle.theory.specs.Simulation.{indicator}
 use Rattle.theory.specs.Lists.{Filled}
 use Rattle.elements.specs.Bits.{bits, bits-begin, bits-more}
 
@@ -35,20 +35,20 @@ downIn s from n a = bits n (orderIn s from n a)
 -- the words out are those of `before`, the first n of them with bit i set where the byte is 1
 pub record Rowed (s : List ℕ) (at i n : ℕ) (before out : List ℕ) : Type 0 where
   pub set : (j : ℕ) → j < n → getD out j 0 ≡ bitOr (getD before j 0) ((getD s (at + j) 0 * 2 ^ i) % 2 ^ 64)
-  pub kept : (j : ℕ) → n ≤ j → getD out j 0 ≡ getD before j 0
+  pub others-unchanged : (j : ℕ) → n ≤ j → getD out j 0 ≡ getD before j 0
 
 module _ {s : List ℕ} {at i : ℕ} {before : List ℕ} where
   pub rowed-none : Rowed s at i 0 before before
-  rowed-none = record { set = λ j l. absurd (not-suc-le-zero l); kept = λ j l. refl }
+  rowed-none = record { set = λ j l. absurd (not-suc-le-zero l); others-unchanged = λ j l. refl }
 
   pub rowed-more : {q v : ℕ} {out : List ℕ} → Rowed s at i q before out → q < length out → v ≡ bitOr (getD out q 0) ((getD s (at + q) 0 * 2 ^ i) % 2 ^ 64) → Rowed s at i (q + 1) before (set out q v)
   rowed-more {q} {v} {out} u l e =
       record {
         set = λ j k.
-            ⊎-elim (λ (z : j ≡ q). rw z (getD-set-same out q v 0 l ∙ e ∙ ap (λ (x : ℕ). bitOr x ((getD s (at + q) 0 * 2 ^ i) % 2 ^ 64)) (u .kept q (le-refl _))))
+            ⊎-elim (λ (z : j ≡ q). rw z (getD-set-same out q v 0 l ∙ e ∙ ap (λ (x : ℕ). bitOr x ((getD s (at + q) 0 * 2 ^ i) % 2 ^ 64)) (u .others-unchanged q (le-refl _))))
             (λ (z : j < q). getD-set-other out q j v 0 (λ (y : j ≡ q). omega arith) ∙ u .set j z)
             (eq-or-lt-of-le (omega arith));
-        kept = λ j k. getD-set-other out q j v 0 (λ (y : j ≡ q). omega arith) ∙ u .kept j (omega arith);
+        others-unchanged = λ j k. getD-set-other out q j v 0 (λ (y : j ≡ q). omega arith) ∙ u .others-unchanged j (omega arith);
       }
 
   pub rowed-all : {q n : ℕ} {out : List ℕ} → Rowed s at i q before out → q ≤ n → n ≤ q → Rowed s at i n before out
@@ -58,7 +58,7 @@ module _ {s : List ℕ} {at i : ℕ} {before : List ℕ} where
 pub row-inside : (n i : ℕ) → i < n → i * n + n ≤ n * n
 row-inside n i l = omega (arith, suc-mul i n, mul-le-mul-right n l)
 
-bit-byte : (x : ℕ) → x < 2 → x ≡ one (eqb x 1)
+bit-byte : (x : ℕ) → x < 2 → x ≡ indicator (eqb x 1)
 bit-byte zero l = refl
 bit-byte (suc zero) l = refl
 bit-byte (suc (suc x)) l = absurd (omega arith)

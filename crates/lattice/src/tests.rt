@@ -5,7 +5,7 @@ ghost use mathlib.Core.Bool.{Bool};
 ghost use Prim.Native.Nat.{_^_, _-_, _<_, _≤_};
 ghost use lib.ListN.{length, getD};
 ghost use Rattle.theory.specs.Lists.{Filled};
-ghost use Rattle.theory.specs.Simulation.{one as oneOf};
+ghost use Rattle.theory.specs.Simulation.{indicator};
 ghost use Rattle.theory.specs.Test.{allBelow};
 ghost use Rattle.lattice_codes.specs.Tests.{FoundAt, wordsIn, both, isWord, pairOrdered, ordered, pairClosed, closed, irreducible, irreducibles, allOf, codesBy, orderedBy};
 
@@ -196,7 +196,7 @@ fn is_irreducible(down: &[u64; 64], places: &[u8; 256], n: usize, a: usize) -> b
 }
 
 fn one(b: bool) -> u64
-    ensures { λ r. ⌜ r ≡ oneOf b ⌝ }
+    ensures { λ r. ⌜ r ≡ indicator b ⌝ }
 {
     if b { 1 } else { 0 }
 }

@@ -13,22 +13,22 @@ use lib.Bits.{bitAnd, bitOr, or-comm}
 use lib.Dec.{eqb}
 use Rattle.theory.specs.Part.{LatticePart, meetOf, joinOf}
 use Rattle.theory.specs.TestLaws.{below-suc, bool-same, and-l, and-r, and-in, ⇒-elim, ⇒-in, not-passed, false-true}
-use Rattle.order.specs.Tests.{partialOrder, bounded, distributive}
-use Rattle.order.specs.Bounds.{all2-at, all2-in, join-reversed, meet-some, TopAt, boundUpTo}
+use Rattle.order.specs.Tests.{partialOrder, meetsAndJoins, distributive}
+use Rattle.order.specs.Searched.{all2-at, all2-in, join-reversed, meet-some, TopAt, foldUpTo}
 use Rattle.order.specs.DeMorgan.{reversed, MeetAt}
-use Rattle.order.specs.Ordered.{Ordered, Bounded, ordered-in, ordered-out, ordered-reversed, bounded-in, bounded-out, bounded-reversed, top-is}
+use Rattle.order.specs.Ordered.{Ordered, MeetsJoinsFound, ordered-in, ordered-out, ordered-reversed, meetsAndJoins-in, meetsAndJoins-out, meetsAndJoins-reversed, top-is}
 use Rattle.elements.specs.Bits.{bits, bits-cong, bits-same, bits-and, bits-or, bits-none, bits-at, without, without-l, without-r}
 use Rattle.elements.specs.Laws.{Within, and-left, and-right, and-glb, or-left, or-right, or-lub}
 use Rattle.elements.specs.Words.{within}
 use Rattle.lattice_codes.specs.Tests.{any-in, any-out, downOf, isWord, pairClosed, closed, ordered, irreducible, irreducibles, codeOf, latticeTest}
 use Rattle.lattice_codes.specs.Order.{word-in, word-out, ordered-sound, ordered-complete}
-use Rattle.lattice_codes.specs.Bounded.{bounded-meets}
+use Rattle.lattice_codes.specs.MeetsJoinsFound.{meetsAndJoins-meets}
 use Rattle.lattice_codes.specs.Birkhoff.{below, code-bits, irreducible-out, code-order, code-distinct, distributive-sound, code-join}
 
 -- a partial order with all meets and joins, and distributive
 pub record DistributiveLattice (P : LatticePart) : Type 0 where
   pub order : Ordered P
-  pub bounds : Bounded P
+  pub meets-and-joins : MeetsJoinsFound P
   pub distributes : distributive (P .size) (meetOf P) (joinOf P) ≡ true
 
 -- the element with a code
@@ -146,8 +146,8 @@ module _ (P : LatticePart) (t : ordered (P .size) (downOf P) (codeOf P) ≡ true
   out : {a b : ℕ} → a < P .size → b < P .size → Within (codeOf P a) (codeOf P b) → P .order a b ≡ true
   out l m h = word-out P (codeOf P) t l m h
 
-  bounds : Bounded P
-  bounds =
+  meets-and-joins : MeetsJoinsFound P
+  meets-and-joins =
       record {
         meet-lt = λ a b l m.
             let w = meets a b l m in
@@ -168,7 +168,7 @@ module _ (P : LatticePart) (t : ordered (P .size) (downOf P) (codeOf P) ≡ true
       }
 
   test-sound : DistributiveLattice P
-  test-sound = record { order = o; bounds = bounds; distributes = distributive-sound P o bounds (λ a b l m. let w = joins a b l m in (w .element, w .inside, w .code)) }
+  test-sound = record { order = o; meets-and-joins = meets-and-joins; distributes = distributive-sound P o meets-and-joins (λ a b l m. let w = joins a b l m in (w .element, w .inside, w .code)) }
 
 -- ---- and every distributive lattice passes
 
@@ -189,15 +189,15 @@ module _ (P : LatticePart) (some : 0 < P .size) (D : DistributiveLattice P) wher
   pub test-complete : latticeTest P ≡ true
   unfolding closed pairClosed isWord
   test-complete =
-      let m = bounded-meets P (D .bounds) in
-      let v = top-is (reversed P) some (ordered-reversed P (D .order)) (bounded-reversed P (D .bounds)) in
+      let m = meetsAndJoins-meets P (D .meets-and-joins) in
+      let v = top-is (reversed P) some (ordered-reversed P (D .order)) (meetsAndJoins-reversed P (D .meets-and-joins)) in
       and-in _ _
       (and-in _ _
       (ordered-complete P (codeOf P) (code-order P (D .order) m) (code-distinct P (D .order) m))
       (all2-in (P .size) (pairClosed (P .size) (codeOf P) (irreducibles (P .size) (downOf P)) true) (λ a b l k. ⇒-in (within (2 ^ a) (irreducibles (P .size) (downOf P))) _ (λ t.
-      any-in (P .size) (λ c. eqb (codeOf P c) (bitOr (codeOf P a) (codeOf P b))) (joinOf P a b) (D .bounds .join-lt a b l k)
-      (eq-eqb _ _ (code-join P (D .order) (D .bounds) (D .distributes) a b l k))))))
-      (any-in (P .size) (λ c. eqb (codeOf P c) 0) (boundUpTo (joinOf (reversed P)) (P .size)) (v .inside) (eq-eqb _ _ (bottom-code _ v)))
+      any-in (P .size) (λ c. eqb (codeOf P c) (bitOr (codeOf P a) (codeOf P b))) (joinOf P a b) (D .meets-and-joins .join-lt a b l k)
+      (eq-eqb _ _ (code-join P (D .order) (D .meets-and-joins) (D .distributes) a b l k))))))
+      (any-in (P .size) (λ c. eqb (codeOf P c) 0) (foldUpTo (joinOf (reversed P)) (P .size)) (v .inside) (eq-eqb _ _ (bottom-code _ v)))
 
 pub lattice-sound : (P : LatticePart) → latticeTest P ≡ true → DistributiveLattice P
 lattice-sound P t =
@@ -206,14 +206,14 @@ lattice-sound P t =
     (and-r (ordered (P .size) (downOf P) (codeOf P) && closed (P .size) (codeOf P) (irreducibles (P .size) (downOf P)) true) _ t)
 
 -- Exactly the distributive lattices pass.
-pub lattice-exactly : (P : LatticePart) → 0 < P .size → latticeTest P ≡ (partialOrder (P .size) (P .order) && bounded P && distributive (P .size) (meetOf P) (joinOf P))
+pub lattice-exactly : (P : LatticePart) → 0 < P .size → latticeTest P ≡ (partialOrder (P .size) (P .order) && meetsAndJoins P && distributive (P .size) (meetOf P) (joinOf P))
 lattice-exactly P s =
     bool-same _ _
-    (λ t. let D = lattice-sound P t in and-in _ _ (and-in _ _ (ordered-in P (D .order)) (bounded-in P (D .bounds))) (D .distributes))
+    (λ t. let D = lattice-sound P t in and-in _ _ (and-in _ _ (ordered-in P (D .order)) (meetsAndJoins-in P (D .meets-and-joins))) (D .distributes))
     (λ t.
-    let u = and-l (partialOrder (P .size) (P .order) && bounded P) _ t in
+    let u = and-l (partialOrder (P .size) (P .order) && meetsAndJoins P) _ t in
     test-complete P s (record {
       order = ordered-out P (and-l (partialOrder (P .size) (P .order)) _ u);
-      bounds = bounded-out P (and-r (partialOrder (P .size) (P .order)) _ u);
-      distributes = and-r (partialOrder (P .size) (P .order) && bounded P) _ t;
+      meets-and-joins = meetsAndJoins-out P (and-r (partialOrder (P .size) (P .order)) _ u);
+      distributes = and-r (partialOrder (P .size) (P .order) && meetsAndJoins P) _ t;
     }))

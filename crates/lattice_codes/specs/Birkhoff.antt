@@ -15,15 +15,15 @@ use lib.Dec.{eqb}
 use Rattle.theory.specs.Part.{LatticePart, meetOf, joinOf}
 use Rattle.theory.specs.TestLaws.{decide, bool-same, and-l, and-r, and-in, false-true}
 use Rattle.order.specs.Tests.{distributive}
-use Rattle.order.specs.Bounds.{all3-at, all3-in}
+use Rattle.order.specs.Searched.{all3-at, all3-in}
 use Rattle.order.specs.DeMorgan.{reversed, MeetAt}
-use Rattle.order.specs.Ordered.{Ordered, Bounded, meet-at, join-at}
+use Rattle.order.specs.Ordered.{Ordered, MeetsJoinsFound, meet-at, join-at}
 use Rattle.elements.specs.Bits.{bits, bits-cong, bits-same, bits-and, bits-or, bits-less, bits-within-in, bits-within-out, without, without-in, without-l, without-r}
 use Rattle.elements.specs.Laws.{and-or, Within, within-refl, or-left, or-right, or-lub}
 use Rattle.elements.specs.Words.{within}
 use Rattle.lattice_codes.specs.Tests.{any-in, any-out, downOf, isWord, irreducible, codeOf}
 use Rattle.lattice_codes.specs.Order.{down-lt}
-use Rattle.lattice_codes.specs.Bounded.{Meets, meet-word, bounded-meets}
+use Rattle.lattice_codes.specs.MeetsJoinsFound.{Meets, meet-word, meetsAndJoins-meets}
 
 -- the irreducible elements at or below a
 abbrev pub below : LatticePart → ℕ → ℕ → Bool
@@ -117,9 +117,9 @@ module _ (P : LatticePart) (o : Ordered P) where
 
   -- ---- distributive, and every | of two codes is a code
 
-  module _ (w : Bounded P) where
+  module _ (w : MeetsJoinsFound P) where
     abbrev M : Meets P
-    M = bounded-meets P w
+    M = meetsAndJoins-meets P w
 
     abbrev met : ℕ → ℕ → ℕ
     met = meetOf P

@@ -1,4 +1,4 @@
--- The words of a distributive lattice hold its operations. Rests on theory's Part, order's Ordered and Bounds, elements' Words, Tests, Birkhoff,
+-- The words of a distributive lattice hold its operations. Rests on theory's Part, order's Ordered and Searched, elements' Words, Tests, Birkhoff,
 -- Accepting.
 --   CodesOf: 128 words hold the codes of the elements and of their complements
 --   held-ops: the operations read from them are the lattice's; held-coded: they are as `words` asks
@@ -17,20 +17,20 @@ use Rattle.theory.specs.Test.{allBelow, _⇒_}
 use Rattle.theory.specs.TestLaws.{all-cong, first-unique, and-in, and-l, and-r}
 use Rattle.elements.specs.declared.Lattice.{Lattice}
 use Rattle.order.specs.Tests.{all2, complementRules}
-use Rattle.order.specs.Bounds.{element-lt, element-id, element-cong, bot-reversed, TopAt, top-only, boundUpTo}
+use Rattle.order.specs.Searched.{element-lt, element-id, element-cong, bot-reversed, TopAt, top-only, foldUpTo}
 use Rattle.order.specs.DeMorgan.{reversed}
-use Rattle.order.specs.Ordered.{Formed, Ordered, Bounded, ordered-reversed, bounded-reversed, meet-at, top-is, top-found as join-of-all}
+use Rattle.order.specs.Ordered.{Formed, Ordered, MeetsJoinsFound, ordered-reversed, meetsAndJoins-reversed, meet-at, top-is, top-found as join-of-all}
 use Rattle.elements.specs.Bits.{bits-cong, bits-same, bits-and}
 use Rattle.elements.specs.Laws.{Within, and-assoc}
 use Rattle.elements.specs.Words.{codeIn, negatedCodeIn, decodeIn, within, atMostIn, meetIn, joinIn, complementIn, opsIn, Coded}
 use Rattle.lattice_codes.specs.Tests.{any-in, isWord, downOf, irreducible, irreducibles, codeOf}
-use Rattle.lattice_codes.specs.Bounded.{Meets, bounded-meets}
+use Rattle.lattice_codes.specs.MeetsJoinsFound.{Meets, meetsAndJoins-meets}
 use Rattle.lattice_codes.specs.Birkhoff.{below, code-bits, code-order, code-within, within-code, code-distinct, code-meet, code-join}
 use Rattle.lattice_codes.specs.Accepting.{DistributiveLattice, bottom-code}
 
 -- n, top and bottom of a part
-abbrev pub boundsOf : LatticePart → Lattice
-boundsOf P = record { size = P .size; top = record { 0 = topOf P }; bottom = record { 0 = botOf P } }
+abbrev pub topAndBottom : LatticePart → Lattice
+topAndBottom P = record { size = P .size; top = record { 0 = topOf P }; bottom = record { 0 = botOf P } }
 
 -- the words w hold the code of each element, and that of its complement; a number that is no element has those of element 0
 pub record CodesOf (P : LatticePart) (w : List ℕ) : Type 0 where
@@ -39,7 +39,7 @@ pub record CodesOf (P : LatticePart) (w : List ℕ) : Type 0 where
 
 module _ (P : LatticePart) (f : Formed P) (D : DistributiveLattice P) where
   abbrev M : Meets P
-  M = bounded-meets P (D .bounds)
+  M = meetsAndJoins-meets P (D .meets-and-joins)
 
   abbrev n : ℕ
   n = P .size
@@ -51,20 +51,20 @@ module _ (P : LatticePart) (f : Formed P) (D : DistributiveLattice P) where
   id a l = element-id n a (f .most) l
 
   meet-code : (a b : ℕ) → a < n → b < n → bitAnd (codeOf P a) (codeOf P b) ≡ codeOf P (meetOf P a b)
-  meet-code a b l m = sym (code-meet P (D .order) a b (meetOf P a b) l m (D .bounds .meet-lt a b l m) (meet-at P (D .bounds) a b l m))
+  meet-code a b l m = sym (code-meet P (D .order) a b (meetOf P a b) l m (D .meets-and-joins .meet-lt a b l m) (meet-at P (D .meets-and-joins) a b l m))
 
   join-code : (a b : ℕ) → a < n → b < n → bitOr (codeOf P a) (codeOf P b) ≡ codeOf P (joinOf P a b)
-  join-code a b l m = sym (code-join P (D .order) (D .bounds) (D .distributes) a b l m)
+  join-code a b l m = sym (code-join P (D .order) (D .meets-and-joins) (D .distributes) a b l m)
 
   -- ---- top and bottom
 
   top-at : TopAt P (topOf P)
-  top-at = rw (join-of-all P (f .some) (D .order) (D .bounds)) (top-is P (f .some) (D .order) (D .bounds))
+  top-at = rw (join-of-all P (f .some) (D .order) (D .meets-and-joins)) (top-is P (f .some) (D .order) (D .meets-and-joins))
 
   bot-at : TopAt (reversed P) (botOf P)
   bot-at =
-      rw (bot-reversed P, join-of-all (reversed P) (f .some) (ordered-reversed P (D .order)) (bounded-reversed P (D .bounds)))
-      (top-is (reversed P) (f .some) (ordered-reversed P (D .order)) (bounded-reversed P (D .bounds)))
+      rw (bot-reversed P, join-of-all (reversed P) (f .some) (ordered-reversed P (D .order)) (meetsAndJoins-reversed P (D .meets-and-joins)))
+      (top-is (reversed P) (f .some) (ordered-reversed P (D .order)) (meetsAndJoins-reversed P (D .meets-and-joins)))
 
   -- the code of the top has every irreducible element, and that of the bottom none
   top-code : (m : ℕ) → TopAt P m → codeOf P m ≡ irreducibles n (downOf P)
@@ -73,8 +73,8 @@ module _ (P : LatticePart) (f : Formed P) (D : DistributiveLattice P) where
   pub top-is-word : isWord n (codeOf P) (irreducibles n (downOf P)) ≡ true
   unfolding isWord
   top-is-word =
-      let v = top-is P (f .some) (D .order) (D .bounds) in
-      any-in n (λ c. eqb (codeOf P c) (irreducibles n (downOf P))) (boundUpTo (joinOf P) n) (v .inside) (eq-eqb _ _ (top-code _ v))
+      let v = top-is P (f .some) (D .order) (D .meets-and-joins) in
+      any-in n (λ c. eqb (codeOf P c) (irreducibles n (downOf P))) (foldUpTo (joinOf P) n) (v .inside) (eq-eqb _ _ (top-code _ v))
 
   pub top-found : (m : ℕ) → m < n → codeOf P m ≡ irreducibles n (downOf P) → topOf P ≡ m
   top-found m l e =
@@ -119,10 +119,10 @@ module _ (P : LatticePart) (f : Formed P) (D : DistributiveLattice P) where
         }))
 
     held-meet : (a b : ℕ) → meetIn w a b ≡ meetOf P (element n a) (element n b)
-    held-meet a b = found _ _ (D .bounds .meet-lt _ _ (lt a) (lt b)) (ap₂ bitAnd (word-is a) (word-is b) ∙ meet-code _ _ (lt a) (lt b))
+    held-meet a b = found _ _ (D .meets-and-joins .meet-lt _ _ (lt a) (lt b)) (ap₂ bitAnd (word-is a) (word-is b) ∙ meet-code _ _ (lt a) (lt b))
 
     held-join : (a b : ℕ) → joinIn w a b ≡ joinOf P (element n a) (element n b)
-    held-join a b = found _ _ (D .bounds .join-lt _ _ (lt a) (lt b)) (ap₂ bitOr (word-is a) (word-is b) ∙ join-code _ _ (lt a) (lt b))
+    held-join a b = found _ _ (D .meets-and-joins .join-lt _ _ (lt a) (lt b)) (ap₂ bitOr (word-is a) (word-is b) ∙ join-code _ _ (lt a) (lt b))
 
     held-neg : (a : ℕ) → complementIn w a ≡ P .complement (element n a)
     held-neg a = found _ _ (f .inside _ (lt a)) (negated-is a)
@@ -131,7 +131,7 @@ module _ (P : LatticePart) (f : Formed P) (D : DistributiveLattice P) where
     held-order a b = ap₂ within (word-is a) (word-is b) ∙ sym (code-order P (D .order) M _ _ (lt a) (lt b))
 
     -- The operations read from the words are those of the part.
-    pub held-ops : opsIn w (boundsOf P) ≡ opsOf P
+    pub held-ops : opsIn w (topAndBottom P) ≡ opsOf P
     held-ops =
         λ i.
         record {
@@ -145,17 +145,17 @@ module _ (P : LatticePart) (f : Formed P) (D : DistributiveLattice P) where
           bot = botOf P;
         }
 
-    pub held-coded : Coded w (boundsOf P)
+    pub held-coded : Coded w (topAndBottom P)
     held-coded =
         record {
           some = f .some;
           most = f .most;
           distinct = λ a b l m e. code-distinct P (D .order) M a b l m (sym (at-element a l) ∙ e ∙ at-element b m);
           meets = λ a b l m.
-              let k = D .bounds .meet-lt a b l m in
+              let k = D .meets-and-joins .meet-lt a b l m in
               record { element = meetOf P a b; below = k; code = ap₂ bitAnd (at-element a l) (at-element b m) ∙ meet-code a b l m ∙ sym (at-element _ k) };
           joins = λ a b l m.
-              let k = D .bounds .join-lt a b l m in
+              let k = D .meets-and-joins .join-lt a b l m in
               record { element = joinOf P a b; below = k; code = ap₂ bitOr (at-element a l) (at-element b m) ∙ join-code a b l m ∙ sym (at-element _ k) };
           padded = λ a l. h .codes a l ∙ sym (at-element _ (lt a));
           negated = λ a l.

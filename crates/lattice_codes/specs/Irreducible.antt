@@ -1,4 +1,4 @@
--- The elements whose bits stand in the codes are exactly the join-irreducible ones. Rests on theory's Irreducible, order's Ordered and Bounds,
+-- The elements whose bits stand in the codes are exactly the join-irreducible ones. Rests on theory's Irreducible, order's Ordered and Searched,
 -- elements' Bits, Tests, Birkhoff.
 --   irreducible-exactly: the test on the words is theory's definition
 use Prim.Native.Nat.{ℕ, zero, suc, _≤_, _<_}
@@ -11,18 +11,18 @@ use borrow.Author.Tests.{ltb-true, lt-ltb}
 use Rattle.theory.specs.Irreducible.{JoinIrreducible}
 use Rattle.theory.specs.Part.{LatticePart, joinOf, botOf, element, opsOf}
 use Rattle.theory.specs.TestLaws.{below-suc, bool-same, false-true}
-use Rattle.order.specs.Bounds.{element-id, bot-reversed, TopAt}
+use Rattle.order.specs.Searched.{element-id, bot-reversed, TopAt}
 use Rattle.order.specs.DeMorgan.{reversed, MeetAt}
-use Rattle.order.specs.Ordered.{Formed, Ordered, Bounded, ordered-reversed, bounded-reversed, join-at, top-is, top-found}
+use Rattle.order.specs.Ordered.{Formed, Ordered, MeetsJoinsFound, ordered-reversed, meetsAndJoins-reversed, join-at, top-is, top-found}
 use Rattle.elements.specs.Bits.{without, without-in, without-l, without-r}
 use Rattle.lattice_codes.specs.Tests.{downOf, irreducible}
 use Rattle.lattice_codes.specs.Birkhoff.{Irreducible, irreducible-in, irreducible-out}
 
-module _ (P : LatticePart) (f : Formed P) (o : Ordered P) (w : Bounded P) where
+module _ (P : LatticePart) (f : Formed P) (o : Ordered P) (w : MeetsJoinsFound P) where
   bot-at : TopAt (reversed P) (botOf P)
   bot-at =
-      rw (bot-reversed P, top-found (reversed P) (f .some) (ordered-reversed P o) (bounded-reversed P w))
-      (top-is (reversed P) (f .some) (ordered-reversed P o) (bounded-reversed P w))
+      rw (bot-reversed P, top-found (reversed P) (f .some) (ordered-reversed P o) (meetsAndJoins-reversed P w))
+      (top-is (reversed P) (f .some) (ordered-reversed P o) (meetsAndJoins-reversed P w))
 
   -- the join of the operations, of two elements
   join-is : (a b : ℕ) → a < P .size → b < P .size → opsOf P .join a b ≡ joinOf P a b

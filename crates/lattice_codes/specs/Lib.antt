@@ -5,7 +5,7 @@ pub mod Tests
 -- a partial order, by the words of the elements at or below each
 pub mod Order
 -- meets and joins, by the same words
-pub mod Bounded
+pub mod MeetsJoinsFound
 -- codes say the order; distributive exactly where the | of two codes is a code
 pub mod Birkhoff
 -- the elements with a bit are the join-irreducible ones

@@ -14,7 +14,7 @@ use Rattle.theory.specs.Part.{LatticePart}
 use Rattle.theory.specs.Test.{_⇒_}
 use Rattle.theory.specs.TestLaws.{bool-same, and-l, and-r, and-in, ⇒-elim, ⇒-in}
 use Rattle.order.specs.Tests.{partialOrder}
-use Rattle.order.specs.Bounds.{all2-at, all2-in}
+use Rattle.order.specs.Searched.{all2-at, all2-in}
 use Rattle.order.specs.Ordered.{Ordered, ordered-in, ordered-out}
 use Rattle.elements.specs.Bits.{bits, bits-same, bits-within-in, bits-within-out, bits-at}
 use Rattle.elements.specs.Laws.{Within, within-refl, within-trans, within-antisym}

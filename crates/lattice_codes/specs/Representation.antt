@@ -16,7 +16,7 @@ use Rattle.order.specs.Ordered.{Formed, meet-at}
 use Rattle.elements.specs.Bits.{bits, bits-at}
 use Rattle.elements.specs.Words.{within}
 use Rattle.lattice_codes.specs.Tests.{ordered, closed, isWord, downOf, irreducible, irreducibles, codeOf, latticeTest}
-use Rattle.lattice_codes.specs.Bounded.{bounded-meets}
+use Rattle.lattice_codes.specs.MeetsJoinsFound.{meetsAndJoins-meets}
 use Rattle.lattice_codes.specs.Birkhoff.{below, code-bits, code-order, code-distinct, code-meet, code-join}
 use Rattle.lattice_codes.specs.Irreducible.{irreducible-exactly}
 use Rattle.lattice_codes.specs.Accepting.{DistributiveLattice, CodeAt, DownSet, set-code, test-complete}
@@ -40,7 +40,7 @@ module _ (P : LatticePart) (f : Formed P) (D : DistributiveLattice P) where
   tested = ordered (P .size) (downOf P) (codeOf P) && closed (P .size) (codeOf P) (irreducibles (P .size) (downOf P)) true
 
   pub code-unique : (a b : ℕ) → a < P .size → b < P .size → codeOf P a ≡ codeOf P b → a ≡ b
-  code-unique = code-distinct P (D .order) (bounded-meets P (D .bounds))
+  code-unique = code-distinct P (D .order) (meetsAndJoins-meets P (D .meets-and-joins))
 
   pub birkhoff : Represented P
   birkhoff =
@@ -48,11 +48,11 @@ module _ (P : LatticePart) (f : Formed P) (D : DistributiveLattice P) where
       let u = and-l tested _ t in
       record {
         bit = λ a e l. (
-          λ t. let s = sym (bit-is a e l) ∙ t in (irreducible-exactly P f (D .order) (D .bounds) e l .0 (and-r (P .order e a) _ s), and-l (P .order e a) _ s),
-          λ j. bit-is a e l ∙ and-in _ _ (j .1) (irreducible-exactly P f (D .order) (D .bounds) e l .1 (j .0)),
+          λ t. let s = sym (bit-is a e l) ∙ t in (irreducible-exactly P f (D .order) (D .meets-and-joins) e l .0 (and-r (P .order e a) _ s), and-l (P .order e a) _ s),
+          λ j. bit-is a e l ∙ and-in _ _ (j .1) (irreducible-exactly P f (D .order) (D .meets-and-joins) e l .1 (j .0)),
         );
-        order = code-order P (D .order) (bounded-meets P (D .bounds));
-        meet = λ a b l m. code-meet P (D .order) a b (meetOf P a b) l m (D .bounds .meet-lt a b l m) (meet-at P (D .bounds) a b l m);
-        join = code-join P (D .order) (D .bounds) (D .distributes);
+        order = code-order P (D .order) (meetsAndJoins-meets P (D .meets-and-joins));
+        meet = λ a b l m. code-meet P (D .order) a b (meetOf P a b) l m (D .meets-and-joins .meet-lt a b l m) (meet-at P (D .meets-and-joins) a b l m);
+        join = code-join P (D .order) (D .meets-and-joins) (D .distributes);
         every = set-code P (and-l (ordered (P .size) (downOf P) (codeOf P)) _ u) (and-r (ordered (P .size) (downOf P) (codeOf P)) _ u) (and-r tested _ t);
       }

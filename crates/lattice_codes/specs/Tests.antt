@@ -4,7 +4,7 @@
 --   FoundAt, found-here, found-none: where a word stands
 --   ordered: the order is that of words; closed: each & or each | of two words is a word; pairOrdered, pairClosed: the same of two elements
 --   irreducible, irreducibles, codeOf: the elements that are no joins, their word, and the code of an element
---   latticeTest: what an accepted part passes; boundedTest: refusal 6 does not apply
+--   latticeTest: what an accepted part passes; meetsAndJoinsTest: refusal 6 does not apply
 use Prim.Native.Nat.{ℕ, _-_, _^_, _≤_, _<_}
 use mathlib.Core.Path.{_≡_, refl, sym, ap, ap₂, _∙_}
 use mathlib.Core.Bool.{Bool, true, false, cond, not, Bool·beq, _&&_}
@@ -19,7 +19,7 @@ use Rattle.theory.specs.Part.{LatticePart}
 use Rattle.theory.specs.Test.{allBelow, firstBelow, _⇒_}
 use Rattle.theory.specs.TestLaws.{first-is, not-passed, false-true, all-in, all-cong}
 use Rattle.order.specs.Tests.{all2}
-use Rattle.order.specs.Bounds.{first-some}
+use Rattle.order.specs.Searched.{first-some}
 use Rattle.order.specs.Agree.{first-cong}
 use Rattle.elements.specs.Bits.{bits}
 use Rattle.elements.specs.Words.{within}
@@ -192,8 +192,8 @@ latticeTest P =
     && isWord (P .size) (codeOf P) 0
 
 -- where it fails: a partial order, and in it all meets and a top
-abbrev pub boundedTest : LatticePart → Bool
-boundedTest P = closed (P .size) (downOf P) (allOf (P .size)) false && isWord (P .size) (downOf P) (allOf (P .size))
+abbrev pub meetsAndJoinsTest : LatticePart → Bool
+meetsAndJoinsTest P = closed (P .size) (downOf P) (allOf (P .size)) false && isWord (P .size) (downOf P) (allOf (P .size))
 
 -- the test of an irreducible element, x being its word without its bit
 pub irreducible-found : (w : List ℕ) (n a k x y r : ℕ) → x ≡ getD w a 0 → k ≡ 2 ^ a → y ≡ x - k → FoundAt w n y r → ltb r n ≡ irreducible n (wordsIn w) a

@@ -1,5 +1,5 @@
 -- What the code of the listing knows of an accepted case. Rests on Text, Writing, Settling, Settled, Most and casefile's Caller.
---   InCase: formula f and model m of a case; model-over, valuable, whole-is: they can be valued, and the whole value found is that of its content
+--   InCase: formula f and model m of a case; model-over, formula-on-model, whole-is: they can be valued, and the whole value found is that of its content
 --   FormulaFits, FormulasFit: there is room for the line of a formula, and for all; formulas-fit, formulas-are, formulas-room: where it comes from
 --   Settleable, settleable: the models of the case can be settled, with room for the text; settled-part: what is then written
 --   all-written, lists, lists-refused: what is written is the text of the case
@@ -24,7 +24,7 @@ use Rattle.casefile.specs.Directory.{partAt}
 use Rattle.casefile.specs.Reading.{Content, refused, content, caseReading}
 use Rattle.casefile.specs.Caller.{AcceptedCase}
 use Rattle.valuer.specs.Values.{ModelOver, WholeValue}
-use Rattle.desk.specs.CaseParts.{Valuable, model-part, model-valued, formula-part, parts-valuable}
+use Rattle.desk.specs.CaseParts.{FormulaOnModel, model-part, model-valued, formula-part, parts-formula-on-model}
 use Rattle.desk.specs.Refused.{isModel}
 use Rattle.desk.specs.Case.{ops, model1, model2, modelIn, formulaIn, roundIn}
 use Rattle.listing.specs.Text.{each, formulaLine, formulasText, tableText, refusedText, settledRound, acceptedText, listingText, Lists}
@@ -52,8 +52,8 @@ module _ {b : List ℕ} {z : Sizes} {w : List ℕ} {f m : ℕ} (h : InCase b z w
   pub model-over : ModelOver w (z .lattice) (partAt b m)
   model-over = record { coded = h .case .coded; shape = model-part (h .case) m (h .model) .shape; valued = model-valued (h .case) m (h .model) }
 
-  pub valuable : Valuable b f m
-  valuable = parts-valuable (h .case) f m (h .formula) (h .model)
+  pub formula-on-model : FormulaOnModel b f m
+  formula-on-model = parts-formula-on-model (h .case) f m (h .formula) (h .model)
 
   pub whole-is : (x : ℕ) → WholeValue w (z .lattice) (partAt b m) (partAt b (3 + f)) x → (c : Content) → caseReading b ≡ content c → x ≡ wholeValue (ops c) (modelIn c m) (formulaIn c f)
   whole-is x v c e = rw (← content-unique b held c (h .case .reads) e) (rw (model-part (h .case) m (h .model) .is, h .case .ops) at (v .is (formulaIn held f) (formula-part (h .case) f m (h .formula) (h .model))))

@@ -24,7 +24,7 @@ use Rattle.desk.specs.RefusedLaws.{open-accepted}
 use Rattle.desk.specs.Listed.{opening-T}
 use Rattle.desk.specs.Demand3.{Claim}
 use Rattle.desk.specs.Demand3Holds.{listed, ranges, whole-next, score-next}
-use Rattle.listing.specs.Text.{roundsWord, scoreWord, lastItem, each, rowsText, tableText, formulaText, formulaLine, formulasText, acceptedText, listingText}
+use Rattle.listing.specs.Text.{roundsLabel, scoreLabel, lastItem, each, rowsText, tableText, formulaText, formulaLine, formulasText, acceptedText, listingText}
 use Rattle.listing.specs.Writing.{each-cong}
 use Rattle.listing.specs.Entries.{rows-cong}
 use Rattle.listing.specs.Settled.{listing-is}
@@ -40,7 +40,7 @@ pub record Answers (c : Content) (d : Desk) (T : ℕ) (table : List ℕ) (e : �
 -- the text of such answers
 abbrev pub textOfAnswers : Content → ℕ → List ℕ → ℕ → (ℕ → ℕ) → (ℕ → ℕ) → List ℕ
 textOfAnswers c T table e v₁ v₂ =
-    lastItem roundsWord T ++ rowsText (tableOf table (N2 c)) (N1 c) (N2 c) ++ lastItem scoreWord e ++ each (length (c .formulas)) (λ f. formulaText f (v₁ f) (v₂ f))
+    lastItem roundsLabel T ++ rowsText (tableOf table (N2 c)) (N1 c) (N2 c) ++ lastItem scoreLabel e ++ each (length (c .formulas)) (λ f. formulaText f (v₁ f) (v₂ f))
 
 -- ---- the proof
 
@@ -86,7 +86,7 @@ module _ (c : Content) (T : ℕ) (answers : List Reply) (d : Desk) (w : Claim c 
       let pt : tableBytes c S ≡ table = same-shown _ _ _ show-T (a .show) in
       let pe : score (ops c) (model1 c) (model2 c) S ≡ e = same-element _ _ _ score-T (a .score) in
       ap₂ _++_
-      (ap₂ (λ (x : List ℕ) (y : List ℕ). x ++ y) (ap₂ (λ (x : ℕ) (y : List ℕ). lastItem roundsWord x ++ y) pr (rows-cong (ops c) (model1 c) (model2 c) S (tableOf table (N2 c)) (λ q₁ l q₂ m. sym (bytes-table c S q₁ l q₂ m) ∙ ap (λ (x : List ℕ). tableOf x (N2 c) q₁ q₂) pt))) (ap (lastItem scoreWord) pe))
+      (ap₂ (λ (x : List ℕ) (y : List ℕ). x ++ y) (ap₂ (λ (x : ℕ) (y : List ℕ). lastItem roundsLabel x ++ y) pr (rows-cong (ops c) (model1 c) (model2 c) S (tableOf table (N2 c)) (λ q₁ l q₂ m. sym (bytes-table c S q₁ l q₂ m) ∙ ap (λ (x : List ℕ). tableOf x (N2 c) q₁ q₂) pt))) (ap (lastItem scoreLabel) pe))
       (each-cong (length (c .formulas)) _ _ (λ f l. ap₂ (formulaText f) (same-element _ _ _ (whole-1 f l) (a .whole1 f l)) (same-element _ _ _ (whole-2 f l) (a .whole2 f l))))
 
 -- for every list of calls from any desk with an accepted opening in it, after which the desk is settled: it has such answers, with T the first

@@ -49,7 +49,7 @@ module _ (b : List ℕ) (c : Content) (e : caseReading b ≡ content c) (T : ℕ
   unfolding wholeValue
   whole-by m f l u a =
       let p = formula-part (model1 c .propositions) _ (formulaIn c f) (sound .formulas .each f l) in
-      bigMeet-cong (ops c) (modelIn c m .states) _ _ (λ q k. ap (imp (ops c) (modelIn c m .initial q)) (value-of c sound m (formulaIn c f) (p .bound) (p .props) u a q k))
+      bigMeet-cong (ops c) (modelIn c m .states) _ _ (λ q k. ap (imp (ops c) (modelIn c m .initial q)) (value-of c sound m (formulaIn c f) (p .is-closed) (p .props) u a q k))
 
   pub listed : (G : ℕ → ℕ → ℕ) → GreatestSimulation (ops c) (model1 c) (model2 c) G
       → (u₁ u₂ : Formula → (ℕ → ℕ → ℕ) → ℕ → ℕ) → Calculus (ops c) (model1 c) u₁ → Calculus (ops c) (model2 c) u₂

@@ -14,7 +14,7 @@ use Rattle.casefile.specs.Reading.{Content, content, caseReading}
 use Rattle.casefile.specs.Content.{ContentSound, content-sound, parts-are}
 use Rattle.casefile.specs.Placed.{accepted-placed}
 use Rattle.desk.specs.Case.{ops, model1, model2, modelIn, formulaIn, N1, N2, roundIn, IsT}
-use Rattle.listing.specs.Text.{blank, colon, lineEnd, rowWord, roundsWord, scoreWord, formulaWord, item, lastItem, heading, entriesText, rowText, rowsText, tableText, formulaText, formulaLine, formulasText, acceptedText}
+use Rattle.listing.specs.Text.{blank, colon, lineEnd, rowLabel, roundsLabel, scoreLabel, formulaLabel, item, lastItem, heading, entriesText, rowText, rowsText, tableText, formulaText, formulaLine, formulasText, acceptedText}
 use Rattle.listing.specs.Decimal.{decimal-one, decimal-two, decimal-four}
 use Rattle.listing.specs.Writing.{each-length}
 
@@ -24,9 +24,9 @@ unfolding rowText
 row-most S n₂ q₁ a b h =
     omega (
       arith,
-      length-append (heading rowWord q₁ ++ entriesText (S q₁) n₂) lineEnd,
-      length-append (heading rowWord q₁) (entriesText (S q₁) n₂),
-      length-append (item rowWord q₁) colon,
+      length-append (heading rowLabel q₁ ++ entriesText (S q₁) n₂) lineEnd,
+      length-append (heading rowLabel q₁) (entriesText (S q₁) n₂),
+      length-append (item rowLabel q₁) colon,
       decimal-two q₁ (omega arith),
       each-length n₂ 3 (λ q. item blank (S q₁ q)) (λ q l. omega (arith, decimal-two (S q₁ q) (h q l))),
     )
@@ -36,9 +36,9 @@ unfolding formulaText
 formula-most f v₁ v₂ a b d =
     omega (
       arith,
-      length-append (heading formulaWord f ++ item blank v₁) (lastItem blank v₂),
-      length-append (heading formulaWord f) (item blank v₁),
-      length-append (item formulaWord f) colon,
+      length-append (heading formulaLabel f ++ item blank v₁) (lastItem blank v₂),
+      length-append (heading formulaLabel f) (item blank v₁),
+      length-append (item formulaLabel f) colon,
       length-append (item blank v₂) lineEnd,
       decimal-one f a,
       decimal-two v₁ b,
@@ -70,10 +70,10 @@ module _ (b : List ℕ) (c : Content) (e : caseReading b ≡ content c) where
       let S = roundIn c T in
       omega (
         arith,
-        length-append (lastItem roundsWord T ++ rowsText S (N1 c) (N2 c)) (lastItem scoreWord (score (ops c) (model1 c) (model2 c) S)),
-        length-append (lastItem roundsWord T) (rowsText S (N1 c) (N2 c)),
-        length-append (item roundsWord T) lineEnd,
-        length-append (item scoreWord (score (ops c) (model1 c) (model2 c) S)) lineEnd,
+        length-append (lastItem roundsLabel T ++ rowsText S (N1 c) (N2 c)) (lastItem scoreLabel (score (ops c) (model1 c) (model2 c) S)),
+        length-append (lastItem roundsLabel T) (rowsText S (N1 c) (N2 c)),
+        length-append (item roundsLabel T) lineEnd,
+        length-append (item scoreLabel (score (ops c) (model1 c) (model2 c) S)) lineEnd,
         decimal-four T (omega (arith, T-sharp (sound .laws) (model1 c) (model2 c) T t, sound .entries-most)),
         decimal-two (score (ops c) (model1 c) (model2 c) S) (score-few S),
         each-length (N1 c) 200 (rowText S (N2 c)) (λ q l. row-most S (N2 c) q (sound .shape2 .states-most) (omega (arith, l, sound .shape1 .states-most)) (λ r m. entry-few T q r)),

@@ -1,6 +1,6 @@
 -- The text that the program report prints for a case, in document 01's words. Rests on refusal's Number, casefile's Reading and desk's Case.
---   decimal, by decimalWithin: a number's digits; roundsWord, rowWord, scoreWord, formulaWord, refusedWord, blank, colon, lineEnd: the words
---   item, lastItem, heading: a word with a number; each: f 0, f 1, .. one after the other
+--   decimal, by decimalWithin: a number's digits; roundsLabel, rowLabel, scoreLabel, formulaLabel, refusedLabel, blank, colon, lineEnd: the labels
+--   item, lastItem, heading: a label with a number; each: f 0, f 1, .. one after the other
 --   refusedText, tableText, formulasText, acceptedText: the parts of the text; entriesText, rowText, rowsText: a table's rows
 --   formulaText, formulaLine: the line of a formula; settledRound: T
 --   listingText, by textOf: the text of a case
@@ -23,7 +23,7 @@ use Rattle.casefile.specs.Reading.{Content, CaseReading, refused, content, case
 use Rattle.rounds.specs.Table.{simulationTest}
 use Rattle.desk.specs.Case.{ops, model1, model2, modelIn, formulaIn, operator, roundIn, limit}
 
--- ---- numbers and words, as bytes
+-- ---- numbers and labels, as bytes
 
 -- the decimal digits of n, where k is above n: the digit 0 is the byte 48
 unfoldable pub decimalWithin : ℕ → ℕ → List ℕ
@@ -36,20 +36,20 @@ unfolding decimalWithin
 decimal n = decimalWithin (suc n) n
 
 -- 'rounds ', 'row ', 'score ', 'formula ' and 'refused ', each with the blank after it
-abbrev pub roundsWord : List ℕ
-roundsWord = 114 ∷ 111 ∷ 117 ∷ 110 ∷ 100 ∷ 115 ∷ 32 ∷ []
+abbrev pub roundsLabel : List ℕ
+roundsLabel = 114 ∷ 111 ∷ 117 ∷ 110 ∷ 100 ∷ 115 ∷ 32 ∷ []
 
-abbrev pub rowWord : List ℕ
-rowWord = 114 ∷ 111 ∷ 119 ∷ 32 ∷ []
+abbrev pub rowLabel : List ℕ
+rowLabel = 114 ∷ 111 ∷ 119 ∷ 32 ∷ []
 
-abbrev pub scoreWord : List ℕ
-scoreWord = 115 ∷ 99 ∷ 111 ∷ 114 ∷ 101 ∷ 32 ∷ []
+abbrev pub scoreLabel : List ℕ
+scoreLabel = 115 ∷ 99 ∷ 111 ∷ 114 ∷ 101 ∷ 32 ∷ []
 
-abbrev pub formulaWord : List ℕ
-formulaWord = 102 ∷ 111 ∷ 114 ∷ 109 ∷ 117 ∷ 108 ∷ 97 ∷ 32 ∷ []
+abbrev pub formulaLabel : List ℕ
+formulaLabel = 102 ∷ 111 ∷ 114 ∷ 109 ∷ 117 ∷ 108 ∷ 97 ∷ 32 ∷ []
 
-abbrev pub refusedWord : List ℕ
-refusedWord = 114 ∷ 101 ∷ 102 ∷ 117 ∷ 115 ∷ 101 ∷ 100 ∷ 32 ∷ []
+abbrev pub refusedLabel : List ℕ
+refusedLabel = 114 ∷ 101 ∷ 102 ∷ 117 ∷ 115 ∷ 101 ∷ 100 ∷ 32 ∷ []
 
 -- a blank, a colon, and the line feed that ends a line
 abbrev pub blank : List ℕ
@@ -61,7 +61,7 @@ colon = 58 ∷ []
 abbrev pub lineEnd : List ℕ
 lineEnd = 10 ∷ []
 
--- a word and a number after it; these at a line's end; these with a colon
+-- a label and a number after it; these at a line's end; these with a colon
 abbrev pub item : List ℕ → ℕ → List ℕ
 item w n = w ++ decimal n
 
@@ -80,7 +80,7 @@ each (suc n) f = each n f ++ f n
 
 -- 'A refused case prints one line: refused, number, part'
 unfoldable pub refusedText : Refusal → List ℕ
-refusedText f = item refusedWord (numberOf f) ++ lastItem blank (partOf f)
+refusedText f = item refusedLabel (numberOf f) ++ lastItem blank (partOf f)
 
 -- ---- an accepted case
 
@@ -90,18 +90,18 @@ entriesText g n = each n (λ q. item blank (g q))
 
 -- 'a line for each q1 with its entries, a blank between'
 unfoldable pub rowText : (ℕ → ℕ → ℕ) → ℕ → ℕ → List ℕ
-rowText S n₂ q₁ = heading rowWord q₁ ++ entriesText (S q₁) n₂ ++ lineEnd
+rowText S n₂ q₁ = heading rowLabel q₁ ++ entriesText (S q₁) n₂ ++ lineEnd
 
 abbrev pub rowsText : (ℕ → ℕ → ℕ) → ℕ → ℕ → List ℕ
 rowsText S n₁ n₂ = each n₁ (rowText S n₂)
 
 -- the number of the last round, the table S, and its score
 unfoldable pub tableText : Ops ℕ → Model ℕ → Model ℕ → ℕ → (ℕ → ℕ → ℕ) → List ℕ
-tableText O M₁ M₂ T S = lastItem roundsWord T ++ rowsText S (M₁ .states) (M₂ .states) ++ lastItem scoreWord (score O M₁ M₂ S)
+tableText O M₁ M₂ T S = lastItem roundsLabel T ++ rowsText S (M₁ .states) (M₂ .states) ++ lastItem scoreLabel (score O M₁ M₂ S)
 
 -- formula f, with its values v₁ and v₂ on models 1 and 2
 unfoldable pub formulaText : ℕ → ℕ → ℕ → List ℕ
-formulaText f v₁ v₂ = heading formulaWord f ++ item blank v₁ ++ lastItem blank v₂
+formulaText f v₁ v₂ = heading formulaLabel f ++ item blank v₁ ++ lastItem blank v₂
 
 -- 'a line for each formula with its number and whole value on models 1 and 2'
 unfoldable pub formulaLine : Content → ℕ → List ℕ

@@ -2,7 +2,7 @@
 --   Wrote: bytes are written at a place; wrote-nothing, wrote-first, wrote-byte, wrote-copy, wrote-then: none, one, one more, a copy, more after them
 --   wrote-length, wrote-within, fits-first, fits-then: the lengths, and room for two writings
 --   each-none, each-more, each-cong, each-length: f 0, f 1, .. one after the other
---   each-starts, each-room, each-turn, each-done, each-kept: a loop that writes these: begin, room for a turn, turn, end, the buffer's length
+--   each-starts, each-room, each-turn, each-done, each-buffer-length: a loop that writes these: begin, room for a turn, turn, end, the buffer's length
 --   few-room, few-written, more-room, more-written: a number's digits, below 10 and from 10 on
 use Prim.Native.Nat.{ℕ, zero, suc, _+_, _*_, _/_, _%_, _≤_, _<_}
 use mathlib.Core.Path.{_≡_, refl, sym, ap, ap₂, _∙_}
@@ -124,8 +124,8 @@ module _ (d : List ℕ) (at n : ℕ) (f : ℕ → List ℕ) (fits : at + length 
   pub each-done : (i : ℕ) (e : List ℕ) (next : ℕ) → i ≤ n → n ≤ i → Wrote d at (each i f) e next → Wrote d at (each n f) e next
   each-done i e next l m w = let q : i ≡ n = omega arith in rw q at w
 
-  pub each-kept : (i : ℕ) (e : List ℕ) (next : ℕ) → i ≤ n → Wrote d at (each i f) e next → length e ≡ length d
-  each-kept i e next l w = go (ltb i n) refl
+  pub each-buffer-length : (i : ℕ) (e : List ℕ) (next : ℕ) → i ≤ n → Wrote d at (each i f) e next → length e ≡ length d
+  each-buffer-length i e next l w = go (ltb i n) refl
     where
       go : (b : Bool) → ltb i n ≡ b → length e ≡ length d
       go true q = wrote-length w (omega (arith, each-most n i f (ltb-true i n q)))

@@ -102,7 +102,7 @@ fn put_accepted(case: &[u8], w: &Codes, z: Sizes, text: &mut [u8]) -> usize
     put_formulas(case, w, z, text, at)
 }
 
-// Writes what `report` prints for a case at the start of the text, and says how many bytes it has. The bytes after it are kept.
+// Writes what `report` prints for a case at the start of the text, and says how many bytes it has. The bytes after it are unchanged.
 pub fn listing(case: &[u8], text: &mut [u8; 16384]) -> usize
     ensures { λ r. ⌜ Lists (now (case .entry)) (now (text .entry)) (now (text .exit)) r ⌝ }
 {

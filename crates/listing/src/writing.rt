@@ -38,30 +38,30 @@ fn put_number(n: usize, text: &mut [u8], at: usize) -> usize
     next + 1
 }
 
-// A word and a number.
-pub fn put_item(word: &[u8], n: usize, text: &mut [u8], at: usize) -> usize
-    requires { ⌜ at + length (item (now word) n) ≤ length (now text) ⌝ }
-    ensures { λ r. ⌜ Wrote (now (text .entry)) at (item (now (word .entry)) n) (now (text .exit)) r ⌝ }
+// A label and a number.
+pub fn put_item(label: &[u8], n: usize, text: &mut [u8], at: usize) -> usize
+    requires { ⌜ at + length (item (now label) n) ≤ length (now text) ⌝ }
+    ensures { λ r. ⌜ Wrote (now (text .entry)) at (item (now (label .entry)) n) (now (text .exit)) r ⌝ }
 {
-    let next = put(word, text, at);
+    let next = put(label, text, at);
     put_number(n, text, next)
 }
 
-// A word and a number at the end of a line.
-pub fn put_last(word: &[u8], n: usize, text: &mut [u8], at: usize) -> usize
-    requires { ⌜ at + length (lastItem (now word) n) ≤ length (now text) ⌝ }
-    ensures { λ r. ⌜ Wrote (now (text .entry)) at (lastItem (now (word .entry)) n) (now (text .exit)) r ⌝ }
+// A label and a number at the end of a line.
+pub fn put_last(label: &[u8], n: usize, text: &mut [u8], at: usize) -> usize
+    requires { ⌜ at + length (lastItem (now label) n) ≤ length (now text) ⌝ }
+    ensures { λ r. ⌜ Wrote (now (text .entry)) at (lastItem (now (label .entry)) n) (now (text .exit)) r ⌝ }
 {
-    let next = put_item(word, n, text, at);
+    let next = put_item(label, n, text, at);
     put(b"\n", text, next)
 }
 
-// A word, a number and a colon.
-pub fn put_heading(word: &[u8], n: usize, text: &mut [u8], at: usize) -> usize
-    requires { ⌜ at + length (heading (now word) n) ≤ length (now text) ⌝ }
-    ensures { λ r. ⌜ Wrote (now (text .entry)) at (heading (now (word .entry)) n) (now (text .exit)) r ⌝ }
+// A label, a number and a colon.
+pub fn put_heading(label: &[u8], n: usize, text: &mut [u8], at: usize) -> usize
+    requires { ⌜ at + length (heading (now label) n) ≤ length (now text) ⌝ }
+    ensures { λ r. ⌜ Wrote (now (text .entry)) at (heading (now (label .entry)) n) (now (text .exit)) r ⌝ }
 {
-    let next = put_item(word, n, text, at);
+    let next = put_item(label, n, text, at);
     put(b":", text, next)
 }
 

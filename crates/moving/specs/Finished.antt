@@ -52,7 +52,7 @@ module _ {d : Desk} {z : Sizes} {w : List ℕ} (h : HeldDesk d z w) where
   afterRest e = record { reply = stepAnswer (e .standing); desk = e; lent = [] }
 
   held-rest : (e : Desk) → d .standing .settled ≡ false → ended (h .case .holds) d ≡ e → Finishes d (stepAnswer (e .standing)) e
-  held-rest e u p = rest-finished (h .case .holds) d (h .kept) u ∙ ap afterRest p
+  held-rest e u p = rest-finished (h .case .holds) d (h .unspoiled) u ∙ ap afterRest p
 
   -- the rows are worked and the standing is moved on
   module _ (out : List ℕ) (differs : Bool) (next : Standing) (x : Reply) (u : d .standing .settled ≡ false) (n : next ≡ roundBy differs (d .standing)) (r : x ≡ stepAnswer (roundBy differs (d .standing))) where

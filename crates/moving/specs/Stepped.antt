@@ -73,7 +73,7 @@ module _ {d : Desk} {z : Sizes} {w : List ℕ} (h : HeldDesk d z w) where
             rw (h .case .parts .model1, h .case .parts .model2)
             (record { first = h .case .sound .shape1; second = h .case .sound .shape2; same-propositions = h .case .sound .same-propositions; held = omega (arith, few) });
         room = rw (h .case .parts .model1, h .case .parts .model2) (omega (arith, few));
-        row-below = rw (h .case .parts .model1) (h .kept .rules .row-below);
+        row-below = rw (h .case .parts .model1) (h .unspoiled .rules .row-below);
       }
 
   -- an unsettled desk's next round fits
@@ -81,14 +81,14 @@ module _ {d : Desk} {z : Sizes} {w : List ℕ} (h : HeldDesk d z w) where
   round-fits u =
       omega (
         arith,
-        h .kept .rules .unsettled-most u,
+        h .unspoiled .rules .unsettled-most u,
         prod-le (tableSize (h .case .holds)) (latticeSize (h .case .holds) - 1) 4096 64
             (h .case .sound .entries-most)
             (omega (arith, h .case .sound .elements-most)),
       )
 
   pub row-within : d .standing .row < d .standing .states1
-  row-within = rw (h .kept .rules .size1) (h .kept .rules .row-below)
+  row-within = rw (h .unspoiled .rules .size1) (h .unspoiled .rules .row-below)
 
   abbrev afterStep : Desk → After
   afterStep e = record { reply = stepAnswer (e .standing); desk = e; lent = [] }
@@ -98,14 +98,14 @@ module _ {d : Desk} {z : Sizes} {w : List ℕ} (h : HeldDesk d z w) where
 
   held-step : (e : Desk) → stepped (h .case .holds) d ≡ e → Does Call.Step d (stepAnswer (e .standing)) e
   unfolding answer moved lentAfter
-  held-step e p = perform-accepted Call.Step d (h .case .holds) (in-store Call.Step d (h .case .holds) refl (h .kept)) ∙ ap afterStep p
+  held-step e p = perform-accepted Call.Step d (h .case .holds) (in-store Call.Step d (h .case .holds) refl (h .unspoiled)) ∙ ap afterStep p
 
   pub settled-step : d .standing .settled ≡ true → Does Call.Step d (Reply.Settled (d .standing .round)) d
   unfolding stepped
   settled-step u = held-step d (ap (λ (b : Bool). cond b d (worked (h .case .holds) d)) u) ∙ ap unmoved (settled-answer (d .standing) u)
 
   standing-moved : (differs : Bool) → differs ≡ rowChanged (model1 (h .case .holds)) (model2 (h .case .holds)) (operator (h .case .holds)) (shownTable (h .case .holds) d) (d .standing .row) → movedOn (N1 (h .case .holds)) (changedNow (h .case .holds) d) (d .standing) ≡ movedBy differs (d .standing)
-  standing-moved differs e = rw (e, h .kept .rules .size1)
+  standing-moved differs e = rw (e, h .unspoiled .rules .size1)
 
   -- the row, in the desk's terms
   out-is : (out whole other : List ℕ) → out ≡ caseRow w (z .lattice) bytes whole (d .standing .row) other → out ≡ rowWritten (model1 (h .case .holds)) (model2 (h .case .holds)) (operator (h .case .holds)) (tableOf whole (N2 (h .case .holds))) (d .standing .row) other

@@ -1,4 +1,4 @@
--- Parts that agree on their elements have the same meets, joins, bounds and operations. Rests on theory's Part and Test, Bounds, DeMorgan.
+-- Parts that agree on their elements have the same meets, joins, top, bottom and operations. Rests on theory's Part and Test, Searched, DeMorgan.
 --   SameOrder: the same elements in the same order; same-reversed
 --   meet-same-order, join-same-order, top-same-order, bot-same-order: the same meets, joins, top and bottom; ops-cong: the same operations
 --   meet-comm, join-comm: the order of the two elements does not matter; by-number: the lesser number may be taken first
@@ -13,7 +13,7 @@ use lib.Dec.{ltb, leb}
 use Rattle.theory.specs.Part.{LatticePart, isMeet, meetOf, joinOf, topOf, botOf, element, opsOf}
 use Rattle.theory.specs.Test.{allBelow, firstBelow, _⇒_}
 use Rattle.theory.specs.TestLaws.{bool-same, all-cong}
-use Rattle.order.specs.Bounds.{element-lt, join-reversed, bot-reversed, meet-in, meet-out}
+use Rattle.order.specs.Searched.{element-lt, join-reversed, bot-reversed, meet-in, meet-out}
 use Rattle.order.specs.DeMorgan.{reversed, MeetAt}
 
 pub first-cong : (n : ℕ) (f g : ℕ → Bool) → ((i : ℕ) → i < n → f i ≡ g i) → firstBelow n f ≡ firstBelow n g

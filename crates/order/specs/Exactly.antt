@@ -1,6 +1,6 @@
--- The parts that pass every test are exactly the distributive De Morgan lattices. Rests on theory's Lattice, Tests, Bounds, DeMorgan, Ordered,
+-- The parts that pass every test are exactly the distributive De Morgan lattices. Rests on theory's Lattice, Tests, Searched, DeMorgan, Ordered,
 -- Sound.
---   lattice-ordered, lattice-bounded, lattice-distributive, lattice-complements: such a lattice passes each test
+--   lattice-ordered, lattice-meetsAndJoins, lattice-distributive, lattice-complements: such a lattice passes each test
 --   sound-lattice: what passes is one
 --   SameLattice, ops-lattice: a part whose order and complement are those of operations that obey the laws is one
 use Prim.Native.Nat.{ℕ, _<_}
@@ -12,9 +12,9 @@ use Rattle.theory.specs.TestLaws.{and-in, ⇒-in, all-in}
 use Rattle.theory.specs.Lattice.{Ops, Laws}
 use Rattle.theory.specs.Part.{LatticePart, meetOf, joinOf}
 use Rattle.order.specs.Tests.{distributive, complementRules}
-use Rattle.order.specs.Bounds.{all2-in, all3-in, join-reversed, meet-some, meet-unique}
+use Rattle.order.specs.Searched.{all2-in, all3-in, join-reversed, meet-some, meet-unique}
 use Rattle.order.specs.DeMorgan.{reversed, MeetAt, DeMorganLattice}
-use Rattle.order.specs.Ordered.{Ordered, Bounded, ordered-reversed, meet-at, join-at}
+use Rattle.order.specs.Ordered.{Ordered, MeetsJoinsFound, ordered-reversed, meet-at, join-at}
 use Rattle.order.specs.Sound.{LatticeSound, id, dist-same, neg-same, neg-order}
 
 -- ---- a distributive De Morgan lattice passes
@@ -23,8 +23,8 @@ module _ (P : LatticePart) (D : DeMorganLattice P) where
   pub lattice-ordered : Ordered P
   lattice-ordered = record { rfl = D .rfl; anti = record { same = D .antisym }; trans = D .trans }
 
-  pub lattice-bounded : Bounded P
-  lattice-bounded =
+  pub lattice-meetsAndJoins : MeetsJoinsFound P
+  lattice-meetsAndJoins =
       record {
         meet-lt = λ a b l m. meet-some P a b _ (D .meet-lt a b l m) (D .meet-is a b l m);
         join-lt = λ a b l m. rw join-reversed (meet-some (reversed P) a b _ (D .join-lt a b l m) (D .join-is a b l m));
@@ -32,12 +32,12 @@ module _ (P : LatticePart) (D : DeMorganLattice P) where
 
   same-meet : (a b : ℕ) → a < P .size → b < P .size → meetOf P a b ≡ D .meet a b
   same-meet a b l m =
-      meet-unique P a b _ _ (lattice-ordered .anti) (D .meet-lt a b l m) (lattice-bounded .meet-lt a b l m) (D .meet-is a b l m) (meet-at P lattice-bounded a b l m)
+      meet-unique P a b _ _ (lattice-ordered .anti) (D .meet-lt a b l m) (lattice-meetsAndJoins .meet-lt a b l m) (D .meet-is a b l m) (meet-at P lattice-meetsAndJoins a b l m)
 
   same-join : (a b : ℕ) → a < P .size → b < P .size → joinOf P a b ≡ D .join a b
   same-join a b l m =
-      meet-unique (reversed P) a b _ _ (ordered-reversed P lattice-ordered .anti) (D .join-lt a b l m) (lattice-bounded .join-lt a b l m) (D .join-is a b l m)
-      (join-at P lattice-bounded a b l m)
+      meet-unique (reversed P) a b _ _ (ordered-reversed P lattice-ordered .anti) (D .join-lt a b l m) (lattice-meetsAndJoins .join-lt a b l m) (D .join-is a b l m)
+      (join-at P lattice-meetsAndJoins a b l m)
 
   pub lattice-distributive : distributive (P .size) (meetOf P) (joinOf P) ≡ true
   unfolding distributive
@@ -65,11 +65,11 @@ sound-lattice P s =
       antisym = s .ordered .anti .same;
       trans = s .ordered .trans;
       meet = meetOf P;
-      meet-lt = s .bounds .meet-lt;
-      meet-is = meet-at P (s .bounds);
+      meet-lt = s .meets-and-joins .meet-lt;
+      meet-is = meet-at P (s .meets-and-joins);
       join = joinOf P;
-      join-lt = s .bounds .join-lt;
-      join-is = join-at P (s .bounds);
+      join-lt = s .meets-and-joins .join-lt;
+      join-is = join-at P (s .meets-and-joins);
       dist = λ a b c l m k. rw (id P s a l, id P s b m, id P s c k) at (dist-same P s a b c);
       complement-lt = s .formed .inside;
       involution = λ a l. rw (id P s a l) at (neg-same P s a);

@@ -1,4 +1,4 @@
--- The operations of a part that passes every test obey the laws of a distributive De Morgan lattice. Rests on theory's Lattice, Tests, Bounds,
+-- The operations of a part that passes every test obey the laws of a distributive De Morgan lattice. Rests on theory's Lattice, Tests, Searched,
 -- DeMorgan, Ordered.
 --   LatticeSound: a part to which none of the refusals applies
 --   lawsOf: its operations obey the laws
@@ -15,15 +15,15 @@ use Rattle.theory.specs.Descent.{all-map}
 use Rattle.theory.specs.Height.{distinct-le}
 use Rattle.theory.specs.Part.{LatticePart, meetOf, joinOf, topOf, botOf, element, opsOf}
 use Rattle.order.specs.Tests.{distributive, complementRules}
-use Rattle.order.specs.Bounds.{element-lt, element-id, all2-at, all3-at, bot-reversed, TopAt}
+use Rattle.order.specs.Searched.{element-lt, element-id, all2-at, all3-at, bot-reversed, TopAt}
 use Rattle.order.specs.DeMorgan.{reversed, MeetAt}
-use Rattle.order.specs.Ordered.{Formed, Ordered, Bounded, ordered-reversed, bounded-reversed, meet-at, join-at, top-is, top-found}
+use Rattle.order.specs.Ordered.{Formed, Ordered, MeetsJoinsFound, ordered-reversed, meetsAndJoins-reversed, meet-at, join-at, top-is, top-found}
 
 -- a part to which none of the refusals applies
 pub record LatticeSound (P : LatticePart) : Type 0 where
   pub formed : Formed P
   pub ordered : Ordered P
-  pub bounds : Bounded P
+  pub meets-and-joins : MeetsJoinsFound P
   pub distributes : distributive (P .size) (meetOf P) (joinOf P) ≡ true
   pub complements : complementRules (P .size) (P .order) (P .complement) ≡ true
 
@@ -39,19 +39,19 @@ module _ (P : LatticePart) (s : LatticeSound P) where
   id a l = element-id (P .size) a (s .formed .most) l
 
   meet-e : (a b : ℕ) → e (meetOf P (e a) (e b)) ≡ meetOf P (e a) (e b)
-  meet-e a b = id _ (s .bounds .meet-lt _ _ (lt a) (lt b))
+  meet-e a b = id _ (s .meets-and-joins .meet-lt _ _ (lt a) (lt b))
 
   join-e : (a b : ℕ) → e (joinOf P (e a) (e b)) ≡ joinOf P (e a) (e b)
-  join-e a b = id _ (s .bounds .join-lt _ _ (lt a) (lt b))
+  join-e a b = id _ (s .meets-and-joins .join-lt _ _ (lt a) (lt b))
 
   neg-e : (a : ℕ) → e (P .complement (e a)) ≡ P .complement (e a)
   neg-e a = id _ (s .formed .inside _ (lt a))
 
   meets : (a b : ℕ) → MeetAt P (e a) (e b) (meetOf P (e a) (e b))
-  meets a b = meet-at P (s .bounds) (e a) (e b) (lt a) (lt b)
+  meets a b = meet-at P (s .meets-and-joins) (e a) (e b) (lt a) (lt b)
 
   joins : (a b : ℕ) → MeetAt (reversed P) (e a) (e b) (joinOf P (e a) (e b))
-  joins a b = join-at P (s .bounds) (e a) (e b) (lt a) (lt b)
+  joins a b = join-at P (s .meets-and-joins) (e a) (e b) (lt a) (lt b)
 
   pub dist-same : (a b c : ℕ) → meetOf P (e a) (joinOf P (e b) (e c)) ≡ joinOf P (meetOf P (e a) (e b)) (meetOf P (e a) (e c))
   unfolding distributive
@@ -66,12 +66,12 @@ module _ (P : LatticePart) (s : LatticeSound P) where
   neg-order a b p = ⇒-elim (P .order (e a) (e b)) _ (all2-at (P .size) _ (and-r (allBelow (P .size) (λ a. eqb (P .complement (P .complement a)) a)) _ (s .complements)) (e a) (e b) (lt a) (lt b)) p
 
   top-at : TopAt P (topOf P)
-  top-at = rw (top-found P (s .formed .some) (s .ordered) (s .bounds)) (top-is P (s .formed .some) (s .ordered) (s .bounds))
+  top-at = rw (top-found P (s .formed .some) (s .ordered) (s .meets-and-joins)) (top-is P (s .formed .some) (s .ordered) (s .meets-and-joins))
 
   bot-at : TopAt (reversed P) (botOf P)
   bot-at =
-      rw (bot-reversed P, top-found (reversed P) (s .formed .some) (ordered-reversed P (s .ordered)) (bounded-reversed P (s .bounds)))
-      (top-is (reversed P) (s .formed .some) (ordered-reversed P (s .ordered)) (bounded-reversed P (s .bounds)))
+      rw (bot-reversed P, top-found (reversed P) (s .formed .some) (ordered-reversed P (s .ordered)) (meetsAndJoins-reversed P (s .meets-and-joins)))
+      (top-is (reversed P) (s .formed .some) (ordered-reversed P (s .ordered)) (meetsAndJoins-reversed P (s .meets-and-joins)))
 
   pub lawsOf : Laws (opsOf P)
   lawsOf =
@@ -94,8 +94,8 @@ module _ (P : LatticePart) (s : LatticeSound P) where
         neg-out = λ a. rw (neg-e a, neg-same a) (rw (id (e a) (lt a)) (s .ordered .rfl (e a) (lt a)));
         top-max = λ a. rw (id _ (top-at .inside)) (top-at .above (e a) (lt a));
         bot-min = λ a. rw (id _ (bot-at .inside)) (bot-at .above (e a) (lt a));
-        meet-element = λ a b. lt-ltb _ _ (s .bounds .meet-lt _ _ (lt a) (lt b));
-        join-element = λ a b. lt-ltb _ _ (s .bounds .join-lt _ _ (lt a) (lt b));
+        meet-element = λ a b. lt-ltb _ _ (s .meets-and-joins .meet-lt _ _ (lt a) (lt b));
+        join-element = λ a b. lt-ltb _ _ (s .meets-and-joins .join-lt _ _ (lt a) (lt b));
         neg-element = λ a. lt-ltb _ _ (s .formed .inside _ (lt a));
         top-element = lt-ltb _ _ (top-at .inside);
         bot-element = lt-ltb _ _ (bot-at .inside);

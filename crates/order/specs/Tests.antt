@@ -1,7 +1,7 @@
 -- The tests of refusals 5 to 8, of an order and a complement on the numbers below n. Rests on theory's Part and Test.
 --   all2, all3: a test at every two, at every three numbers
 --   partialOrder: refusal 5 does not apply; reflexive, antisymmetric, transitive
---   bounded: refusal 6 does not apply; distributive: refusal 7; complementRules: refusal 8
+--   meetsAndJoins: refusal 6 does not apply; distributive: refusal 7; complementRules: refusal 8
 use Prim.Native.Nat.{ℕ}
 use mathlib.Core.Bool.{Bool, _&&_}
 use lib.Dec.{ltb, eqb}
@@ -32,8 +32,8 @@ partialOrder n le = reflexive n le && antisymmetric n le && transitive n le
 
 -- ---- refusal 6: 'a meet or join is missing'. 'Every two elements have a meet and a join.' n stands for none
 
-unfoldable pub bounded : LatticePart → Bool
-bounded P = all2 (P .size) (λ a b. ltb (meetOf P a b) (P .size) && ltb (joinOf P a b) (P .size))
+unfoldable pub meetsAndJoins : LatticePart → Bool
+meetsAndJoins P = all2 (P .size) (λ a b. ltb (meetOf P a b) (P .size) && ltb (joinOf P a b) (P .size))
 
 -- ---- refusal 7: 'not distributive'. 'Meet distributes over join.'
 

@@ -7,13 +7,13 @@ ghost use Rattle.io.specs.Counts.{Counts};
 
 // ---- printing
 
-pub fn say(word: &[u8]) {
-    io::write_all(STDOUT_FILENO, word);
+pub fn say(text: &[u8]) {
+    io::write_all(STDOUT_FILENO, text);
 }
 
-// A word and a number.
-pub fn item(word: &[u8], n: u64) {
-    say(word);
+// A label and a number.
+pub fn item(text: &[u8], n: u64) {
+    say(text);
     io::print_decimal(STDOUT_FILENO, n);
 }
 

@@ -30,9 +30,9 @@ fn three(part: &[u8]) -> Found
     }
 }
 
-fn say_one(yes: bool, word: &[u8], other: &[u8]) {
+fn say_one(yes: bool, text: &[u8], other: &[u8]) {
     if yes {
-        say(word);
+        say(text);
     } else {
         say(other);
     }

@@ -104,7 +104,7 @@ module _ {M₁ M₂ : Model ℕ} {G : (ℕ → ℕ → ℕ) → ℕ → ℕ → 
           some : (n : ℕ) → i < q * n → 0 < n
           some zero l = absurd (omega arith)
           some (suc n) l = omega arith
-      go i false e = let l = ltb-false i (q * M₂ .states) e in u .kept i l ∙ sym (v .kept i l)
+      go i false e = let l = ltb-false i (q * M₂ .states) e in u .others-unchanged i l ∙ sym (v .others-unchanged i l)
 
   pub round-rest : {before out : List ℕ} {changed : Bool} → RoundSoFar M₁ M₂ G S before (M₁ .states) out changed → M₁ .states * M₂ .states ≤ length before
       → (out ≡ rowsFrom M₁ M₂ G S (M₁ .states) 0 before) × (changed ≡ rowsChanged M₁ M₂ G S (M₁ .states) 0)

@@ -38,7 +38,7 @@ use Rattle.rounds.specs.Row.{not-and}
 -- in `out` the rows below q are those of F S, and every byte past them is that of `before`
 pub record Worked (M₁ M₂ : Model ℕ) (G : (ℕ → ℕ → ℕ) → ℕ → ℕ → ℕ) (S : ℕ → ℕ → ℕ) (before : List ℕ) (q : ℕ) (out : List ℕ) : Type 0 where
   pub rows : (q₁ : ℕ) → q₁ < q → (q₂ : ℕ) → q₂ < M₂ .states → tableOf out (M₂ .states) q₁ q₂ ≡ G S q₁ q₂
-  pub kept : (i : ℕ) → q * M₂ .states ≤ i → getD out i 0 ≡ getD before i 0
+  pub others-unchanged : (i : ℕ) → q * M₂ .states ≤ i → getD out i 0 ≡ getD before i 0
   pub same-length : length out ≡ length before
 
 not-false : (a : Bool) → not a ≡ false → a ≡ true
@@ -58,7 +58,7 @@ share-cong O n S U l h = ap (λ (c : ℕ). perCent c n) (count-cong n _ _ (λ i 
 
 module _ (M₁ M₂ : Model ℕ) (G : (ℕ → ℕ → ℕ) → ℕ → ℕ → ℕ) where
   pub worked-none : (S : ℕ → ℕ → ℕ) (out : List ℕ) → Worked M₁ M₂ G S out 0 out
-  worked-none S out = record { rows = λ q₁ l. absurd (not-suc-le-zero l); kept = λ i l. refl; same-length = refl }
+  worked-none S out = record { rows = λ q₁ l. absurd (not-suc-le-zero l); others-unchanged = λ i l. refl; same-length = refl }
 
   pub worked-more : (S : ℕ → ℕ → ℕ) (before : List ℕ) (q : ℕ) (out : List ℕ) → q < M₁ .states → M₁ .states * M₂ .states ≤ length before → Worked M₁ M₂ G S before q out → Worked M₁ M₂ G S before (q + 1) (rowWritten M₁ M₂ G S q out)
   worked-more S before q out l h w =
@@ -71,9 +71,9 @@ module _ (M₁ M₂ : Model ℕ) (G : (ℕ → ℕ → ℕ) → ℕ → ℕ → 
             (λ (p : q₁ ≡ q). rw p (written-at (q * M₂ .states) row out fits q₂ (omega (arith, n)) ∙ tab-at (G S q) (M₂ .states) q₂ m))
             (λ (p : q₁ < q). written-before (q * M₂ .states) row out fits (q₁ * M₂ .states + q₂) (omega (arith, row-le q₁ q (M₂ .states) p)) ∙ w .rows q₁ p q₂ m)
             (eq-or-lt-of-le (omega arith));
-        kept = λ i k.
+        others-unchanged = λ i k.
             let e : q * M₂ .states + M₂ .states ≤ i = rw (add-one, suc-mul) at k in
-            written-after (q * M₂ .states) row out fits i (omega (arith, n)) ∙ w .kept i (omega arith);
+            written-after (q * M₂ .states) row out fits i (omega (arith, n)) ∙ w .others-unchanged i (omega arith);
         same-length = written-length (q * M₂ .states) row out fits ∙ w .same-length;
       }
 
@@ -118,7 +118,7 @@ module _ (O : Ops ℕ) (M₁ M₂ : Model ℕ) (G : (ℕ → ℕ → ℕ) → �
   worked-cong cong S U before q out h w =
       record {
         rows = λ q₁ k q₂ m. w .rows q₁ k q₂ m ∙ cong _ _ h q₁ q₂;
-        kept = w .kept;
+        others-unchanged = w .others-unchanged;
         same-length = w .same-length;
       }
 

@@ -12,7 +12,7 @@ use Rattle.elements.specs.declared.Lattice.{Lattice}
 use Rattle.elements.specs.Words.{atMostIn, opsIn}
 use Rattle.rounds.specs.Table.{shareIn}
 
--- it is theory's share, whatever the lattice's size and bounds
+-- it is theory's share, whatever the lattice's size, top and bottom
 pub shareIn-is : (w : List ℕ) (l : Lattice) (e : ℕ) (s : List ℕ) (n : ℕ) → shareIn w e s n ≡ share (opsIn w l) n (λ i. getD s i 0) e
 unfolding shareIn share
 shareIn-is w l e s n = refl

@@ -15,7 +15,7 @@ use words::row_from;
 ghost use mathlib.Core.Path.{_≡_};
 ghost use Prim.Native.Nat.{_+_, _*_, _≤_, _<_};
 ghost use lib.ListN.{length, getD};
-ghost use Rattle.theory.specs.Simulation.{one};
+ghost use Rattle.theory.specs.Simulation.{indicator};
 ghost use Rattle.theory.specs.Lists.{Filled};
 ghost use Rattle.theory.specs.Loop.{Counted};
 ghost use Rattle.theory.specs.Part.{ModelShape};
@@ -168,7 +168,7 @@ pub fn score(w: &Codes, l: Lattice, m1: &[u8], m2: &[u8], s: &[u8]) -> Element
 // ---- share
 
 fn one_if(b: bool) -> usize
-    ensures { λ r. ⌜ r ≡ one b ⌝ }
+    ensures { λ r. ⌜ r ≡ indicator b ⌝ }
 {
     if b {
         return 1;

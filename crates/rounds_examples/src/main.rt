@@ -12,9 +12,9 @@ ghost use Rattle.rounds.specs.Table.{Shaped};
 
 // ---- printing
 
-// A word and a number on a line.
-fn say(word: &[u8], n: usize) {
-    printing::item(word, n as u64);
+// A label and a number on a line.
+fn say(text: &[u8], n: usize) {
+    printing::item(text, n as u64);
     printing::say(b"\n");
 }
 
@@ -117,10 +117,10 @@ fn last_examples() {
 // ---- share
 
 // The share of entries at or above 1, of a table of eight entries.
-fn share(word: &[u8], s: &[u8; 8]) {
+fn share(text: &[u8], s: &[u8; 8]) {
     let mut w = [0u64; 128];
     lattice::check(&L2, &mut w);
-    say(word, rounds::share(&w, Element(1), s, 8) as usize);
+    say(text, rounds::share(&w, Element(1), s, 8) as usize);
 }
 
 fn main() {

@@ -6,7 +6,7 @@ use mathlib.Core.Path.{_≡_}
 use mathlib.Core.Bool.{true}
 use Rattle.theory.specs.Lattice.{Ops}
 use Rattle.theory.specs.Model.{Model}
-use Rattle.theory.specs.Formula.{Formula, bottom, top, prop, negated, var, or, and, AX, EX, mu, nu, boundBy, overProps}
+use Rattle.theory.specs.Formula.{Formula, bottom, top, prop, negated, var, or, and, AX, EX, mu, nu, closedUnder, overProps}
 use Rattle.theory.specs.Value.{bind, allNext, someNext, ToElements, LeastFixpoint, GreatestFixpoint}
 
 module _ {A : Type 0} (O : Ops A) (M : Model A) where
@@ -27,5 +27,5 @@ module _ {A : Type 0} (O : Ops A) (M : Model A) where
     pub of-and : (f g : Formula) (e : ℕ → ℕ → A) (q : ℕ) → value (and f g) e q ≡ O .meet (value f e q) (value g e q)
     pub of-AX : (f : Formula) (e : ℕ → ℕ → A) (q : ℕ) → value (AX f) e q ≡ allNext O M (value f e) q
     pub of-EX : (f : Formula) (e : ℕ → ℕ → A) (q : ℕ) → value (EX f) e q ≡ someNext O M (value f e) q
-    pub of-mu : (d : ℕ) (f : Formula) → boundBy (suc d) f ≡ true → overProps (M .propositions) f ≡ true → (e : ℕ → ℕ → A) → Present d e → LeastFixpoint O M (λ y. value f (bind y e)) (value (mu f) e)
-    pub of-nu : (d : ℕ) (f : Formula) → boundBy (suc d) f ≡ true → overProps (M .propositions) f ≡ true → (e : ℕ → ℕ → A) → Present d e → GreatestFixpoint O M (λ y. value f (bind y e)) (value (nu f) e)
+    pub of-mu : (d : ℕ) (f : Formula) → closedUnder (suc d) f ≡ true → overProps (M .propositions) f ≡ true → (e : ℕ → ℕ → A) → Present d e → LeastFixpoint O M (λ y. value f (bind y e)) (value (mu f) e)
+    pub of-nu : (d : ℕ) (f : Formula) → closedUnder (suc d) f ≡ true → overProps (M .propositions) f ≡ true → (e : ℕ → ℕ → A) → Present d e → GreatestFixpoint O M (λ y. value f (bind y e)) (value (nu f) e)

@@ -16,7 +16,7 @@ use native.Mathlib.Nat.{le-refl, le-trans, mul-assoc}
 use native.Mathlib.Omega.{arith}
 use lib.ListN.{length, length-map}
 use Rattle.theory.specs.Lattice.{Ops, Laws, AtMost, Chain, All, Pairwise}
-use Rattle.theory.specs.Simulation.{one, count}
+use Rattle.theory.specs.Simulation.{indicator, count}
 use Rattle.theory.specs.TestLaws.{decide, false-true}
 use Rattle.theory.specs.Finite.{sum, sum-le, sum-mono, sum-strict, scan, First, first-exists, pairwise-map, all-image, pairwise-under}
 pub use Rattle.theory.specs.Finite.{all-map}
@@ -65,7 +65,7 @@ module _ {A : Type 0} (W : Preorder A) where
   had s zero = s 0 ∷ []
   had s (suc t) = extend (test (s t) (s (suc t))) (s (suc t)) (had s t)
 
-  extend-length : (b : Bool) (a : A) (l : List A) (n : ℕ) → length l ≡ suc n → length (extend b a l) ≡ suc (n + one (not b))
+  extend-length : (b : Bool) (a : A) (l : List A) (n : ℕ) → length l ≡ suc n → length (extend b a l) ≡ suc (n + indicator (not b))
   unfolding extend
   extend-length true a l n e = omega arith
   extend-length false a l n e = omega arith
@@ -114,7 +114,7 @@ module _ {A : Type 0} (W : Preorder A) where
     unfolding count
     lowered-more q r t w = go (test (s t q r) (s (suc t) q r)) w
       where
-        go : (b : Bool) → ¬ (b ≡ true) → lowered test (λ i. s i q r) t < lowered test (λ i. s i q r) t + one (not b)
+        go : (b : Bool) → ¬ (b ≡ true) → lowered test (λ i. s i q r) t < lowered test (λ i. s i q r) t + indicator (not b)
         go true w = absurd (w refl)
         go false w = omega arith
 

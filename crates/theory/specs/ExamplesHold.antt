@@ -1,8 +1,8 @@
--- Theorem 8: the definitions give the values of the worked examples, and example 2 meets the bound on T.
+-- Theorem 8: the definitions give the values of the worked examples, and example 2 meets the limit on T.
 -- Rests on Examples, Test, Descent, Height, Monotone.
 --   unchangedTest, settles-by-test: T by a test that is computed
 --   examples-hold: every worked example holds
---   bound-met: T is N1·N2·(h − 1) + 1 in example 2
+--   limit-met: T is N1·N2·(h − 1) + 1 in example 2
 use Prim.Native.Nat.{ℕ, zero, suc, _+_, _*_, _-_, _<_}
 use mathlib.Core.Path.{_≡_, refl}
 use mathlib.Core.Bool.{Bool, true, not, _&&_}
@@ -13,7 +13,7 @@ use borrow.Author.Tests.{ltb-true, lt-ltb, eqb-true, eq-eqb, not-true}
 use lib.Dec.{ltb, eqb, lit≤}
 use Rattle.theory.specs.Lattice.{Ops, All, LongestChain, imp, iff, bigMeet, bigJoin}
 use Rattle.theory.specs.Model.{Model}
-use Rattle.theory.specs.Formula.{prop, var, and, AX, boundBy, nestedAX}
+use Rattle.theory.specs.Formula.{prop, var, and, AX, closedUnder, nestedAX}
 use Rattle.theory.specs.Value.{eval, iterate, bind, valueAt, wholeValue, SameMap}
 use Rattle.theory.specs.Simulation.{F, round, SameTable, FirstUnchanged, roundOf, score, share}
 use Rattle.theory.specs.Part.{modelOf}
@@ -84,7 +84,7 @@ z-fixed (suc (suc zero)) l = refl
 z-fixed (suc (suc (suc q))) l = absurd (omega arith)
 
 value-z : (q : ℕ) → q < 3 → valueAt (partOps subsets) (modelOf reaches) always q ≡ z 2 q
-unfolding partOps valueAt eval boundBy
+unfolding partOps valueAt eval closedUnder
 value-z =
     iterate-stays (partOps subsets) (modelOf reaches) _
     (body-cong (partOps subsets) (modelOf reaches) 21 0 (and (prop 0) (AX (var 0))) refl (λ v q. 0))
@@ -115,6 +115,6 @@ L2-longest =
       longest = λ l c. distinct-le 2 l (all-map _ _ (λ a t. ltb-true _ _ t) l (c .elements)) (c .distinct);
     }
 
-pub bound-met : LongestChain (partOps L2) 2 × ExampleHolds (settlesAt L2 loop2 still2 (modelOf loop2 .states * modelOf still2 .states * steps 2 + 1))
+pub limit-met : LongestChain (partOps L2) 2 × ExampleHolds (settlesAt L2 loop2 still2 (modelOf loop2 .states * modelOf still2 .states * steps 2 + 1))
 unfolding partOps unchangedTest roundOf F bigMeet bigJoin imp
-bound-met = (L2-longest, settles-by-test _ _ _ _ refl refl)
+limit-met = (L2-longest, settles-by-test _ _ _ _ refl refl)

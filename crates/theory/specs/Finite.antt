@@ -56,7 +56,7 @@ pub record First (P : ℕ → Type 0) (t : ℕ) : Type 0 where
 
 -- there is a least number with P, where P cannot fail at all numbers up to B
 pub first-exists : (P : ℕ → Type 0) (B : ℕ) → ((t : ℕ) → P t ⊎ (¬ P t)) → ((t : ℕ) → ((j : ℕ) → j < t → ¬ P j) → t ≤ B) → (t : ℕ) × (t ≤ B) × First P t
-first-exists P B dec bound = go (find (suc B))
+first-exists P B dec limit = go (find (suc B))
   where
     Found : ℕ → Type 0
     Found d = ((j : ℕ) → j < d → ¬ P j) ⊎ ((t : ℕ) × (t < d) × First P t)
@@ -71,7 +71,7 @@ first-exists P B dec bound = go (find (suc B))
     find (suc d) = next d (find d) (dec d)
 
     go : Found (suc B) → (t : ℕ) × (t ≤ B) × First P t
-    go (inl a) = let l : suc B ≤ B = bound (suc B) a in absurd (omega arith)
+    go (inl a) = let l : suc B ≤ B = limit (suc B) a in absurd (omega arith)
     go (inr w) = (w .0, omega arith, w .2)
 
 -- ---- lists

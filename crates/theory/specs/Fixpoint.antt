@@ -14,7 +14,7 @@ use native.Mathlib.Omega.{arith}
 use borrow.Author.Tests.{ltb-true}
 use Rattle.theory.specs.Lattice.{Ops, Laws, Element}
 use Rattle.theory.specs.Model.{Model, Valued}
-use Rattle.theory.specs.Formula.{Formula, bottom, top, prop, negated, var, or, and, AX, EX, mu, nu, boundBy, overProps, closed}
+use Rattle.theory.specs.Formula.{Formula, bottom, top, prop, negated, var, or, and, AX, EX, mu, nu, closedUnder, overProps, closed}
 use Rattle.theory.specs.Value.{iterate, bind, allNext, someNext, eval, enough, valueAt, ToElements, SameMap, AtMostMap, LeastFixpoint, GreatestFixpoint}
 use Rattle.theory.specs.Calculus.{Present, Calculus}
 use Rattle.theory.specs.Folds.{meet-mono, join-mono, bigMeet-element, bigJoin-element}
@@ -92,8 +92,8 @@ module _ {A : Type 0} {O : Ops A} (L : Laws O) (M : Model A) where
     iterate-element g x h b zero q l = b q l
     iterate-element g x h b (suc t) q l = h _ (iterate-element g x h b t) q l
 
-    pub eval-element : (K d : ℕ) (φ : Formula) → boundBy d φ ≡ true → overProps (M .propositions) φ ≡ true → (e : ℕ → ℕ → A) → Present O M d e → (q : ℕ) → q < M .states → Element O (eval O M K φ e q)
-    unfolding eval boundBy overProps allNext someNext
+    pub eval-element : (K d : ℕ) (φ : Formula) → closedUnder d φ ≡ true → overProps (M .propositions) φ ≡ true → (e : ℕ → ℕ → A) → Present O M d e → (q : ℕ) → q < M .states → Element O (eval O M K φ e q)
+    unfolding eval closedUnder overProps allNext someNext
     eval-element K d bottom b o e h q l = L .bot-element
     eval-element K d top b o e h q l = L .top-element
     eval-element K d (prop p) b o e h q l = ok .label-element q l p (ltb-true _ _ o)
@@ -106,8 +106,8 @@ module _ {A : Type 0} {O : Ops A} (L : Laws O) (M : Model A) where
     eval-element K d (mu f) b o e h q l = iterate-element _ _ (λ y w. eval-element K (suc d) f b o _ (bind-element d e y w h)) (λ r m. L .bot-element) K q l
     eval-element K d (nu f) b o e h q l = iterate-element _ _ (λ y w. eval-element K (suc d) f b o _ (bind-element d e y w h)) (λ r m. L .top-element) K q l
 
-    module _ (d : ℕ) (f : Formula) (b : boundBy (suc d) f ≡ true) (o : overProps (M .propositions) f ≡ true) (e : ℕ → ℕ → A) (h : Present O M d e) (K : ℕ) (w : enough O M ≤ K) where
-      values : (φ : Formula) → boundBy d φ ≡ true → overProps (M .propositions) φ ≡ true → ToElements O M (eval O M K φ e)
+    module _ (d : ℕ) (f : Formula) (b : closedUnder (suc d) f ≡ true) (o : overProps (M .propositions) f ≡ true) (e : ℕ → ℕ → A) (h : Present O M d e) (K : ℕ) (w : enough O M ≤ K) where
+      values : (φ : Formula) → closedUnder d φ ≡ true → overProps (M .propositions) φ ≡ true → ToElements O M (eval O M K φ e)
       values φ c p = eval-element K d φ c p e h
 
       inside : (x : ℕ → A) → ToElements O M x → ToElements O M (body K f e x)
@@ -115,7 +115,7 @@ module _ {A : Type 0} {O : Ops A} (L : Laws O) (M : Model A) where
 
       -- the value of a least fixpoint; that it lies at or below every prefixed map, too, is mu-le
       pub least-fixpoint : LeastFixpoint O M (body K f e) (eval O M K (mu f) e)
-      unfolding boundBy overProps
+      unfolding closedUnder overProps
       least-fixpoint =
           record {
             elements = values (mu f) b o;
@@ -125,7 +125,7 @@ module _ {A : Type 0} {O : Ops A} (L : Laws O) (M : Model A) where
 
       -- and of a greatest; for postfixed maps: nu-ge
       pub greatest-fixpoint : GreatestFixpoint O M (body K f e) (eval O M K (nu f) e)
-      unfolding boundBy overProps
+      unfolding closedUnder overProps
       greatest-fixpoint =
           record {
             elements = values (nu f) b o;
@@ -152,12 +152,12 @@ module _ {A : Type 0} {O : Ops A} (L : Laws O) (M : Model A) where
         }
 
     -- the same value for every count that is enough
-    pub applications-same : (K J d : ℕ) → enough O M ≤ K → enough O M ≤ J → (φ : Formula) → boundBy d φ ≡ true → overProps (M .propositions) φ ≡ true → (e : ℕ → ℕ → A) → Present O M d e → (q : ℕ) → q < M .states → eval O M K φ e q ≡ eval O M J φ e q
+    pub applications-same : (K J d : ℕ) → enough O M ≤ K → enough O M ≤ J → (φ : Formula) → closedUnder d φ ≡ true → overProps (M .propositions) φ ≡ true → (e : ℕ → ℕ → A) → Present O M d e → (q : ℕ) → q < M .states → eval O M K φ e q ≡ eval O M J φ e q
     applications-same K J d u w φ b o e h q l =
         L .antisym (eval-element K d φ b o e h q l) (eval-element J d φ b o e h q l)
         (applications-le K J u w φ e e (λ v r m. L .rfl _) q l) (applications-le J K w u φ e e (λ v r m. L .rfl _) q l)
 
-    pub value-element : (φ : Formula) → boundBy 0 φ ≡ true → overProps (M .propositions) φ ≡ true → (q : ℕ) → q < M .states → Element O (valueAt O M φ q)
+    pub value-element : (φ : Formula) → closedUnder 0 φ ≡ true → overProps (M .propositions) φ ≡ true → (q : ℕ) → q < M .states → Element O (valueAt O M φ q)
     unfolding valueAt
     value-element φ b o = eval-element (enough O M) 0 φ b o _ (λ v l. absurd (not-suc-le-zero l))
 
@@ -177,8 +177,8 @@ module _ {A : Type 0} {O : Ops A} (L : Laws O) (M : Model A) where
           (b .greatest x (a .elements) (λ i j. sym (s x (a .elements) i j) ∙ a .fixed i j) q l)
           (a .greatest y (b .elements) (λ i j. s y (b .elements) i j ∙ b .fixed i j) q l)
 
-      pub calculus-unique : (d : ℕ) (φ : Formula) → boundBy d φ ≡ true → overProps (M .propositions) φ ≡ true → (e : ℕ → ℕ → A) → Present O M d e → SameMap O M (u φ e) (v φ e)
-      unfolding boundBy overProps
+      pub calculus-unique : (d : ℕ) (φ : Formula) → closedUnder d φ ≡ true → overProps (M .propositions) φ ≡ true → (e : ℕ → ℕ → A) → Present O M d e → SameMap O M (u φ e) (v φ e)
+      unfolding closedUnder overProps
       calculus-unique d bottom b o e h q l = one .of-bottom e q ∙ sym (two .of-bottom e q)
       calculus-unique d top b o e h q l = one .of-top e q ∙ sym (two .of-top e q)
       calculus-unique d (prop p) b o e h q l = one .of-prop p e q ∙ sym (two .of-prop p e q)
@@ -186,11 +186,11 @@ module _ {A : Type 0} {O : Ops A} (L : Laws O) (M : Model A) where
       calculus-unique d (var i) b o e h q l = one .of-var i e q ∙ sym (two .of-var i e q)
       calculus-unique d (or f g) b o e h q l =
           one .of-or f g e q
-          ∙ ap₂ (O .join) (calculus-unique d f (and-l _ (boundBy d g) b) (and-l _ (overProps (M .propositions) g) o) e h q l) (calculus-unique d g (and-r (boundBy d f) _ b) (and-r (overProps (M .propositions) f) _ o) e h q l)
+          ∙ ap₂ (O .join) (calculus-unique d f (and-l _ (closedUnder d g) b) (and-l _ (overProps (M .propositions) g) o) e h q l) (calculus-unique d g (and-r (closedUnder d f) _ b) (and-r (overProps (M .propositions) f) _ o) e h q l)
           ∙ sym (two .of-or f g e q)
       calculus-unique d (and f g) b o e h q l =
           one .of-and f g e q
-          ∙ ap₂ (O .meet) (calculus-unique d f (and-l _ (boundBy d g) b) (and-l _ (overProps (M .propositions) g) o) e h q l) (calculus-unique d g (and-r (boundBy d f) _ b) (and-r (overProps (M .propositions) f) _ o) e h q l)
+          ∙ ap₂ (O .meet) (calculus-unique d f (and-l _ (closedUnder d g) b) (and-l _ (overProps (M .propositions) g) o) e h q l) (calculus-unique d g (and-r (closedUnder d f) _ b) (and-r (overProps (M .propositions) f) _ o) e h q l)
           ∙ sym (two .of-and f g e q)
       calculus-unique d (AX f) b o e h q l = one .of-AX f e q ∙ allNext-cong O M _ _ (calculus-unique d f b o e h) q ∙ sym (two .of-AX f e q)
       calculus-unique d (EX f) b o e h q l = one .of-EX f e q ∙ someNext-cong O M _ _ (calculus-unique d f b o e h) q ∙ sym (two .of-EX f e q)

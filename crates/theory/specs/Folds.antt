@@ -163,7 +163,7 @@ module _ {A : Type 0} {O : Ops A} (L : Laws O) where
   unfolding imp
   imp-neg a b = join-lub (join-r _ _) (trans (neg-in b) (join-l _ _))
 
-  -- → is kept by meet and by join on both sides
+  -- → is preserved by meet and by join on both sides
   pub imp-meet : (a b c d : A) → imp O a b ⊓ imp O c d ⊑ imp O (a ⊓ c) (b ⊓ d)
   unfolding imp
   imp-meet a b c d = trans (meet-mono (join-mono (neg-anti (meet-l a c)) (rfl b)) (join-mono (neg-anti (meet-r a c)) (rfl d))) (dist-join _ _ _)

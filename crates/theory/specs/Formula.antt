@@ -1,6 +1,6 @@
 -- Formulas of the latticed mu-calculus, and the tests on them that the demands name. Rests on nothing.
 --   Formula: the eleven codes
---   boundBy, closed: no variable without its binder; universal: no EX; fixpointFree; overProps: the propositions are below k
+--   closedUnder, closed: no variable without its binder; universal: no EX; fixpointFree; overProps: the propositions are below k
 --   nestedAX, nestedBinders: the most AX, and the most binders, that stand one within another
 --   UniversalSentence: closed, universal and over the propositions below k
 use Prim.Native.Nat.{ℕ, suc, max}
@@ -17,22 +17,22 @@ pub data Formula : Type 0 where
   AX EX mu nu : Formula → Formula
 
 -- every variable is bound by one of d outer binders or by one of its own
-unfoldable pub boundBy : ℕ → Formula → Bool
-boundBy d bottom = true
-boundBy d top = true
-boundBy d (prop p) = true
-boundBy d (negated p) = true
-boundBy d (var v) = ltb v d
-boundBy d (or f g) = boundBy d f && boundBy d g
-boundBy d (and f g) = boundBy d f && boundBy d g
-boundBy d (AX f) = boundBy d f
-boundBy d (EX f) = boundBy d f
-boundBy d (mu f) = boundBy (suc d) f
-boundBy d (nu f) = boundBy (suc d) f
+unfoldable pub closedUnder : ℕ → Formula → Bool
+closedUnder d bottom = true
+closedUnder d top = true
+closedUnder d (prop p) = true
+closedUnder d (negated p) = true
+closedUnder d (var v) = ltb v d
+closedUnder d (or f g) = closedUnder d f && closedUnder d g
+closedUnder d (and f g) = closedUnder d f && closedUnder d g
+closedUnder d (AX f) = closedUnder d f
+closedUnder d (EX f) = closedUnder d f
+closedUnder d (mu f) = closedUnder (suc d) f
+closedUnder d (nu f) = closedUnder (suc d) f
 
 -- 'one whose variables are all bound is closed'
 abbrev pub closed : Formula → Bool
-closed f = boundBy 0 f
+closed f = closedUnder 0 f
 
 -- 'A formula without code 8 is universal'
 unfoldable pub universal : Formula → Bool

@@ -11,7 +11,7 @@ use borrow.Author.Tests.{ltb-true, eqb-true, eq-eqb, ne-eqb, eqb-false}
 use lib.Dec.{eqb, ltb}
 use lib.ListN.{length}
 use Rattle.theory.specs.Lattice.{Ops, AtMost, Element, All, Pairwise, Chain, LongestChain}
-use Rattle.theory.specs.Simulation.{one}
+use Rattle.theory.specs.Simulation.{indicator}
 use Rattle.theory.specs.TestLaws.{decide}
 use Rattle.theory.specs.Finite.{sum, sum-le, sum-strict, scan, all-map}
 
@@ -19,20 +19,20 @@ use Rattle.theory.specs.Finite.{sum, sum-le, sum-strict, scan, all-map}
 
 occurs : ℕ → List ℕ → ℕ
 occurs i [] = 0
-occurs i (a ∷ l) = one (eqb a i) + occurs i l
+occurs i (a ∷ l) = indicator (eqb a i) + occurs i l
 
 sum-add : (n : ℕ) (f g : ℕ → ℕ) → sum n (λ i. f i + g i) ≡ sum n f + sum n g
 unfolding sum
 sum-add zero f g = refl
 sum-add (suc n) f g = omega (arith, sum-add n f g)
 
-sum-one : (n a : ℕ) → a < n → 0 < sum n (λ i. one (eqb a i))
-sum-one n a l = le-trans (omega arith) (sum-strict n (λ i. 0) (λ i. one (eqb a i)) (λ i m. zero-le) a l (rw (eq-eqb a a refl) (le-refl _)))
+sum-indicator : (n a : ℕ) → a < n → 0 < sum n (λ i. indicator (eqb a i))
+sum-indicator n a l = le-trans (omega arith) (sum-strict n (λ i. 0) (λ i. indicator (eqb a i)) (λ i m. zero-le) a l (rw (eq-eqb a a refl) (le-refl _)))
 
 length-le : (n : ℕ) (l : List ℕ) → All (λ a. a < n) l → length l ≤ sum n (λ i. occurs i l)
 unfolding occurs
 length-le n [] h = zero-le
-length-le n (a ∷ l) h = omega (arith, sum-add n (λ i. one (eqb a i)) (λ i. occurs i l), sum-one n a (h .0), length-le n l (h .1))
+length-le n (a ∷ l) h = omega (arith, sum-add n (λ i. indicator (eqb a i)) (λ i. occurs i l), sum-indicator n a (h .0), length-le n l (h .1))
 
 occurs-none : (i : ℕ) (l : List ℕ) → All (λ b. i ≢ b) l → occurs i l ≡ 0
 unfolding occurs
@@ -44,7 +44,7 @@ unfolding occurs
 occurs-le i [] h = zero-le
 occurs-le i (a ∷ l) h = go (eqb a i) refl (occurs-le i l (h .1))
   where
-    go : (b : Bool) → eqb a i ≡ b → occurs i l ≤ 1 → one b + occurs i l ≤ 1
+    go : (b : Bool) → eqb a i ≡ b → occurs i l ≤ 1 → indicator b + occurs i l ≤ 1
     go true e w = omega (arith, occurs-none i l (rw (← eqb-true a i e) (h .0)))
     go false e w = omega arith
 
@@ -121,7 +121,7 @@ module _ (O : Ops ℕ) (numbers : (a : ℕ) → O .isElement a ≡ ltb a (O .siz
       go (inl p) (inr q) r = inr (λ c. q (c .distinct))
       go (inl p) (inl q) (inr r) = inr (λ c. r (c .ordered))
 
-  -- from a bound d on the chains down to the least bound
+  -- from a limit d on the chains down to the least limit
   longest-from : (d : ℕ) → ((l : List ℕ) → Chain O l → length l ≤ d) → (h : ℕ) × (h ≤ d) × LongestChain O h
   longest-from zero most = (0, le-refl _, record { chain = []; isChain = record { elements = tt; distinct = tt; ordered = tt }; isLong = refl; longest = most })
   longest-from (suc d) most = go (find (O .size) (suc d) (Chain O) chain?) (longest-from d)

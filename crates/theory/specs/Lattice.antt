@@ -12,7 +12,7 @@ use mathlib.Core.List.{List, [], _∷_}
 use lib.ListN.{length}
 
 -- What a lattice on the values A computes with. `isElement` says which values are elements; the operations read any other
--- value as one of them, so that they need no bound on what they are given.
+-- value as one of them, so that they need no limit on what they are given.
 pub record Ops (A : Type 0) : Type 0 where
   -- n, the number of elements
   pub size : ℕ

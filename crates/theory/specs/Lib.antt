@@ -6,7 +6,7 @@ pub mod Formula  -- formulas of the latticed mu-calculus, and the tests on them 
 pub mod Value  -- the value of a formula at a state and on a whole model
 pub mod Calculus  -- the latticed mu-calculus, with no count of applications
 pub mod Simulation  -- the simulation operator F, its rounds, T, score and share
-pub mod Test  -- tests over the numbers below a bound
+pub mod Test  -- tests over the numbers below a limit
 pub mod Lists  -- lists by their rule, and bytes written at a place of a list
 pub mod Part  -- the lattice and the model of a part's bytes
 pub mod Examples  -- the worked examples of document 01, as statements

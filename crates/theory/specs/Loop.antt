@@ -19,7 +19,7 @@ use native.Mathlib.Omega.{arith}
 use lib.ListN.{length, getD, set}
 use lib.Seq.{ext-getD, getD-set-same, getD-set-other}
 use Rattle.theory.specs.Lattice.{Ops, bigMeet, bigJoin}
-use Rattle.theory.specs.Simulation.{one, count}
+use Rattle.theory.specs.Simulation.{indicator, count}
 use Rattle.theory.specs.Test.{allBelow}
 use Rattle.theory.specs.TestLaws.{all-none, all-more, all-fails, all-done}
 use Rattle.theory.specs.Lists.{tab, Filled}
@@ -47,7 +47,7 @@ pub count-none : (f : ℕ → Bool) → count 0 f ≡ 0
 unfolding count
 count-none f = refl
 
-pub count-more : (n : ℕ) (f : ℕ → Bool) → count (n + 1) f ≡ count n f + one (f n)
+pub count-more : (n : ℕ) (f : ℕ → Bool) → count (n + 1) f ≡ count n f + indicator (f n)
 unfolding count
 count-more n f = rw add-one
 
@@ -110,13 +110,13 @@ pub record Counted (f : ℕ → Bool) (n c : ℕ) : Type 0 where
 pub counted-none : {f : ℕ → Bool} → Counted f 0 0
 counted-none {f} = record { eq = sym (count-none f); most = le-refl _ }
 
-pub one-most : (b : Bool) → one b ≤ 1
-one-most true = omega arith
-one-most false = omega arith
+pub indicator-most : (b : Bool) → indicator b ≤ 1
+indicator-most true = omega arith
+indicator-most false = omega arith
 
 -- one turn, whose test gives b
-pub counted-more : {f : ℕ → Bool} {n c d : ℕ} {b : Bool} → Counted f n c → b ≡ f n → d ≡ one b → Counted f (n + 1) (c + d)
-counted-more {f} {n} {c} {d} {b} u t e = record { eq = rw (e, t, count-more n f, ← u .eq); most = omega (arith, u .most, one-most b) }
+pub counted-more : {f : ℕ → Bool} {n c d : ℕ} {b : Bool} → Counted f n c → b ≡ f n → d ≡ indicator b → Counted f (n + 1) (c + d)
+counted-more {f} {n} {c} {d} {b} u t e = record { eq = rw (e, t, count-more n f, ← u .eq); most = omega (arith, u .most, indicator-most b) }
 
 pub counted-all : {f : ℕ → Bool} {i n c : ℕ} → Counted f i c → i ≤ n → n ≤ i → Counted f n c
 counted-all {i = i} {n = n} u p q = let e : i ≡ n = omega arith in rw e at u
@@ -124,7 +124,7 @@ counted-all {i = i} {n = n} u p q = let e : i ≡ n = omega arith in rw e at u
 pub count-cong : (n : ℕ) (f g : ℕ → Bool) → ((i : ℕ) → i < n → f i ≡ g i) → count n f ≡ count n g
 unfolding count
 count-cong zero f g h = refl
-count-cong (suc n) f g h = ap₂ _+_ (count-cong n f g (λ i l. h i (omega arith))) (ap one (h n (le-refl _)))
+count-cong (suc n) f g h = ap₂ _+_ (count-cong n f g (λ i l. h i (omega arith))) (ap indicator (h n (le-refl _)))
 
 -- ---- a loop that tests, up to the first failure
 

@@ -15,7 +15,7 @@ use borrow.Author.Tests.{ltb-true}
 use lib.ListN.{length}
 use Rattle.theory.specs.Lattice.{Ops, Laws, AtMost, Chain}
 use Rattle.theory.specs.Model.{Model}
-use Rattle.theory.specs.Formula.{Formula, bottom, top, prop, negated, var, or, and, AX, EX, mu, nu, boundBy}
+use Rattle.theory.specs.Formula.{Formula, bottom, top, prop, negated, var, or, and, AX, EX, mu, nu, closedUnder}
 use Rattle.theory.specs.Value.{iterate, bind, allNext, someNext, eval, SameMap, AtMostMap}
 use Rattle.theory.specs.Folds.{meet-mono, join-mono, imp-mono, bigMeet-mono, bigJoin-mono, bigMeet-cong, bigJoin-cong}
 use Rattle.theory.specs.TestLaws.{and-l, and-r}
@@ -45,22 +45,22 @@ module _ {A : Type 0} (O : Ops A) (M : Model A) where
   iterate-cong g g' h x zero q l = refl
   iterate-cong g g' h x (suc t) q l = h _ _ (iterate-cong g g' h x t) q l
 
-  pub eval-cong : (K d : ℕ) (φ : Formula) → boundBy d φ ≡ true → (e e' : ℕ → ℕ → A) → SameEnv d e e' → SameMap O M (eval O M K φ e) (eval O M K φ e')
-  unfolding eval boundBy
+  pub eval-cong : (K d : ℕ) (φ : Formula) → closedUnder d φ ≡ true → (e e' : ℕ → ℕ → A) → SameEnv d e e' → SameMap O M (eval O M K φ e) (eval O M K φ e')
+  unfolding eval closedUnder
   eval-cong K d bottom b e e' h q l = refl
   eval-cong K d top b e e' h q l = refl
   eval-cong K d (prop p) b e e' h q l = refl
   eval-cong K d (negated p) b e e' h q l = refl
   eval-cong K d (var v) b e e' h q l = h v (ltb-true v d b) q l
-  eval-cong K d (or f g) b e e' h q l = ap₂ (O .join) (eval-cong K d f (and-l _ (boundBy d g) b) e e' h q l) (eval-cong K d g (and-r (boundBy d f) _ b) e e' h q l)
-  eval-cong K d (and f g) b e e' h q l = ap₂ (O .meet) (eval-cong K d f (and-l _ (boundBy d g) b) e e' h q l) (eval-cong K d g (and-r (boundBy d f) _ b) e e' h q l)
+  eval-cong K d (or f g) b e e' h q l = ap₂ (O .join) (eval-cong K d f (and-l _ (closedUnder d g) b) e e' h q l) (eval-cong K d g (and-r (closedUnder d f) _ b) e e' h q l)
+  eval-cong K d (and f g) b e e' h q l = ap₂ (O .meet) (eval-cong K d f (and-l _ (closedUnder d g) b) e e' h q l) (eval-cong K d g (and-r (closedUnder d f) _ b) e e' h q l)
   eval-cong K d (AX f) b e e' h q l = allNext-cong _ _ (eval-cong K d f b e e' h) q
   eval-cong K d (EX f) b e e' h q l = someNext-cong _ _ (eval-cong K d f b e e' h) q
   eval-cong K d (mu f) b e e' h q l = iterate-cong _ _ (λ x y s. eval-cong K (suc d) f b _ _ (bind-cong d e e' x y s h)) _ K q l
   eval-cong K d (nu f) b e e' h q l = iterate-cong _ _ (λ x y s. eval-cong K (suc d) f b _ _ (bind-cong d e e' x y s h)) _ K q l
 
   -- a body reads its own map only at the states
-  pub body-cong : (K d : ℕ) (f : Formula) → boundBy (suc d) f ≡ true → (e : ℕ → ℕ → A) (x y : ℕ → A) → SameMap O M x y → SameMap O M (eval O M K f (bind x e)) (eval O M K f (bind y e))
+  pub body-cong : (K d : ℕ) (f : Formula) → closedUnder (suc d) f ≡ true → (e : ℕ → ℕ → A) (x y : ℕ → A) → SameMap O M x y → SameMap O M (eval O M K f (bind x e)) (eval O M K f (bind y e))
   body-cong K d f b e x y h = eval-cong K (suc d) f b _ _ (bind-cong d e e x y h (λ v l q m. refl))
 
   -- once an application of g changes nothing at the states, no later one does

@@ -1,6 +1,6 @@
 -- Lattices given by an order and a complement, and the reading of lattice and model parts from bytes. Rests on Lattice, Model, Test.
 --   LatticePart, opsOf: what a lattice part says, and the operations that it gives
---   isMeet, isJoin, meetOf, joinOf, topOf, botOf: meets, joins and bounds, found from the order; element: any number read as an element
+--   isMeet, isJoin, meetOf, joinOf, topOf, botOf: meets, joins, top and bottom, found from the order; element: any number read as an element
 --   explicitPart, modelOf: the lattice and the model of a part's bytes
 --   modelLength, ModelShape: how many bytes a model part has, and that its sizes and its length are as they must be
 use Prim.Native.Nat.{ℕ, _+_, _*_, _%_, _≤_, _<_}
@@ -42,7 +42,7 @@ module _ (P : LatticePart) where
   botOf = firstBelow (P .size) (λ a. allBelow (P .size) (λ b. P .order a b))
 
 -- Any number reads as an element of a lattice of n: its remainder by 64 where that is one, else element 0. An element reads as
--- itself, where n is at most 64. So a lookup in a table 64 wide is right for every byte, and no bound has to be stated.
+-- itself, where n is at most 64. So a lookup in a table 64 wide is right for every byte, and no limit has to be stated.
 unfoldable pub element : ℕ → ℕ → ℕ
 element n a = cond (ltb (a % 64) n) (a % 64) 0
 

@@ -11,7 +11,7 @@ use native.Mathlib.Omega.{arith}
 use borrow.Author.Tests.{ltb-true}
 use Rattle.theory.specs.Lattice.{Ops, Laws, AtMost, imp, bigMeet, bigJoin}
 use Rattle.theory.specs.Model.{Model}
-use Rattle.theory.specs.Formula.{Formula, bottom, top, prop, negated, var, or, and, AX, EX, mu, nu, boundBy, universal, fixpointFree, overProps, nestedAX, UniversalSentence}
+use Rattle.theory.specs.Formula.{Formula, bottom, top, prop, negated, var, or, and, AX, EX, mu, nu, closedUnder, universal, fixpointFree, overProps, nestedAX, UniversalSentence}
 use Rattle.theory.specs.Value.{iterate, bind, allNext, someNext, eval, enough, valueAt, wholeValue}
 use Rattle.theory.specs.Simulation.{propositionPart, successorPart, F, roundOf, round, AtMostTable, Bounds, FirstUnchanged, score}
 use Rattle.theory.specs.Folds.{bigMeet-le, bigMeet-mono, bigJoin-lub, join-bigMeet, meet-mono, join-mono, imp-mono, imp-meet, imp-join, imp-bot, imp-top, imp-neg, iff-l, iff-r, de-morgan-join}
@@ -54,8 +54,8 @@ module _ {A : Type 0} {O : Ops A} (L : Laws O) (M₁ M₂ : Model A) where
 
   -- ---- by rounds: no fixpoint, and fewer nested AX than rounds
 
-  eval-by-round : (K J : ℕ) (e d : ℕ → ℕ → A) (φ : Formula) → boundBy 0 φ ≡ true → universal φ ≡ true → overProps (M₁ .propositions) φ ≡ true → fixpointFree φ ≡ true → (r : ℕ) → nestedAX φ < r → Bounds O M₁ M₂ (round O M₁ M₂ r) (eval O M₁ K φ e) (eval O M₂ J φ d)
-  unfolding eval roundOf nestedAX boundBy universal overProps fixpointFree
+  eval-by-round : (K J : ℕ) (e d : ℕ → ℕ → A) (φ : Formula) → closedUnder 0 φ ≡ true → universal φ ≡ true → overProps (M₁ .propositions) φ ≡ true → fixpointFree φ ≡ true → (r : ℕ) → nestedAX φ < r → Bounds O M₁ M₂ (round O M₁ M₂ r) (eval O M₁ K φ e) (eval O M₂ J φ d)
+  unfolding eval roundOf nestedAX closedUnder universal overProps fixpointFree
   eval-by-round K J e d bottom c u o x r h q₁ l q₂ m = imp-bot L _ _
   eval-by-round K J e d top c u o x r h q₁ l q₂ m = imp-top L _ _
   eval-by-round K J e d (prop p) c u o x zero h q₁ l q₂ m = absurd (not-suc-le-zero h)
@@ -65,13 +65,13 @@ module _ {A : Type 0} {O : Ops A} (L : Laws O) (M₁ M₂ : Model A) where
   eval-by-round K J e d (var v) c u o x r h q₁ l q₂ m = absurd (not-suc-le-zero (ltb-true v 0 c))
   eval-by-round K J e d (or f g) c u o x r h q₁ l q₂ m =
       trans
-      (meet-glb (eval-by-round K J e d f (and-l _ (boundBy 0 g) c) (and-l _ (universal g) u) (and-l _ (overProps (M₁ .propositions) g) o) (and-l _ (fixpointFree g) x) r (omega arith) q₁ l q₂ m)
-      (eval-by-round K J e d g (and-r (boundBy 0 f) _ c) (and-r (universal f) _ u) (and-r (overProps (M₁ .propositions) f) _ o) (and-r (fixpointFree f) _ x) r (omega arith) q₁ l q₂ m))
+      (meet-glb (eval-by-round K J e d f (and-l _ (closedUnder 0 g) c) (and-l _ (universal g) u) (and-l _ (overProps (M₁ .propositions) g) o) (and-l _ (fixpointFree g) x) r (omega arith) q₁ l q₂ m)
+      (eval-by-round K J e d g (and-r (closedUnder 0 f) _ c) (and-r (universal f) _ u) (and-r (overProps (M₁ .propositions) f) _ o) (and-r (fixpointFree f) _ x) r (omega arith) q₁ l q₂ m))
       (imp-join L _ _ _ _)
   eval-by-round K J e d (and f g) c u o x r h q₁ l q₂ m =
       trans
-      (meet-glb (eval-by-round K J e d f (and-l _ (boundBy 0 g) c) (and-l _ (universal g) u) (and-l _ (overProps (M₁ .propositions) g) o) (and-l _ (fixpointFree g) x) r (omega arith) q₁ l q₂ m)
-      (eval-by-round K J e d g (and-r (boundBy 0 f) _ c) (and-r (universal f) _ u) (and-r (overProps (M₁ .propositions) f) _ o) (and-r (fixpointFree f) _ x) r (omega arith) q₁ l q₂ m))
+      (meet-glb (eval-by-round K J e d f (and-l _ (closedUnder 0 g) c) (and-l _ (universal g) u) (and-l _ (overProps (M₁ .propositions) g) o) (and-l _ (fixpointFree g) x) r (omega arith) q₁ l q₂ m)
+      (eval-by-round K J e d g (and-r (closedUnder 0 f) _ c) (and-r (universal f) _ u) (and-r (overProps (M₁ .propositions) f) _ o) (and-r (fixpointFree f) _ x) r (omega arith) q₁ l q₂ m))
       (imp-meet L _ _ _ _)
   eval-by-round K J e d (AX f) c u o x zero h q₁ l q₂ m = absurd (not-suc-le-zero h)
   eval-by-round K J e d (AX f) c u o x (suc r) h q₁ l q₂ m = bounds-next _ _ _ (eval-by-round K J e d f c u o x r (le-of-suc-le-suc h)) q₁ q₂

@@ -1,4 +1,4 @@
--- Theorems 3 to 5: F is monotone, rounds descend, the first unchanged round T exists within its bound, and round T is the greatest
+-- Theorems 3 to 5: F is monotone, rounds descend, the first unchanged round T exists within its limit, and round T is the greatest
 -- simulation. Stated for any operator on tables that is monotone, reads its table only at pairs of states and gives elements.
 -- Rests on Simulation, Folds, Descent, Fixpoint.
 --   F-cong, F-mono, F-element, score-cong, round-next: F and score read a table only at the pairs of states; F is monotone, into elements
@@ -101,7 +101,7 @@ module _ {A : Type 0} {O : Ops A} (L : Laws O) (M₁ M₂ : Model A) where
       rounds-element zero q₁ q₂ = L .top-element
       rounds-element (suc r) q₁ q₂ = element _ q₁ q₂
 
-      -- T exists within the bound that the chains give
+      -- T exists within the limit that the chains give
       pub exists-T : (h : ℕ) → ((l : List A) → Chain O l → length l ≤ h) → (T : ℕ) × (T ≤ M₁ .states * M₂ .states * (h - 1) + 1) × FirstUnchangedOf O M₁ M₂ G T
       exists-T h longest = go (first-unlowered (downwards L) h (apart-most L h longest) (M₁ .states) (M₂ .states) (roundOf O M₁ M₂ G) (λ t q₁ l q₂ m. descend t q₁ q₂))
         where
@@ -123,7 +123,7 @@ module _ {A : Type 0} {O : Ops A} (L : Laws O) (M₁ M₂ : Model A) where
                   w .2 .earlier t (omega arith)
                   (λ q₁ k q₂ m. subst (λ (n : ℕ). AtMost O (roundOf O M₁ M₂ G n q₁ q₂) (roundOf O M₁ M₂ G (suc t) q₁ q₂)) (sub-one (suc t)) (rw (← s q₁ k q₂ m) (L .rfl _)))
 
-      -- whatever T is, the bound holds of it
+      -- whatever T is, the limit holds of it
       pub T-within : (h : ℕ) → ((l : List A) → Chain O l → length l ≤ h) → (T : ℕ) → FirstUnchangedOf O M₁ M₂ G T → T ≤ M₁ .states * M₂ .states * (h - 1) + 1
       T-within h longest T f = let w = exists-T h longest in omega (arith, w .1, T-unique O M₁ M₂ G T (w .0) f (w .2))
 

@@ -3,7 +3,7 @@
 --   AllPairs, SameTable, AtMostTable, Bounds: tables at the pairs of states
 --   round, FirstUnchanged, Simulation, GreatestSimulation: the rounds, T, and the simulations; of any operator roundOf, FirstUnchangedOf,
 --     FixedBy, GreatestFixedBy
---   score; share, by one, count and perCent
+--   score; share, by indicator, count and perCent
 use Prim.Native.Nat.{ℕ, zero, suc, _+_, _*_, _-_, _/_, _<_}
 use mathlib.Core.Path.{_≡_}
 use mathlib.Core.Bool.{Bool, true, false}
@@ -87,14 +87,14 @@ module _ {A : Type 0} (O : Ops A) (M₁ M₂ : Model A) where
 
 -- ---- share
 
-abbrev pub one : Bool → ℕ
-one true = 1
-one false = 0
+abbrev pub indicator : Bool → ℕ
+indicator true = 1
+indicator false = 0
 
 -- how many of f 0, .., f (n - 1) are true
 unfoldable pub count : ℕ → (ℕ → Bool) → ℕ
 count zero f = 0
-count (suc n) f = count n f + one (f n)
+count (suc n) f = count n f + indicator (f n)
 
 -- c of t 'rounded to whole per cent, halves up': the whole part of 100 c / t + 1 / 2
 abbrev pub perCent : ℕ → ℕ → ℕ

@@ -1,4 +1,4 @@
--- Tests over the numbers below a bound. Rests on nothing.
+-- Tests over the numbers below a limit. Rests on nothing.
 use Prim.Native.Nat.{ℕ, zero, suc}
 use mathlib.Core.Bool.{Bool, true, false, cond, _&&_}
 use lib.Dec.{ltb}

@@ -1,4 +1,4 @@
--- Laws of tests: of truth values, and of tests over the numbers below a bound, as loops and theorems use them. Rests on Test.
+-- Laws of tests: of truth values, and of tests over the numbers below a limit, as loops and theorems use them. Rests on Test.
 --   below-suc: the numbers below suc n are those below n, and n; decide: a test is passed or not
 --   and-l, and-r, and-in, and-false, all-four, or-l, or-r, cond-true, cond-false, ⇒-elim, ⇒-in: of the truth values
 --   bool-same: tests that imply each other are the same; not-passed, not-failed, false-true: a test that cannot be passed, or fail

@@ -1,6 +1,6 @@
 -- Bytes that are written at a place of a buffer, and the laws of it. Rests on Loop.
 --   written-none, written-byte, written-turn: nothing, one byte more, and one turn more of a loop that writes f 0, f 1, ..
---   written-length, written-at, written-before, written-after: the length, what is written, and what is kept
+--   written-length, written-at, written-before, written-after: the length, what is written, and what is unchanged
 --   written-all: what holds of every byte written and of every byte before, holds of every byte
 --   Slice: what a loop that writes f 0, f 1, .. has written; slice-none, slice-more, slice-all: its begin, turn and end; slice-at: a byte of it
 use Prim.Native.Nat.{ℕ, suc, _+_, _-_, _≤_, _<_}
@@ -45,7 +45,7 @@ module _ (at : ℕ) (s out : List ℕ) where
         ∙ ap (λ (n : ℕ). getD (take at out ++ s) (n + i) 0) (sym t)
         ∙ getD-append-add (take at out) s i 0
 
-    -- what is kept
+    -- what is unchanged
     pub written-before : (j : ℕ) → j < at → getD (written at s out) j 0 ≡ getD out j 0
     written-before j l =
         List·getD-append (take at out ++ s) (drop (at + length s) out) 0 j (omega (arith, front-length (omega arith)))

@@ -11,7 +11,7 @@ use mathlib.Core.List.{List}
 use native.Mathlib.Omega.{arith}
 use borrow.Author.Tests.{ltb-true}
 use lib.ListN.{length, getD, replicate, length-append}
-use Rattle.theory.specs.Formula.{Formula, boundBy, overProps}
+use Rattle.theory.specs.Formula.{Formula, closedUnder, overProps}
 use Rattle.theory.specs.Part.{modelOf}
 use Rattle.theory.specs.Value.{eval, valueAt, wholeValue}
 use Rattle.elements.specs.Folds.{decode-in, bigMeet-lt}
@@ -24,37 +24,37 @@ use Rattle.tokens.specs.Tokens.{tokenSize}
 use Rattle.tokens.specs.Sizes.{Stands}
 use Rattle.formula.specs.Bytes.{bytesOf}
 use Rattle.valuer_maps.specs.Code.{startCode, slotOf, Literals, NextMap}
-use Rattle.valuer_maps.specs.Maps.{MapOf, startOf, map-start, map-literals, map-bound, map-next, implied, map-decoded}
+use Rattle.valuer_maps.specs.Maps.{MapOf, startOf, map-start, map-literals, map-join-or-meet, map-next, implied, map-decoded}
 use Rattle.valuer.specs.Values.{ModelOver, Reads, ValueAt, WholeValue}
-use Rattle.valuer.specs.Node.{Spelled, Here, SlotsHold, roundLimit, Node, Both, Iterated, CodedValues, initialCode}
-use Rattle.valuer.proofs.Places.{build, Parts, some-bytes, by-token, of-or, of-and, of-AX, of-EX, of-mu, of-nu, read-spelled}
+use Rattle.valuer.specs.Node.{FormulaAt, SomeFormulaAt, SlotsHold, roundLimit, Node, Both, Iterated, CodedValues, initialCode}
+use Rattle.valuer.proofs.Places.{build, Parts, some-bytes, by-token, of-or, of-and, of-AX, of-EX, of-mu, of-nu, read-formula-at}
 
 -- ---- the parts of what stands at a place stand there too
 
-here : {f : List ℕ} {at d k : ℕ} {φ : Formula} → Spelled f at d k φ → Here f at k
-here {d = d} {φ = φ} s = record { depth = d; formula = φ; spelled = s }
+here : {f : List ℕ} {at d k : ℕ} {φ : Formula} → FormulaAt f at d k φ → SomeFormulaAt f at k
+here {d = d} {φ = φ} s = record { depth = d; formula = φ; formula-at = s }
 
 module _ {f : List ℕ} {at i k : ℕ} where
   -- of a formula that begins with a known token
-  known : {t : Token} → Stands f at t i → (Q : Type 0) → ((d : ℕ) (g h : Formula) → Spelled f at d k (build t g h) → Q) → Here f at k → Q
-  known {t} s Q w x = by-token (x .spelled) t (s .token) (λ φ. Spelled f at (x .depth) k φ → Q) (w (x .depth)) (x .spelled)
+  known : {t : Token} → Stands f at t i → (Q : Type 0) → ((d : ℕ) (g h : Formula) → FormulaAt f at d k (build t g h) → Q) → SomeFormulaAt f at k → Q
+  known {t} s Q w x = by-token (x .formula-at) t (s .token) (λ φ. FormulaAt f at (x .depth) k φ → Q) (w (x .depth)) (x .formula-at)
 
-  pub here-literal : (p : Proposition) (negated : Bool) → Stands f at (Literal p negated) i → Here f at k → p .0 < k
+  pub here-literal : (p : Proposition) (negated : Bool) → Stands f at (Literal p negated) i → SomeFormulaAt f at k → p .0 < k
   unfolding overProps
   here-literal p true s = known s _ (λ d g h u. ltb-true (p .0) k (u .over))
   here-literal p false s = known s _ (λ d g h u. ltb-true (p .0) k (u .over))
 
-  pub here-first : (x : Bool) → Stands f at (Two x) i → Here f at k → Here f i k
+  pub here-first : (x : Bool) → Stands f at (Two x) i → SomeFormulaAt f at k → SomeFormulaAt f i k
   unfolding tokenSize
   here-first true s = known s _ (λ d g h u. here (of-or (s .ends) g h u .first))
   here-first false s = known s _ (λ d g h u. here (of-and (s .ends) g h u .first))
 
-  pub here-inner : (x : Bool) → Stands f at (Next x) i → Here f at k → Here f i k
+  pub here-inner : (x : Bool) → Stands f at (Next x) i → SomeFormulaAt f at k → SomeFormulaAt f i k
   unfolding tokenSize
   here-inner true s = known s _ (λ d g h u. here (of-AX (s .ends) g u))
   here-inner false s = known s _ (λ d g h u. here (of-EX (s .ends) g u))
 
-  pub here-body : (x : Bool) → Stands f at (Fixpoint x) i → Here f at k → Here f i k
+  pub here-body : (x : Bool) → Stands f at (Fixpoint x) i → SomeFormulaAt f at k → SomeFormulaAt f i k
   unfolding tokenSize
   here-body true s = known s _ (λ d g h u. here (of-mu (s .ends) g u))
   here-body false s = known s _ (λ d g h u. here (of-nu (s .ends) g u))
@@ -62,17 +62,17 @@ module _ {f : List ℕ} {at i k : ℕ} where
 -- the second part: it begins where the answer of the first, at the place i, says
 pub record Second (f : List ℕ) (i k next : ℕ) : Type 0 where
   pub further : i ≤ next
-  pub stands : Here f next k
+  pub stands : SomeFormulaAt f next k
 
 module _ {w : List ℕ} {l : Lattice} {m f : List ℕ} {i j : ℕ} {near mid far x : List ℕ} (n : Node w l m f i near mid far x j) where
   -- where it stands
-  right : {d : ℕ} {g h : Formula} → Parts f i d (getD m 1 0) g h → Spelled f j d (getD m 1 0) h
-  right {d} {g} {h} p = subst (λ (q : ℕ). Spelled f q d (getD m 1 0) h) (sym (n .next d g (p .first))) (p .second)
+  right : {d : ℕ} {g h : Formula} → Parts f i d (getD m 1 0) g h → FormulaAt f j d (getD m 1 0) h
+  right {d} {g} {h} p = subst (λ (q : ℕ). FormulaAt f q d (getD m 1 0) h) (sym (n .next d g (p .first))) (p .second)
 
   second : {d : ℕ} {g h : Formula} → Parts f i d (getD m 1 0) g h → Second f i (getD m 1 0) j
   second {d} {g} p = record { further = omega (arith, n .next d g (p .first)); stands = here (right p) }
 
-  pub here-second : {at : ℕ} (b : Bool) → Stands f at (Two b) i → Here f at (getD m 1 0) → Second f i (getD m 1 0) j
+  pub here-second : {at : ℕ} (b : Bool) → Stands f at (Two b) i → SomeFormulaAt f at (getD m 1 0) → Second f i (getD m 1 0) j
   unfolding tokenSize
   here-second true s = known s _ (λ d g h u. second (of-or (s .ends) g h u))
   here-second false s = known s _ (λ d g h u. second (of-and (s .ends) g h u))
@@ -82,14 +82,14 @@ module _ {w : List ℕ} {l : Lattice} {m f : List ℕ} {i j : ℕ} {near mid far
 module _ {w : List ℕ} {l : Lattice} {m : List ℕ} (o : ModelOver w l m) {f : List ℕ} {at i : ℕ} {near mid far : List ℕ} where
   -- the answer for each formula that begins with the token that stands here
   by-one : {t : Token} {x : List ℕ} {j : ℕ} → Stands f at t i
-      → ((d : ℕ) (g h : Formula) → Spelled f at d (getD m 1 0) (build t g h) → j ≡ at + length (bytesOf (build t g h)))
-      → ((d : ℕ) (e : ℕ → ℕ → ℕ) (g h : Formula) → Spelled f at d (getD m 1 0) (build t g h) → SlotsHold w l (getD m 0 0) near mid far d e
+      → ((d : ℕ) (g h : Formula) → FormulaAt f at d (getD m 1 0) (build t g h) → j ≡ at + length (bytesOf (build t g h)))
+      → ((d : ℕ) (e : ℕ → ℕ → ℕ) (g h : Formula) → FormulaAt f at d (getD m 1 0) (build t g h) → SlotsHold w l (getD m 0 0) near mid far d e
       → MapOf w l (eval (opsIn w l) (modelOf m) (roundLimit l m) (build t g h) e) (getD m 0 0) x)
       → Node w l m f at near mid far x j
   by-one {t} {x} {j} s a b = record {
-    next = λ d φ v. by-token v t (s .token) (λ ψ. Spelled f at d (getD m 1 0) ψ → j ≡ at + length (bytesOf ψ)) (a d) v;
+    next = λ d φ v. by-token v t (s .token) (λ ψ. FormulaAt f at d (getD m 1 0) ψ → j ≡ at + length (bytesOf ψ)) (a d) v;
     map = λ d φ e v k. by-token v t (s .token)
-        (λ ψ. Spelled f at d (getD m 1 0) ψ → SlotsHold w l (getD m 0 0) near mid far d e → MapOf w l (eval (opsIn w l) (modelOf m) (roundLimit l m) ψ e) (getD m 0 0) x) (b d e) v k;
+        (λ ψ. FormulaAt f at d (getD m 1 0) ψ → SlotsHold w l (getD m 0 0) near mid far d e → MapOf w l (eval (opsIn w l) (modelOf m) (roundLimit l m) ψ e) (getD m 0 0) x) (b d e) v k;
   }
 
   pub bottom-arm : {x : ℕ} → Stands f at Bottom i → x ≡ startCode w l true → Node w l m f at near mid far (replicate 64 x) i
@@ -107,8 +107,8 @@ module _ {w : List ℕ} {l : Lattice} {m : List ℕ} (o : ModelOver w l m) {f : 
   literal-arm p false s k a = by-one s (λ d g h u. s .ends) (λ d e g h u j. map-literals (o .coded) m false (p .0) k (o .valued) a)
 
   pub variable-arm : {x : List ℕ} (v : ℕ) → Stands f at (Variable v) i → x ≡ slotOf near mid far v → Node w l m f at near mid far x i
-  unfolding bytesOf eval boundBy tokenSize
-  variable-arm v s a = by-one s (λ d g h u. s .ends) (λ d e g h u k. rw a (k .at v (ltb-true v d (u .bound))))
+  unfolding bytesOf eval closedUnder tokenSize
+  variable-arm v s a = by-one s (λ d g h u. s .ends) (λ d e g h u k. rw a (k .at v (ltb-true v d (u .is-closed))))
 
   pub two-arm : {x v : List ℕ} {j k : ℕ} (b : Bool) → Stands f at (Two b) i → Node w l m f i near mid far x j → Both w l m f j b near mid far x v k
       → Node w l m f at near mid far v k
@@ -118,13 +118,13 @@ module _ {w : List ℕ} {l : Lattice} {m : List ℕ} (o : ModelOver w l m) {f : 
       (λ d g h u.
       let p = of-or (s .ends) g h u in
       omega (arith, s .ends, n .next d g (p .first), y .node .next d h (right n p), length-append (bytesOf g) (bytesOf h)))
-      (λ d e g h u q. let p = of-or (s .ends) g h u in map-bound (o .coded) true (n .map d g e (p .first) q) (y .node .map d h e (right n p) q) (y .combined))
+      (λ d e g h u q. let p = of-or (s .ends) g h u in map-join-or-meet (o .coded) true (n .map d g e (p .first) q) (y .node .map d h e (right n p) q) (y .combined))
   two-arm false s n y =
       by-one s
       (λ d g h u.
       let p = of-and (s .ends) g h u in
       omega (arith, s .ends, n .next d g (p .first), y .node .next d h (right n p), length-append (bytesOf g) (bytesOf h)))
-      (λ d e g h u q. let p = of-and (s .ends) g h u in map-bound (o .coded) false (n .map d g e (p .first) q) (y .node .map d h e (right n p) q) (y .combined))
+      (λ d e g h u q. let p = of-and (s .ends) g h u in map-join-or-meet (o .coded) false (n .map d g e (p .first) q) (y .node .map d h e (right n p) q) (y .combined))
 
   pub next-arm : {x v : List ℕ} {j : ℕ} (b : Bool) → Stands f at (Next b) i → Node w l m f i near mid far x j → NextMap w l m b x v
       → Node w l m f at near mid far v j
@@ -156,12 +156,12 @@ no-arm s z = record {
 
 -- ---- a whole part
 
-pub here-read : (m f : List ℕ) → Reads m f → Here f 0 (getD m 1 0)
-here-read m f w = here (read-spelled (getD m 1 0) f (w .0) (w .1))
+pub here-read : (m f : List ℕ) → Reads m f → SomeFormulaAt f 0 (getD m 1 0)
+here-read m f w = here (read-formula-at (getD m 1 0) f (w .0) (w .1))
 
 pub part-values : {w : List ℕ} {l : Lattice} {m f near mid far x : List ℕ} {i : ℕ} → Node w l m f 0 near mid far x i → CodedValues w l m f x
 unfolding valueAt roundLimit
-part-values {l = l} {m} {f} n = record { are = λ φ e. n .map 0 φ (λ v q. l .bottom .0) (read-spelled (getD m 1 0) f φ e) (record { at = λ v b. absurd (omega arith) }) }
+part-values {l = l} {m} {f} n = record { are = λ φ e. n .map 0 φ (λ v q. l .bottom .0) (read-formula-at (getD m 1 0) f φ e) (record { at = λ v b. absurd (omega arith) }) }
 
 module _ {w : List ℕ} {l : Lattice} {m f x : List ℕ} (o : ModelOver w l m) (v : CodedValues w l m f x) where
   -- a value, decoded

@@ -20,15 +20,15 @@ use Rattle.elements.specs.Words.{opsIn, Coded}
 use Rattle.elements.specs.declared.Lattice.{Lattice}
 use Rattle.valuer_maps.specs.Code.{slotOf}
 use Rattle.valuer_maps.specs.Maps.{MapOf, map-as, map-same}
-use Rattle.valuer.specs.Node.{Spelled, SlotsHold, rounds, roundLimit, Node, Iterated}
+use Rattle.valuer.specs.Node.{FormulaAt, SlotsHold, rounds, roundLimit, Node, Iterated}
 
 -- ---- a map under one more binder
 
 -- the nearest list holds the new binder's map, the others move one binder out
-bound-holds : {w : List ℕ} {l : Lattice} {n : ℕ} {x near mid far : List ℕ} {d : ℕ} {e : ℕ → ℕ → ℕ} {g : ℕ → ℕ}
+bind-holds : {w : List ℕ} {l : Lattice} {n : ℕ} {x near mid far : List ℕ} {d : ℕ} {e : ℕ → ℕ → ℕ} {g : ℕ → ℕ}
     → suc d ≤ 3 → MapOf w l g n x → SlotsHold w l n near mid far d e → SlotsHold w l n x near mid (suc d) (bind g e)
 unfolding slotOf bind
-bound-holds {w} {l} {n} {x} {near} {mid} {far} {d} {e} {g} b u h = record { at = go }
+bind-holds {w} {l} {n} {x} {near} {mid} {far} {d} {e} {g} b u h = record { at = go }
   where
     go : (v : ℕ) → v < suc d → MapOf w l (bind g e v) n (slotOf x near mid v)
     go zero k = u
@@ -47,7 +47,7 @@ once w l m φ e x = eval (opsIn w l) (modelOf m) (roundLimit l m) φ (bind x e)
 
 -- x is what r rounds give, whatever body stands at the place, from the element whose code is `start`
 pub record Turned (w : List ℕ) (l : Lattice) (m f : List ℕ) (at : ℕ) (near mid : List ℕ) (start r : ℕ) (x : List ℕ) : Type 0 where
-  pub map : (d : ℕ) (φ : Formula) (e : ℕ → ℕ → ℕ) (far : List ℕ) (a : ℕ) → Spelled f at (suc d) (getD m 1 0) φ
+  pub map : (d : ℕ) (φ : Formula) (e : ℕ → ℕ → ℕ) (far : List ℕ) (a : ℕ) → FormulaAt f at (suc d) (getD m 1 0) φ
       → SlotsHold w l (getD m 0 0) near mid far d e → MapOf w l (λ q. a) (getD m 0 0) (replicate 64 start)
       → MapOf w l (turns w l m r φ e a) (getD m 0 0) x
 
@@ -58,10 +58,10 @@ module _ {w : List ℕ} {l : Lattice} {m f : List ℕ} {at : ℕ} {near mid : Li
 
   -- what the body's map is after r rounds
   module _ {r i : ℕ} {x v : List ℕ} (h : Turned w l m f at near mid start r x) (n : Node w l m f at x near mid v i) where
-    turn : (d : ℕ) (φ : Formula) (e : ℕ → ℕ → ℕ) (far : List ℕ) (a : ℕ) → Spelled f at (suc d) (getD m 1 0) φ
+    turn : (d : ℕ) (φ : Formula) (e : ℕ → ℕ → ℕ) (far : List ℕ) (a : ℕ) → FormulaAt f at (suc d) (getD m 1 0) φ
         → SlotsHold w l (getD m 0 0) near mid far d e → MapOf w l (λ q. a) (getD m 0 0) (replicate 64 start)
         → MapOf w l (once w l m φ e (turns w l m r φ e a)) (getD m 0 0) v
-    turn d φ e far a s k u = n .map (suc d) φ _ s (bound-holds (omega (arith, s .nested)) (h .map d φ e far a s k u) k)
+    turn d φ e far a s k u = n .map (suc d) φ _ s (bind-holds (omega (arith, s .nested)) (h .map d φ e far a s k u) k)
 
     pub turned-more : (k : ℕ) → k ≡ suc r → Turned w l m f at near mid start k v
     unfolding iterate
@@ -81,6 +81,6 @@ module _ {w : List ℕ} {l : Lattice} {m f : List ℕ} {at : ℕ} {near mid : Li
           let more = turn d φ e far a s o u in
           let same : (q : ℕ) → q < getD m 0 0 → once w l m φ e (turns w l m r φ e a) q ≡ turns w l m r φ e a q =
           λ q j. map-same c more (h .map d φ e far a s o u) q j (eqb-true _ _ (all-at k _ z q (omega arith))) in
-          let stays = iterate-stays (opsIn w l) (modelOf m) (once w l m φ e) (body-cong (opsIn w l) (modelOf m) (roundLimit l m) d φ (s .bound) e) (λ i. a) r same (roundLimit l m) b in
+          let stays = iterate-stays (opsIn w l) (modelOf m) (once w l m φ e) (body-cong (opsIn w l) (modelOf m) (roundLimit l m) d φ (s .is-closed) e) (λ i. a) r same (roundLimit l m) b in
           map-as more (λ q j. same q j ∙ sym (stays q j));
     }

@@ -24,7 +24,7 @@ use Rattle.valuer.specs.Values.{fromInitial, ValueAt, WholeValue}
 module _ (w : List ℕ) (l : Lattice) (m f : List ℕ) (L : Laws (opsIn w l)) (ok : Valued (opsIn w l) (modelOf m)) (φ : Formula) (e : formulaReading (getD m 1 0) f ≡ read φ) where
   value-calculus : (u : Formula → (ℕ → ℕ → ℕ) → ℕ → ℕ) → Calculus (opsIn w l) (modelOf m) u
       → (q : ℕ) → q < getD m 0 0 → valueAt (opsIn w l) (modelOf m) φ q ≡ u φ (λ v i. l .bottom .0) q
-  value-calculus u c = let p = formula-part (getD m 1 0) f φ e in value-is L (modelOf m) ok φ (p .bound) (p .props) u c
+  value-calculus u c = let p = formula-part (getD m 1 0) f φ e in value-is L (modelOf m) ok φ (p .is-closed) (p .props) u c
 
   -- 'Formula values are those of the latticed mu-calculus', at a state and on the whole model, whichever function gives these
   pub whole-calculus : (u : Formula → (ℕ → ℕ → ℕ) → ℕ → ℕ) → Calculus (opsIn w l) (modelOf m) u → (r : ℕ) → WholeValue w l m f r
@@ -39,7 +39,7 @@ module _ (w : List ℕ) (l : Lattice) (m f : List ℕ) (L : Laws (opsIn w l)) (o
   pub value-at-element : (q r : ℕ) → ValueAt w l m f q r → q < getD m 0 0 → r < l .size
   value-at-element q r a b =
       let p = formula-part (getD m 1 0) f φ e in
-      rw (a .is φ e) (ltb-true _ _ (value-element L (modelOf m) ok φ (p .bound) (p .props) q b))
+      rw (a .is φ e) (ltb-true _ _ (value-element L (modelOf m) ok φ (p .is-closed) (p .props) q b))
 
   pub whole-element : (r : ℕ) → WholeValue w l m f r → r < l .size
   unfolding wholeValue

@@ -1,6 +1,6 @@
 -- What stands at a place of a formula part, and what the valuer of that place answers. Rests on theory's Value, elements' Words,
 -- formula's Bytes, valuer_maps' Code and Maps.
---   Spelled, Here: a formula stands at a place
+--   FormulaAt, SomeFormulaAt: a formula stands at a place
 --   SlotsHold: three lists hold an environment, in codes
 --   rounds, roundLimit: a body applied n times, and how often at most
 --   Node: what the valuer of a place answers; Both: or or and with the second formula; Iterated: what the iteration of a body answers
@@ -14,7 +14,7 @@ use lib.ListN.{length, getD, drop, replicate}
 use Rattle.theory.specs.Lattice.{Ops}
 use Rattle.theory.specs.Loop.{fold}
 use Rattle.theory.specs.Model.{Model}
-use Rattle.theory.specs.Formula.{Formula, boundBy, overProps, nestedBinders}
+use Rattle.theory.specs.Formula.{Formula, closedUnder, overProps, nestedBinders}
 use Rattle.theory.specs.Value.{iterate, bind, eval, valueAt}
 use Rattle.theory.specs.Part.{modelOf}
 use Rattle.elements.specs.Words.{codeIn, negatedCodeIn, opsIn}
@@ -24,18 +24,18 @@ use Rattle.valuer_maps.specs.Code.{slotOf, Combined}
 use Rattle.valuer_maps.specs.Maps.{MapOf}
 
 -- At place `at` of f stands φ, under d binders and over the propositions below k: 'At most 3 binders are nested. Every variable is bound.'
-pub record Spelled (f : List ℕ) (at d k : ℕ) (φ : Formula) : Type 0 where
+pub record FormulaAt (f : List ℕ) (at d k : ℕ) (φ : Formula) : Type 0 where
   pub rest : List ℕ
   pub bytes : drop at f ≡ bytesOf φ ++ rest
-  pub bound : boundBy d φ ≡ true
+  pub is-closed : closedUnder d φ ≡ true
   pub over : overProps k φ ≡ true
   pub nested : nestedBinders φ + d ≤ 3
 
 -- some formula stands there
-pub record Here (f : List ℕ) (at k : ℕ) : Type 0 where
+pub record SomeFormulaAt (f : List ℕ) (at k : ℕ) : Type 0 where
   pub depth : ℕ
   pub formula : Formula
-  pub spelled : Spelled f at depth k formula
+  pub formula-at : FormulaAt f at depth k formula
 
 -- the body φ applied n times, under one more binder, from `start` at all states
 abbrev pub rounds : Ops ℕ → Model ℕ → ℕ → ℕ → Formula → (ℕ → ℕ → ℕ) → ℕ → ℕ → ℕ
@@ -54,8 +54,8 @@ module _ (w : List ℕ) (l : Lattice) (m f : List ℕ) where
   -- whatever formula stands at place `at`, i is the place after it, and x is its values at all states, each fixpoint being its body applied
   -- that often
   pub record Node (at : ℕ) (near mid far x : List ℕ) (i : ℕ) : Type 0 where
-    pub next : (d : ℕ) (φ : Formula) → Spelled f at d (getD m 1 0) φ → i ≡ at + length (bytesOf φ)
-    pub map : (d : ℕ) (φ : Formula) (e : ℕ → ℕ → ℕ) → Spelled f at d (getD m 1 0) φ → SlotsHold w l (getD m 0 0) near mid far d e
+    pub next : (d : ℕ) (φ : Formula) → FormulaAt f at d (getD m 1 0) φ → i ≡ at + length (bytesOf φ)
+    pub map : (d : ℕ) (φ : Formula) (e : ℕ → ℕ → ℕ) → FormulaAt f at d (getD m 1 0) φ → SlotsHold w l (getD m 0 0) near mid far d e
         → MapOf w l (eval (opsIn w l) (modelOf m) (roundLimit l m) φ e) (getD m 0 0) x
 
   -- v is x combined with the map of what stands at place `at`, and i is the place after it
@@ -66,8 +66,8 @@ module _ (w : List ℕ) (l : Lattice) (m f : List ℕ) where
 
   -- whatever body stands at place `at`, i is the place after it, and x is the fixpoint, from the element whose code is `start`
   pub record Iterated (at : ℕ) (near mid : List ℕ) (start : ℕ) (x : List ℕ) (i : ℕ) : Type 0 where
-    pub next : (d : ℕ) (φ : Formula) → Spelled f at d (getD m 1 0) φ → i ≡ at + length (bytesOf φ)
-    pub map : (d : ℕ) (φ : Formula) (e : ℕ → ℕ → ℕ) (far : List ℕ) (a : ℕ) → Spelled f at (suc d) (getD m 1 0) φ
+    pub next : (d : ℕ) (φ : Formula) → FormulaAt f at d (getD m 1 0) φ → i ≡ at + length (bytesOf φ)
+    pub map : (d : ℕ) (φ : Formula) (e : ℕ → ℕ → ℕ) (far : List ℕ) (a : ℕ) → FormulaAt f at (suc d) (getD m 1 0) φ
         → SlotsHold w l (getD m 0 0) near mid far d e → MapOf w l (λ q. a) (getD m 0 0) (replicate 64 start)
         → MapOf w l (rounds (opsIn w l) (modelOf m) (roundLimit l m) (roundLimit l m) φ e a) (getD m 0 0) x
 

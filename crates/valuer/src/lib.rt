@@ -22,7 +22,7 @@ ghost use Prim.Native.Nat.{_<_};
 ghost use lib.ListN.{getD};
 ghost use Rattle.theory.specs.Part.{ModelShape};
 ghost use Rattle.valuer.specs.Values.{ModelOver, Reads, ValueAt, WholeValue};
-ghost use Rattle.valuer.specs.Node.{Here, roundLimit, Node, Both, Iterated, CodedValues, initialCode};
+ghost use Rattle.valuer.specs.Node.{SomeFormulaAt, roundLimit, Node, Both, Iterated, CodedValues, initialCode};
 
 // The most rounds that a fixpoint takes: each round that changes something moves some state's value along a chain.
 fn round_limit(l: Lattice, m: &[u8]) -> usize
@@ -51,7 +51,7 @@ fn value_node(
     spare: &mut [u64; 64],
     out: &mut [u64; 64],
 ) -> usize
-    requires { ⌜ ModelOver (now w) l (now m) × Here (now f) at (getD (now m) 1 0) ⌝ }
+    requires { ⌜ ModelOver (now w) l (now m) × SomeFormulaAt (now f) at (getD (now m) 1 0) ⌝ }
     ensures { λ r. ⌜ Node (now (w .entry)) l (now (m .entry)) (now (f .entry)) at
         (now (near .entry)) (now (mid .entry)) (now (far .entry)) (now (out .exit)) r ⌝ }
 {
@@ -97,7 +97,7 @@ fn second(
     spare: &mut [u64; 64],
     out: &mut [u64; 64],
 ) -> usize
-    requires { ⌜ ModelOver (now w) l (now m) × Here (now f) at (getD (now m) 1 0) ⌝ }
+    requires { ⌜ ModelOver (now w) l (now m) × SomeFormulaAt (now f) at (getD (now m) 1 0) ⌝ }
     ensures { λ r. ⌜ Both (now (w .entry)) l (now (m .entry)) (now (f .entry)) at or
         (now (near .entry)) (now (mid .entry)) (now (far .entry)) (now (out .entry)) (now (out .exit)) r ⌝ }
 {
@@ -121,7 +121,7 @@ fn iterate(
     spare: &mut [u64; 64],
     out: &mut [u64; 64],
 ) -> usize
-    requires { ⌜ ModelOver (now w) l (now m) × Here (now f) body (getD (now m) 1 0) ⌝ }
+    requires { ⌜ ModelOver (now w) l (now m) × SomeFormulaAt (now f) body (getD (now m) 1 0) ⌝ }
     ensures { λ r. ⌜ Iterated (now (w .entry)) l (now (m .entry)) (now (f .entry)) body
         (now (near .entry)) (now (mid .entry)) start (now (out .exit)) r ⌝ }
 {

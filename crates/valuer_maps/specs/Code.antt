@@ -1,6 +1,6 @@
 -- The words that the functions write, for those that come in pairs by a Bool, which says which. w is a lattice's codes; a map is the list of
 -- the codes of its values. Rests on theory's Lists, Loop and Part, elements' Words.
---   boundCode, startCode: or and and, where the least fixpoint and the greatest start
+--   joinOrMeetCode, startCode: or and and, where the least fixpoint and the greatest start
 --   allNextCode, someNextCode, nextCode: AX and EX at a state
 --   slotOf: the map of a variable
 --   Literals, Combined, NextMap: the first words of a map are those of a proposition, of or or and, of AX or EX
@@ -17,8 +17,8 @@ use Rattle.elements.specs.Words.{codeIn, negatedCodeIn, valueCode}
 use Rattle.elements.specs.declared.Lattice.{Lattice}
 
 -- 'or is join, and is meet': | where `up`, else &
-unfoldable pub boundCode : Bool → ℕ → ℕ → ℕ
-boundCode up x y = cond up (bitOr x y) (bitAnd x y)
+unfoldable pub joinOrMeetCode : Bool → ℕ → ℕ → ℕ
+joinOrMeetCode up x y = cond up (bitOr x y) (bitAnd x y)
 
 -- a least fixpoint starts from bottom, whose code is 0, a greatest one from top
 unfoldable pub startCode : List ℕ → Lattice → Bool → ℕ
@@ -48,7 +48,7 @@ Literals w m negated p out = Filled (λ q. valueCode negated w (modelOf m .label
 
 -- the joins (up) or the meets of those of x and y
 abbrev pub Combined : Bool → List ℕ → List ℕ → ℕ → List ℕ → Type 0
-Combined up x y n out = Filled (λ q. boundCode up (getD x q 0) (getD y q 0)) n out
+Combined up x y n out = Filled (λ q. joinOrMeetCode up (getD x q 0) (getD y q 0)) n out
 
 -- at the states of m, AX (all) or EX of the map x
 abbrev pub NextMap : List ℕ → Lattice → List ℕ → Bool → List ℕ → List ℕ → Type 0

@@ -1,7 +1,7 @@
 -- What a list of words is as a map from states to elements, and that the words of Code are the maps of nodes. Rests on Code, theory's
 -- Lattice, Lists, Part and Value, elements' Words, Coded and Folds.
 --   MapOf: the first words of a list are the codes of the elements that a map gives; map-as: by a map that gives the same
---   startOf, map-start, map-literals, map-bound, map-next: the maps of nodes
+--   startOf, map-start, map-literals, map-join-or-meet, map-next: the maps of nodes
 --   implied: the meet over the values v of v → f, which AX and the value on a whole model are
 --   map-decoded: a word is turned back into the value; map-same: equal words, equal values
 use Prim.Native.Nat.{ℕ, _≤_, _<_}
@@ -21,7 +21,7 @@ use Rattle.elements.specs.declared.Lattice.{Lattice}
 use Rattle.elements.specs.Words.{codeIn, negatedCodeIn, decodeIn, opsIn, Coded}
 use Rattle.elements.specs.Coded.{meet-lt, join-lt, complement-lt}
 use Rattle.elements.specs.Folds.{CodeOf, decode-in, code-of, negated-of, bottom-of, meet-of, join-of, bigMeet-lt, bigJoin-lt, fold-meets, fold-joins}
-use Rattle.valuer_maps.specs.Code.{boundCode, startCode, nextCode, Literals, Combined, NextMap}
+use Rattle.valuer_maps.specs.Code.{joinOrMeetCode, startCode, nextCode, Literals, Combined, NextMap}
 
 -- the first n words of x are the codes of the elements that f gives
 pub record MapOf (w : List ℕ) (l : Lattice) (f : ℕ → ℕ) (n : ℕ) (x : List ℕ) : Type 0 where
@@ -63,14 +63,14 @@ module _ {w : List ℕ} {l : Lattice} (c : Coded w l) where
     element = λ q k. ltb-true _ _ (v .label-element q k p b);
   }
 
-  pub map-bound : {f g : ℕ → ℕ} {n : ℕ} {x y z : List ℕ} (up : Bool) → MapOf w l f n x → MapOf w l g n y → Combined up x y n z
+  pub map-join-or-meet : {f g : ℕ → ℕ} {n : ℕ} {x y z : List ℕ} (up : Bool) → MapOf w l f n x → MapOf w l g n y → Combined up x y n z
       → MapOf w l (λ q. cond up (opsIn w l .join (f q) (g q)) (opsIn w l .meet (f q) (g q))) n z
-  unfolding boundCode
-  map-bound {f} {g} true u v h = record {
+  unfolding joinOrMeetCode
+  map-join-or-meet {f} {g} true u v h = record {
     code = λ q k. record { eq = h .at q k ∙ join-of c {a = f q} {b = g q} (u .code q k) (v .code q k) .eq };
     element = λ q k. join-lt c (f q) (g q);
   }
-  map-bound {f} {g} false u v h = record {
+  map-join-or-meet {f} {g} false u v h = record {
     code = λ q k. record { eq = h .at q k ∙ meet-of c {a = f q} {b = g q} (u .code q k) (v .code q k) .eq };
     element = λ q k. meet-lt c (f q) (g q);
   }

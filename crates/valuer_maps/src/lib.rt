@@ -13,7 +13,7 @@ ghost use lib.ListN.{length, getD, replicate};
 ghost use Rattle.theory.specs.Part.{ModelShape};
 ghost use Rattle.theory.specs.Test.{allBelow};
 ghost use Rattle.elements.specs.Words.{codeIn, negatedCodeIn};
-ghost use Rattle.valuer_maps.specs.Code.{boundCode, startCode, slotOf, allNextCode, someNextCode, nextCode, Literals, Combined, NextMap};
+ghost use Rattle.valuer_maps.specs.Code.{joinOrMeetCode, startCode, slotOf, allNextCode, someNextCode, nextCode, Literals, Combined, NextMap};
 
 // Where a least fixpoint starts, the bottom's code, or a greatest one, the top's.
 pub fn start_of(w: &Codes, l: Lattice, least: bool) -> u64
@@ -92,8 +92,8 @@ pub fn literals(
 }
 
 // The | of two codes where `up`, else their &.
-fn bound(up: bool, x: u64, y: u64) -> u64
-    ensures { λ r. ⌜ r ≡ boundCode up x y ⌝ }
+fn join_or_meet(up: bool, x: u64, y: u64) -> u64
+    ensures { λ r. ⌜ r ≡ joinOrMeetCode up x y ⌝ }
 {
     if up {
         return x | y;
@@ -107,7 +107,7 @@ pub fn combined(up: bool, n: usize, x: &[u64; 64], y: &[u64; 64], out: &mut [u64
     ensures { λ _. ⌜ Combined up (now (x .entry)) (now (y .entry)) n (now (out .exit)) ⌝ }
 {
     for q in 0..n {
-        out[q] = bound(up, x[q], y[q]);
+        out[q] = join_or_meet(up, x[q], y[q]);
     }
 }
 

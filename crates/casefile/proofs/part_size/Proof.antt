@@ -6,7 +6,7 @@ use Rattle.casefile.proofs.part_size.Tie as tie
 
 returns : tie.Need-returns
 unfolding partSize
-returns c = (rw (c .before .index .ensures .0) at (c .word .ensures .0), c .word .ensures .1)
+returns c = (rw (c .before .index .ensures .0) at (c .u16-at .ensures .0), c .u16-at .ensures .1)
 
 pub part-size-spec : {M : Type 1} → statement M
 part-size-spec =

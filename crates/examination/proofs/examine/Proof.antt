@@ -6,7 +6,7 @@ use native.Mathlib.Omega.{arith}
 use lib.Seq.{length-take-le}
 use Rattle.casefile.specs.Caller.{when-accepted, when-refused}
 use Rattle.desk.specs.Desk.{Desk}
-use Rattle.desk.specs.Refused.{short, rulesKept}
+use Rattle.desk.specs.Refused.{short, rulesObeyed}
 use Rattle.examination.specs.Read.{deskOf}
 use Rattle.desk.specs.RulesLaws.{Long, long-enough}
 use Rattle.examination.specs.Held.{short-examined, unread-examined, spoiled-examined, held-examined}
@@ -36,8 +36,8 @@ returns c = short-examined (desk (c .before)) _ (sym (c .before .too-short .ensu
 slice-aggregate-check : tie.Need-slice-aggregate-check
 slice-aggregate-check c = sym (length-take-le 24576 (desk (c .before .before) .store) (lengths (c .before) .store-long))
 
-rules-kept-requires : tie.Need-rules-kept-requires
-rules-kept-requires c κs =
+rules-obeyed-requires : tie.Need-rules-obeyed-requires
+rules-obeyed-requires c κs =
     let e = lengths (c .before .before .before .before .before .before) in
     (omega (arith, few (c .before), e .first-long), omega (arith, few (c .before), e .second-long))
 
@@ -45,18 +45,18 @@ returns-2 : tie.Need-returns-2
 returns-2 c = unread-examined (desk (c .before .before .before .before .before .before)) _ _ (not-short (c .before .before .before .before .before)) (when-refused _ _ _ _ (c .before .before .check .ensures) (c .enum-told .given .1))
 
 returns-3 : tie.Need-returns-3
-unfolding rulesKept
+unfolding rulesObeyed
 returns-3 c =
     let e = c .before .before .before .before .before .before .before .before in
-    held-examined (desk (e .before)) _ _ (not-short e) (when-accepted _ _ _ _ (c .before .before .before .before .before .check .ensures) (c .before .before .before .z .given .1)) (c .before .rules-kept .result) (c .before .rules-kept .ensures) (c .if2 .taken)
+    held-examined (desk (e .before)) _ _ (not-short e) (when-accepted _ _ _ _ (c .before .before .before .before .before .check .ensures) (c .before .before .before .z .given .1)) (c .before .rules-obeyed .result) (c .before .rules-obeyed .ensures) (c .if2 .taken)
 
 returns-4 : tie.Need-returns-4
-unfolding rulesKept
+unfolding rulesObeyed
 returns-4 c =
     let e = c .before .before .before .before .before .before .before .before in
-    spoiled-examined (desk (e .before)) _ _ (not-short e) (when-accepted _ _ _ _ (c .before .before .before .before .before .check .ensures) (c .before .before .before .z .given .1)) (c .before .rules-kept .result) (c .before .rules-kept .ensures) (c .if2 .left)
+    spoiled-examined (desk (e .before)) _ _ (not-short e) (when-accepted _ _ _ _ (c .before .before .before .before .before .check .ensures) (c .before .before .before .z .given .1)) (c .before .rules-obeyed .result) (c .before .rules-obeyed .ensures) (c .if2 .left)
 
 pub examine-spec : {M : Type 1} → statement M
 examine-spec =
     tie.close (tie.spec (λ c κs. search needs) returns slice-aggregate-check (λ c κs. search needs) (λ c. search needs)
-    (λ c. search needs) rules-kept-requires returns-2 returns-3 returns-4)
+    (λ c. search needs) rules-obeyed-requires returns-2 returns-3 returns-4)

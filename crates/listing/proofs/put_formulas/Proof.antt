@@ -4,7 +4,7 @@ use mathlib.Core.Path.{_≡_, refl}
 use native.Mathlib.Omega.{arith}
 use Rattle.casefile.specs.Reading.{Content, content, caseReading}
 use Rattle.listing.specs.Text.{formulaLine, each}
-use Rattle.listing.specs.Writing.{Wrote, each-starts, each-room, each-turn, each-done, each-kept}
+use Rattle.listing.specs.Writing.{Wrote, each-starts, each-room, each-turn, each-done, each-buffer-length}
 use Rattle.listing.specs.Accepting.{formulas-are, formulas-room}
 use Rattle.listing.proofs.put_formulas.Statement.{statement}
 use Rattle.listing.proofs.put_formulas.Tie as tie
@@ -40,7 +40,7 @@ same-length : tie.Need-same-length Inv-loop μ-loop
 same-length c =
     let s = c .before .before .before .before in
     let l = c .before .loop in
-    each-kept (s .args .text .now) (s .args .at) (s .args .z .formulas) (formulaLine (s .pre .case .holds)) (formulas-room (s .pre) (s .pre .case .holds) (s .pre .case .reads)) (l .f) (l .text) (l .next) (omega arith) (l .inv .2 (s .pre .case .holds) (s .pre .case .reads))
+    each-buffer-length (s .args .text .now) (s .args .at) (s .args .z .formulas) (formulaLine (s .pre .case .holds)) (formulas-room (s .pre) (s .pre .case .holds) (s .pre .case .reads)) (l .f) (l .text) (l .next) (omega arith) (l .inv .2 (s .pre .case .holds) (s .pre .case .reads))
 
 returns : tie.Need-returns Inv-loop μ-loop
 returns c d e =

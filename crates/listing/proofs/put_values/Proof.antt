@@ -2,7 +2,7 @@
 use Prim.Native.Nat.{ℕ}
 use mathlib.Core.List.{List, _++_}
 use native.Mathlib.Omega.{arith}
-use Rattle.listing.specs.Text.{formulaWord, blank, item, lastItem, heading, formulaText}
+use Rattle.listing.specs.Text.{formulaLabel, blank, item, lastItem, heading, formulaText}
 use Rattle.listing.specs.Writing.{wrote-then, fits-then, fits-first}
 use borrow.Author.Needs.{needs}
 use Rattle.listing.proofs.put_values.Statement.{statement}
@@ -10,7 +10,7 @@ use Rattle.listing.proofs.put_values.Tie as tie
 
 -- the three parts of the line
 abbrev head : tie.Start → List ℕ
-head s = heading formulaWord (s .args .f)
+head s = heading formulaLabel (s .args .f)
 
 abbrev value1 : tie.Start → List ℕ
 value1 s = item blank (s .args .v1)

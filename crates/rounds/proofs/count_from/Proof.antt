@@ -4,7 +4,7 @@ use native.Mathlib.Omega.{arith}
 use borrow.Author.Needs.{needs}
 use lib.ListN.{getD}
 use Rattle.elements.specs.Words.{atMostIn}
-use Rattle.theory.specs.Loop.{Counted, one-most, counted-none, counted-more, counted-all}
+use Rattle.theory.specs.Loop.{Counted, indicator-most, counted-none, counted-more, counted-all}
 use Rattle.rounds.proofs.count_from.Statement.{statement}
 use Rattle.rounds.proofs.count_from.Tie as tie
 
@@ -18,7 +18,7 @@ loop-holds : tie.Need-loop-holds Inv-loop μ-loop
 loop-holds c = (omega arith, counted-none)
 
 add-c : tie.Need-add-c Inv-loop μ-loop
-add-c c = omega (arith, one-most (c .before .at-most .result))
+add-c c = omega (arith, indicator-most (c .before .at-most .result))
 
 loop-again : tie.Need-loop-again Inv-loop μ-loop
 loop-again c = (omega arith, counted-more (c .before .before .before .before .loop .inv .1) (c .before .at-most .ensures) (c .one-if .ensures))

@@ -5,7 +5,7 @@ use Rattle.examination.specs.Read.{deskOf}
 use Rattle.examination.specs.Held.{HeldDesk, when-held, refused-call}
 use borrow.Author.Tests.{not-true, not-false, ltb-true}
 use lib.Seq.{length-take-le}
-use Rattle.asking.specs.Questions.{model-over, valuable, held-value, value-outside, value-state}
+use Rattle.asking.specs.Questions.{model-over, formula-on-model, held-value, value-outside, value-state}
 use borrow.Author.Needs.{needs}
 use Rattle.asking.proofs.formulas.value.Statement.{statement}
 use Rattle.asking.proofs.formulas.value.Tie as tie
@@ -30,7 +30,7 @@ slice-aggregate-bytes c =
 has-state-requires : tie.Need-has-state-requires
 has-state-requires c κs =
     let z = c .before .before .before .before .before in
-    valuable (held z) _ _ (sym (c .before .before .in-range .ensures) ∙ not-false _ (c .before .if1 .left))
+    formula-on-model (held z) _ _ (sym (c .before .before .in-range .ensures) ∙ not-false _ (c .before .if1 .left))
 
 returns-2 : tie.Need-returns-2
 returns-2 c =
@@ -41,7 +41,7 @@ value-of-requires : tie.Need-value-of-requires
 value-of-requires c κs =
     let z = c .before .before .before .before .before .before .before .before in
     let r = sym (c .before .before .before .before .before .in-range .ensures) ∙ not-false _ (c .before .before .before .before .if1 .left) in
-    (model-over (held z) _ _ r, valuable (held z) _ _ r, ltb-true _ _ (sym (c .before .before .has-state .ensures) ∙ not-false _ (c .before .if2 .left)))
+    (model-over (held z) _ _ r, formula-on-model (held z) _ _ r, ltb-true _ _ (sym (c .before .before .has-state .ensures) ∙ not-false _ (c .before .if2 .left)))
 
 returns-3 : tie.Need-returns-3
 returns-3 c = refused-call (Call.Ask (Question.Value (c .before .before .before .before .before .before .before .before .args .f) (c .before .before .before .before .before .before .before .before .args .m) (c .before .before .before .before .before .before .before .before .args .q .0))) (desk (c .before .before .before)) _ _ _ refl (c .before .before .before .examine .ensures) (c .before .x .given .1)

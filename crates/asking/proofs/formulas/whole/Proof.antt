@@ -5,7 +5,7 @@ use Rattle.examination.specs.Read.{deskOf}
 use Rattle.examination.specs.Held.{HeldDesk, when-held, refused-call}
 use borrow.Author.Tests.{not-true, not-false}
 use lib.Seq.{length-take-le}
-use Rattle.asking.specs.Questions.{model-over, valuable, held-whole, whole-outside}
+use Rattle.asking.specs.Questions.{model-over, formula-on-model, held-whole, whole-outside}
 use borrow.Author.Needs.{needs}
 use Rattle.asking.proofs.formulas.whole.Statement.{statement}
 use Rattle.asking.proofs.formulas.whole.Tie as tie
@@ -31,7 +31,7 @@ whole-of-requires : tie.Need-whole-of-requires
 whole-of-requires c κs =
     let z = c .before .before .before .before .before .before in
     let r = sym (c .before .before .before .in-range .ensures) ∙ not-false _ (c .before .before .if1 .left) in
-    (model-over (held z) _ _ r, valuable (held z) _ _ r)
+    (model-over (held z) _ _ r, formula-on-model (held z) _ _ r)
 
 returns-2 : tie.Need-returns-2
 returns-2 c = refused-call (Call.Ask (Question.Whole (c .before .before .before .before .before .before .before .before .args .f) (c .before .before .before .before .before .before .before .before .args .m))) (desk (c .before .before .before)) _ _ _ refl (c .before .before .before .examine .ensures) (c .before .x .given .1)

@@ -5,7 +5,7 @@ use borrow.Author.Tests.{eq-eqb, ne-eqb, not-true, not-false}
 use lib.Seq.{length-take-le}
 use Rattle.desk.specs.Desk.{Desk, Call, Question}
 use Rattle.examination.specs.Read.{deskOf}
-use Rattle.examination.specs.Held.{HeldDesk, when-held, table-kept, refused-call}
+use Rattle.examination.specs.Held.{HeldDesk, when-held, table-obeys, refused-call}
 use Rattle.asking.specs.Questions.{readable, held-judge, judge-long, judge-high}
 use borrow.Author.Needs.{needs}
 use Rattle.asking.proofs.tables.judge.Statement.{statement}
@@ -26,7 +26,7 @@ returns c =
 returns-2 : tie.Need-returns-2
 returns-2 c =
     let z = c .before .before .before .before .before .before in
-    judge-high (held z) _ _ (c .before .before .before .table-size .ensures .0) (eq-eqb _ _ (c .before .before .if1 .left)) (sym (table-kept (c .before .before .before .before .before .before .before .before .before .before .before .before .before .before .args .table .now) _ _ _ _ (c .before .below .ensures) refl) ∙ not-true _ (c .if2 .taken))
+    judge-high (held z) _ _ (c .before .before .before .table-size .ensures .0) (eq-eqb _ _ (c .before .before .if1 .left)) (sym (table-obeys (c .before .before .before .before .before .before .before .before .before .before .before .before .before .before .args .table .now) _ _ _ _ (c .before .below .ensures) refl) ∙ not-true _ (c .if2 .taken))
 
 slice-aggregate-bytes : tie.Need-slice-aggregate-bytes
 slice-aggregate-bytes c =
@@ -44,7 +44,7 @@ returns-3 c = refused-call (Call.Ask (Question.Judge (c .before .before .before 
 returns-4 : tie.Need-returns-4
 returns-4 c =
     let z = c .before .before .before .before .before .before .before .before .before in
-    held-judge (held z) _ _ _ (c .before .before .before .before .before .before .table-size .ensures .0) (eq-eqb _ _ (c .before .before .before .before .before .if1 .left)) (sym (table-kept (c .before .before .before .before .before .before .before .before .before .before .before .before .before .before .before .before .before .args .table .now) _ _ _ _ (c .before .before .before .before .below .ensures) refl) ∙ not-false _ (c .before .before .before .if2 .left)) (c .simulation-of .ensures)
+    held-judge (held z) _ _ _ (c .before .before .before .before .before .before .table-size .ensures .0) (eq-eqb _ _ (c .before .before .before .before .before .if1 .left)) (sym (table-obeys (c .before .before .before .before .before .before .before .before .before .before .before .before .before .before .before .before .before .args .table .now) _ _ _ _ (c .before .before .before .before .below .ensures) refl) ∙ not-false _ (c .before .before .before .if2 .left)) (c .simulation-of .ensures)
 
 pub judge-spec : {M : Type 1} → statement M
 judge-spec =

@@ -21,13 +21,13 @@ loop-holds : tie.Need-loop-holds Inv-loop μ-loop
 loop-holds c = (omega arith, paste-zero (c .args .out .now) (c .args .at) (c .args .part .now))
 
 -- the buffer has the length that it had
-kept : (c : tie.At-loop Inv-loop μ-loop) → length (c .loop .out) ≡ length (c .before .args .out .now)
-kept c =
+length-unchanged : (c : tie.At-loop Inv-loop μ-loop) → length (c .loop .out) ≡ length (c .before .args .out .now)
+length-unchanged c =
     let a = c .before .args in
     ap length (c .loop .inv .1) ∙ length-paste (a .out .now) (a .at) (a .part .now) (c .loop .j) (omega arith) (omega arith)
 
 slice-write-out : tie.Need-slice-write-out Inv-loop μ-loop
-slice-write-out c = omega (arith, kept (c .before .before))
+slice-write-out c = omega (arith, length-unchanged (c .before .before))
 
 loop-again : tie.Need-loop-again Inv-loop μ-loop
 loop-again c =
@@ -40,7 +40,7 @@ loop-again c =
     )
 
 same-length : tie.Need-same-length Inv-loop μ-loop
-same-length c = kept (c .before)
+same-length c = length-unchanged (c .before)
 
 returns : tie.Need-returns Inv-loop μ-loop
 returns c =

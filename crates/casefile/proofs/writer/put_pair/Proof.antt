@@ -1,4 +1,4 @@
--- `casefile::writer::put_pair` meets its contract: two words.
+-- `casefile::writer::put_pair` meets its contract: two u16 numbers.
 use borrow.Author.Needs.{needs}
 use Rattle.casefile.specs.Writer.{pair-put}
 use Rattle.casefile.proofs.writer.put_pair.Statement.{statement}
@@ -7,7 +7,7 @@ use Rattle.casefile.proofs.writer.put_pair.Tie as tie
 returns : tie.Need-returns
 returns c =
     let a = c .before .before .before .before .before .before .before .before .before .before .before .args in
-    pair-put (a .out .now) _ _ (a .i) _ _ (a .start) (a .size) (c .before .before .before .before .before .before .before .before .index .ensures .0) (c .before .before .before .index2 .ensures .0) (c .before .before .before .before .before .before .before .put-word .ensures) (c .before .before .put-word2 .ensures)
+    pair-put (a .out .now) _ _ (a .i) _ _ (a .start) (a .size) (c .before .before .before .before .before .before .before .before .index .ensures .0) (c .before .before .before .index2 .ensures .0) (c .before .before .before .before .before .before .before .put-u16 .ensures) (c .before .before .put-u162 .ensures)
 
 pub put-pair-spec : {M : Type 1} → statement M
 put-pair-spec =

@@ -4,7 +4,7 @@ use mathlib.Core.Path.{refl}
 use native.Mathlib.Omega.{arith}
 use Rattle.casefile.specs.Directory.{partCount}
 use Rattle.casefile.specs.Gapless.{pairs}
-use Rattle.casefile.specs.Writer.{PairsWritten, Room, writing-start, writing-room, pairs-turn, pairs-kept, writing-done}
+use Rattle.casefile.specs.Writer.{PairsWritten, Room, writing-start, writing-room, pairs-turn, pairs-buffer-length, writing-done}
 use Rattle.casefile.proofs.writer.write_pairs.Statement.{statement}
 use Rattle.casefile.proofs.writer.write_pairs.Tie as tie
 
@@ -30,7 +30,7 @@ put-pair-requires : tie.Need-put-pair-requires Inv-loop μ-loop
 put-pair-requires c κs =
     let r = room (c .before .before) in
     let l = c .before .before .before .loop .inv in
-    (omega (arith, r .directory-within, pairs-kept (l .1) (l .0)), omega (arith, r .end-small), c .before .part-size .ensures .1)
+    (omega (arith, r .directory-within, pairs-buffer-length (l .1) (l .0)), omega (arith, r .end-small), c .before .part-size .ensures .1)
 
 add-at-2 : tie.Need-add-at-2 Inv-loop μ-loop
 add-at-2 c =
@@ -43,7 +43,7 @@ loop-again c =
     (omega arith, pairs-turn _ (turn .before .loop .inv .1) (turn .loop-test .taken) (c .before .before .before .before .part-size .ensures .0) (c .before .before .put-pair .ensures))
 
 same-length : tie.Need-same-length Inv-loop μ-loop
-same-length c = let l = c .before .loop .inv in pairs-kept (l .1) (l .0)
+same-length c = let l = c .before .loop .inv in pairs-buffer-length (l .1) (l .0)
 
 returns : tie.Need-returns Inv-loop μ-loop
 unfolding pairs

@@ -6,7 +6,7 @@ use native.Mathlib.Omega.{arith}
 use lib.ListN.{length}
 use Rattle.casefile.specs.Directory.{partCount}
 use Rattle.casefile.specs.Gapless.{joined}
-use Rattle.casefile.specs.Writer.{PartsWritten, Room, writing-start, writing-room, parts-turn, parts-kept, writing-end, writing-done}
+use Rattle.casefile.specs.Writer.{PartsWritten, Room, writing-start, writing-room, parts-turn, parts-buffer-length, writing-end, writing-done}
 use Rattle.casefile.proofs.writer.write_parts.Statement.{statement}
 use Rattle.casefile.proofs.writer.write_parts.Tie as tie
 
@@ -29,7 +29,7 @@ room : (c : tie.In-loop Inv-loop μ-loop) → Room (c .before .before .before .b
 room c = writing-room (c .before .loop .inv .1) (c .loop-test .taken)
 
 copy-requires : tie.Need-copy-requires Inv-loop μ-loop
-copy-requires c κs = rw (c .before .part .ensures) (omega (arith, room (c .before .before) .part-within, parts-kept (c .before .before .before .loop .inv .1)))
+copy-requires c κs = rw (c .before .part .ensures) (omega (arith, room (c .before .before) .part-within, parts-buffer-length (c .before .before .before .loop .inv .1)))
 
 add-at-2 : tie.Need-add-at-2 Inv-loop μ-loop
 add-at-2 c = omega (arith, room (c .before .before .before .before .before) .end-small, ap length (c .before .before .before .before .part .ensures))
@@ -40,7 +40,7 @@ loop-again c =
     (omega arith, parts-turn (turn .before .loop .inv .1) (turn .loop-test .taken) (c .before .before .before .before .part .ensures) (c .before .before .copy .ensures))
 
 same-length : tie.Need-same-length Inv-loop μ-loop
-same-length c = parts-kept (c .before .loop .inv .1)
+same-length c = parts-buffer-length (c .before .loop .inv .1)
 
 returns : tie.Need-returns Inv-loop μ-loop
 unfolding joined

@@ -1,6 +1,6 @@
 -- `exports::koelchair_sizes` meets its contract: by what the examination answered.
 use mathlib.Core.Path.{sym, _∙_}
-use Rattle.exports.specs.Told.{refused-sized, held-sized}
+use Rattle.exports.specs.NumbersLaws.{refused-sized, held-sized}
 use borrow.Author.Needs.{needs}
 use Rattle.exports.proofs.held.koelchair_sizes.Statement.{statement}
 use Rattle.exports.proofs.held.koelchair_sizes.Tie as tie

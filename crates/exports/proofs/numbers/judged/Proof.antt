@@ -1,6 +1,6 @@
 -- `exports::judged` meets its contract: by the case of the call's answer.
 use Rattle.asking.specs.Answer.{judgeReply}
-use Rattle.exports.specs.Told.{by-case}
+use Rattle.exports.specs.NumbersLaws.{by-case}
 use borrow.Author.Needs.{needs}
 use Rattle.exports.proofs.numbers.judged.Statement.{statement}
 use Rattle.exports.proofs.numbers.judged.Tie as tie

@@ -2,7 +2,7 @@
 use mathlib.Core.Path.{ap, _∙_}
 use Rattle.asking.specs.Answer.{shareReply}
 use Rattle.exports.specs.Numbers.{given}
-use Rattle.exports.specs.Told.{by-case}
+use Rattle.exports.specs.NumbersLaws.{by-case}
 use borrow.Author.Needs.{needs}
 use Rattle.exports.proofs.numbers.per_cent.Statement.{statement}
 use Rattle.exports.proofs.numbers.per_cent.Tie as tie

@@ -3,7 +3,7 @@ use Prim.Native.Nat.{ℕ}
 use mathlib.Core.Path.{_≡_, refl}
 use mathlib.Core.Bool.{Bool, true, false, cond}
 use native.Mathlib.Omega.{arith}
-use Rattle.exports.specs.Told.{empty-named, whole-named}
+use Rattle.exports.specs.NumbersLaws.{empty-named, whole-named}
 use borrow.Author.Needs.{needs}
 use Rattle.exports.proofs.questions.koelchair_show.Statement.{statement}
 use Rattle.exports.proofs.questions.koelchair_show.Tie as tie

@@ -1,4 +1,4 @@
--- `lattice::places::put` meets its contract: each step is within its bounds. Assumes nothing.
+-- `lattice::places::put` meets its contract: each step is within its limits. Assumes nothing.
 use Prim.Native.Nat.{_≤_, _-_}
 use borrow.Author.Needs.{needs}
 use Rattle.lattice.proofs.places.put.Statement.{statement}

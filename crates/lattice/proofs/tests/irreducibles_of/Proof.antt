@@ -3,7 +3,7 @@ use mathlib.Core.Path.{_≡_, sym, ap, _∙_}
 use Prim.Native.Nat.{ℕ, _*_, _%_, _^_, _≤_, _-_}
 use native.Mathlib.Omega.{arith}
 use lib.Bits.{bitOr}
-use Rattle.theory.specs.Simulation.{one}
+use Rattle.theory.specs.Simulation.{indicator}
 use Rattle.theory.specs.Loop.{reached}
 use Rattle.elements.specs.Bits.{bits, bits-begin, bits-more}
 use Rattle.lattice_codes.specs.Tests.{wordsIn, irreducible}
@@ -24,7 +24,7 @@ loop-again : tie.Need-loop-again Inv-loop μ-loop
 loop-again c =
     let a = c .before .before .before .loop .a in
     let p = irreducible (c .before .before .before .before .args .n) (wordsIn (c .before .before .before .before .args .down .now)) in
-    (omega arith, ap (λ (y : ℕ). bitOr y ((c .one .result * 2 ^ a) % 2 ^ 64)) (c .before .before .before .loop .inv .1) ∙ bits-more a p (c .one .result) (omega arith) (c .one .ensures ∙ ap one (c .before .is-irreducible .ensures)))
+    (omega arith, ap (λ (y : ℕ). bitOr y ((c .one .result * 2 ^ a) % 2 ^ 64)) (c .before .before .before .loop .inv .1) ∙ bits-more a p (c .one .result) (omega arith) (c .one .ensures ∙ ap indicator (c .before .is-irreducible .ensures)))
 
 returns : tie.Need-returns Inv-loop μ-loop
 returns c = let i = c .before .loop .inv in i .1 ∙ reached (λ (n : ℕ). bits n (irreducible (c .before .before .args .n) (wordsIn (c .before .before .args .down .now)))) (i .0) (c .loop-test .left)

@@ -7,7 +7,7 @@ use Rattle.theory.specs.Part.{modelOf}
 use Rattle.theory.specs.Simulation.{score}
 use Rattle.elements.specs.Words.{opsIn}
 use Rattle.rounds.specs.Table.{tableOf}
-use Rattle.listing.specs.Text.{roundsWord, scoreWord, lastItem, rowsText, tableText}
+use Rattle.listing.specs.Text.{roundsLabel, scoreLabel, lastItem, rowsText, tableText}
 use Rattle.listing.specs.Writing.{wrote-then, fits-then, fits-first}
 use borrow.Author.Needs.{needs}
 use Rattle.listing.proofs.settling.put_table.Statement.{statement}
@@ -15,7 +15,7 @@ use Rattle.listing.proofs.settling.put_table.Tie as tie
 
 -- the three parts of the text
 abbrev rounds : tie.Start → List ℕ
-rounds s = lastItem roundsWord (s .args .r)
+rounds s = lastItem roundsLabel (s .args .r)
 
 abbrev entry : tie.Start → ℕ → ℕ → ℕ
 entry s = tableOf (s .args .table .now) (getD (s .args .m2 .now) 0 0)
@@ -24,7 +24,7 @@ abbrev rows : tie.Start → List ℕ
 rows s = rowsText (entry s) (getD (s .args .m1 .now) 0 0) (getD (s .args .m2 .now) 0 0)
 
 abbrev mark : tie.Start → List ℕ
-mark s = lastItem scoreWord (score (opsIn (s .args .w .now) (s .args .l)) (modelOf (s .args .m1 .now)) (modelOf (s .args .m2 .now)) (entry s))
+mark s = lastItem scoreLabel (score (opsIn (s .args .w .now) (s .args .l)) (modelOf (s .args .m1 .now)) (modelOf (s .args .m2 .now)) (entry s))
 
 put-last-requires : tie.Need-put-last-requires
 unfolding tableText

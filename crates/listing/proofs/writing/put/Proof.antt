@@ -20,13 +20,13 @@ loop-holds : tie.Need-loop-holds Inv-loop μ-loop
 loop-holds c = (omega arith, refl, paste-zero (c .args .text .now) (c .args .at) (c .args .bytes .now))
 
 -- the text has the length that it had
-kept : (c : tie.At-loop Inv-loop μ-loop) → length (c .loop .text) ≡ length (c .before .args .text .now)
-kept c =
+length-unchanged : (c : tie.At-loop Inv-loop μ-loop) → length (c .loop .text) ≡ length (c .before .args .text .now)
+length-unchanged c =
     let a = c .before .args in
     ap length (c .loop .inv .2) ∙ length-paste (a .text .now) (a .at) (a .bytes .now) (c .loop .j) (omega arith) (omega arith)
 
 slice-write-text : tie.Need-slice-write-text Inv-loop μ-loop
-slice-write-text c = omega (arith, kept (c .before .before))
+slice-write-text c = omega (arith, length-unchanged (c .before .before))
 
 loop-again : tie.Need-loop-again Inv-loop μ-loop
 loop-again c =
@@ -40,7 +40,7 @@ loop-again c =
     )
 
 same-length : tie.Need-same-length Inv-loop μ-loop
-same-length c = kept (c .before)
+same-length c = length-unchanged (c .before)
 
 returns : tie.Need-returns Inv-loop μ-loop
 returns c =

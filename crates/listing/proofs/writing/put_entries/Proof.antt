@@ -4,7 +4,7 @@ use mathlib.Core.List.{List}
 use native.Mathlib.Omega.{arith}
 use lib.ListN.{getD}
 use Rattle.listing.specs.Text.{item, blank, each}
-use Rattle.listing.specs.Writing.{Wrote, each-starts, each-room, each-turn, each-done, each-kept}
+use Rattle.listing.specs.Writing.{Wrote, each-starts, each-room, each-turn, each-done, each-buffer-length}
 use Rattle.listing.proofs.writing.put_entries.Statement.{statement}
 use Rattle.listing.proofs.writing.put_entries.Tie as tie
 
@@ -41,7 +41,7 @@ same-length : tie.Need-same-length Inv-loop μ-loop
 same-length c =
     let s = c .before .before .before .before in
     let l = c .before .loop in
-    each-kept (s .args .text .now) (s .args .at) (s .args .n) (entry (s .args .table .now) (s .args .from)) (s .pre .1) (l .q) (l .text) (l .next) (omega arith) (l .inv .1)
+    each-buffer-length (s .args .text .now) (s .args .at) (s .args .n) (entry (s .args .table .now) (s .args .from)) (s .pre .1) (l .q) (l .text) (l .next) (omega arith) (l .inv .1)
 
 returns : tie.Need-returns Inv-loop μ-loop
 returns c =

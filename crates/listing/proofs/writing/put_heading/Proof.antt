@@ -1,4 +1,4 @@
--- `listing::put_heading` meets its contract: the word and the number, then one byte.
+-- `listing::put_heading` meets its contract: the label and the number, then one byte.
 use native.Mathlib.Omega.{arith}
 use Rattle.listing.specs.Text.{item, colon}
 use Rattle.listing.specs.Writing.{wrote-then, fits-then, fits-first}
@@ -7,7 +7,7 @@ use Rattle.listing.proofs.writing.put_heading.Statement.{statement}
 use Rattle.listing.proofs.writing.put_heading.Tie as tie
 
 put-item-requires : tie.Need-put-item-requires
-put-item-requires c κs = let s = c .before .before .before in fits-first (s .args .text .now) (s .args .at) (item (s .args .word .now) (s .args .n)) colon (s .pre)
+put-item-requires c κs = let s = c .before .before .before in fits-first (s .args .text .now) (s .args .at) (item (s .args .label .now) (s .args .n)) colon (s .pre)
 
 put-requires : tie.Need-put-requires
 put-requires c κs = let s = c .before .before .before .before .before .before .before .before in fits-then colon (s .pre) (c .before .before .before .before .put-item .ensures)

@@ -1,4 +1,4 @@
--- `listing::put_item` meets its contract: the word, then the number.
+-- `listing::put_item` meets its contract: the label, then the number.
 use native.Mathlib.Omega.{arith}
 use Rattle.listing.specs.Text.{decimal}
 use Rattle.listing.specs.Writing.{wrote-then, fits-then, fits-first}
@@ -7,7 +7,7 @@ use Rattle.listing.proofs.writing.put_item.Statement.{statement}
 use Rattle.listing.proofs.writing.put_item.Tie as tie
 
 put-requires : tie.Need-put-requires
-put-requires c κs = let s = c .before .before .before in fits-first (s .args .text .now) (s .args .at) (s .args .word .now) (decimal (s .args .n)) (s .pre)
+put-requires c κs = let s = c .before .before .before in fits-first (s .args .text .now) (s .args .at) (s .args .label .now) (decimal (s .args .n)) (s .pre)
 
 put-number-requires : tie.Need-put-number-requires
 put-number-requires c κs = let s = c .before .before .before .before .before .before .before in fits-then (decimal (s .args .n)) (s .pre) (c .before .before .before .put .ensures)

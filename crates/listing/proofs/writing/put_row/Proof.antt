@@ -3,7 +3,7 @@ use Prim.Native.Nat.{ℕ}
 use mathlib.Core.List.{List, _++_}
 use native.Mathlib.Omega.{arith}
 use Rattle.rounds.specs.Table.{tableOf}
-use Rattle.listing.specs.Text.{rowWord, heading, lineEnd, entriesText, rowText}
+use Rattle.listing.specs.Text.{rowLabel, heading, lineEnd, entriesText, rowText}
 use Rattle.listing.specs.Writing.{wrote-then, fits-then, fits-first}
 use borrow.Author.Needs.{needs}
 use Rattle.listing.proofs.writing.put_row.Statement.{statement}
@@ -11,7 +11,7 @@ use Rattle.listing.proofs.writing.put_row.Tie as tie
 
 -- the row's number, and its entries
 abbrev head : ℕ → List ℕ
-head q = heading rowWord q
+head q = heading rowLabel q
 
 abbrev entries : List ℕ → ℕ → ℕ → List ℕ
 entries table n2 q1 = entriesText (tableOf table n2 q1) n2

@@ -21,7 +21,7 @@ held c = when-held _ _ _ _ (c .before .before .examine .ensures) (c .z .given .1
 returns : tie.Need-returns
 returns c =
     let h = held (c .before .before) in
-    settled-finished (h .case .holds) (desk (c .before .before .before .before)) (h .kept) (c .if1 .taken)
+    settled-finished (h .case .holds) (desk (c .before .before .before .before)) (h .unspoiled) (c .if1 .taken)
 
 slice-aggregate-bytes : tie.Need-slice-aggregate-bytes
 slice-aggregate-bytes c =

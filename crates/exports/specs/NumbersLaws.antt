@@ -2,9 +2,9 @@
 --   isShown, replyOf: whether a reply is show's; the reply that numbers tell
 --   numbers-back: the numbers lose nothing of a reply that is not show's
 --   refused-zero, accepted-some: what show's export names on a refused desk, and on any other
---   by-case, told: for the exports of the other calls, from the call's answer and from what it does
+--   by-case, done-in-numbers: for the exports of the other calls, from the call's answer and from what it does
 --   empty-named, whole-named: for show's export, from the length of what show answered
---   refused-sized, held-sized, with sizesTold: for the export of a desk's sizes, from what the examination answered
+--   refused-sized, held-sized, with sizesInNumbers: for the export of a desk's sizes, from what the examination answered
 use Prim.Native.Nat.{ℕ, _≤_, _<_}
 use mathlib.Core.Path.{_≡_, refl, sym, ap, _∙_}
 use mathlib.Core.Bool.{Bool, true, false, cond}
@@ -29,7 +29,7 @@ use Rattle.desk.specs.RulesLaws.{long-enough}
 use Rattle.exports.specs.declared.Answer.{Answer}
 use Rattle.exports.specs.declared.Shown.{Shown}
 use Rattle.exports.specs.declared.DeskSizes.{DeskSizes}
-use Rattle.exports.specs.Numbers.{numbers, Tells, named, Names, sized}
+use Rattle.exports.specs.Numbers.{numbers, DoneInNumbers, named, ShownInNumbers, sized}
 
 -- ---- the numbers lose nothing of a reply
 
@@ -70,14 +70,14 @@ numbers-back (Reply.Says b) e = go b
     go true = refl
     go false = refl
 
--- ---- what a call does, told in numbers
+-- ---- what a call does, in numbers
 
 -- an answer that is matched: a is the case b
 pub by-case : {A : Type 0} (reply : A → Reply) (a b : A) (x : Answer) → a ≡ b → x ≡ numbers (reply b) → x ≡ numbers (reply a)
 by-case {A} reply a b x e p = p ∙ ap (λ (y : A). numbers (reply y)) (sym e)
 
-pub told : (k : Call) (d : Desk) (x : Reply) (e : Desk) (a : Answer) → Does k d x e → a ≡ numbers x → Tells k d a e
-told k d x e a p q = record { answer = q ∙ sym (ap (λ (r : After). numbers (r .reply)) p); after = sym (ap (λ (r : After). r .desk) p) }
+pub done-in-numbers : (k : Call) (d : Desk) (x : Reply) (e : Desk) (a : Answer) → Does k d x e → a ≡ numbers x → DoneInNumbers k d a e
+done-in-numbers k d x e a p q = record { answer = q ∙ sym (ap (λ (r : After). numbers (r .reply)) p); after = sym (ap (λ (r : After). r .desk) p) }
 
 -- ---- show
 
@@ -110,31 +110,31 @@ module _ (d : Desk) (c : Content) (e : examined show d ≡ content c) where
   whole-shown = perform-accepted show d c e
 
 -- the length of what show answered says whether it was refused
-pub empty-named : (d : Desk) (b : List ℕ) → Does show d (Reply.Shown b) d → length b ≡ 0 → Names d (record { table = 0; length = 0 })
+pub empty-named : (d : Desk) (b : List ℕ) → Does show d (Reply.Shown b) d → length b ≡ 0 → ShownInNumbers d (record { table = 0; length = 0 })
 empty-named d b p z = go (examined show d) refl
   where
-    go : (x : CaseReading) → examined show d ≡ x → Names d (record { table = 0; length = 0 })
+    go : (x : CaseReading) → examined show d ≡ x → ShownInNumbers d (record { table = 0; length = 0 })
     go (refused r) e = record { names = rw e; bytes = perform-refused show d r e }
     go (content c) e = absurd (omega (arith, z, some d c e, ap length (shown-same b (take (tableSize c) (wholeTable d)) d p (whole-shown d c e)), length-take-le (tableSize c) (wholeTable d) (fits d c e)))
 
-pub whole-named : (d : Desk) (b : List ℕ) (t n : ℕ) → Does show d (Reply.Shown b) d → n ≡ length b → 0 < n → t ≡ cond (d .standing .secondWhole) 2 1 → Names d (record { table = t; length = n })
+pub whole-named : (d : Desk) (b : List ℕ) (t n : ℕ) → Does show d (Reply.Shown b) d → n ≡ length b → 0 < n → t ≡ cond (d .standing .secondWhole) 2 1 → ShownInNumbers d (record { table = t; length = n })
 whole-named d b t n p l s w = go (examined show d) refl
   where
     pick : (y : Bool) → cond (eqb (cond y 2 1) 2) (d .second) (d .first) ≡ cond y (d .second) (d .first)
     pick true = refl
     pick false = refl
 
-    go : (x : CaseReading) → examined show d ≡ x → Names d (record { table = t; length = n })
+    go : (x : CaseReading) → examined show d ≡ x → ShownInNumbers d (record { table = t; length = n })
     go (refused r) e = absurd (omega (arith, l, s, ap length (shown-same b [] d p (perform-refused show d r e))))
     go (content c) e =
         let q : n ≡ tableSize c = omega (arith, l, ap length (shown-same b (take (tableSize c) (wholeTable d)) d p (whole-shown d c e)), length-take-le (tableSize c) (wholeTable d) (fits d c e)) in
         record { names = rw (e, q, w); bytes = rw (q, w, pick (d .standing .secondWhole)) (whole-shown d c e) }
 
 -- table 0 and length 0 are named on a refused desk, and neither on any other
-pub refused-zero : (d : Desk) (x : Shown) → Names d x → accepted show d ≡ false → x ≡ record { table = 0; length = 0 }
+pub refused-zero : (d : Desk) (x : Shown) → ShownInNumbers d x → accepted show d ≡ false → x ≡ record { table = 0; length = 0 }
 refused-zero d x n f = let r = refused-refusal show d f in n .names ∙ ap (named d) (r .1)
 
-pub accepted-some : (d : Desk) (x : Shown) → Names d x → accepted show d ≡ true → (0 < x .table) × (0 < x .length)
+pub accepted-some : (d : Desk) (x : Shown) → ShownInNumbers d x → accepted show d ≡ true → (0 < x .table) × (0 < x .length)
 accepted-some d x n t =
     let r = accepted-content show d t in
     let e : x ≡ named d (content (r .0)) = n .names ∙ ap (named d) (r .1) in
@@ -153,8 +153,8 @@ refused-sized d f e = go (examined show d) e
     go (refused r) e = let q : f ≡ r = cc in rw q
     go (content c) e = absurd (let z : _≡_ {A = ℕ} 0 1 = cc in omega arith)
 
-abbrev pub sizesTold : Sizes → DeskSizes
-sizesTold z =
+abbrev pub sizesInNumbers : Sizes → DeskSizes
+sizesInNumbers z =
     record {
       number = 0;
       part = 0;
@@ -165,9 +165,9 @@ sizesTold z =
       formulas = z .formulas;
     }
 
-pub held-sized : (d : Desk) (z : Sizes) → Held z ≡ examinedAnswer (examined show d) → sizesTold z ≡ sized (examined show d)
+pub held-sized : (d : Desk) (z : Sizes) → Held z ≡ examinedAnswer (examined show d) → sizesInNumbers z ≡ sized (examined show d)
 held-sized d z e = go (examined show d) e
   where
-    go : (x : CaseReading) → Held z ≡ examinedAnswer x → sizesTold z ≡ sized x
+    go : (x : CaseReading) → Held z ≡ examinedAnswer x → sizesInNumbers z ≡ sized x
     go (refused r) e = absurd (let z : _≡_ {A = ℕ} 0 1 = cc in omega arith)
     go (content c) e = let q : z ≡ sizesOf c = cc in rw q

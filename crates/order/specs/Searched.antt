@@ -1,19 +1,19 @@
 -- Meets, joins, top and bottom found from an order: what they are, and that there is only one of each. Rests on theory's Part, Test and Loop,
 -- Tests, DeMorgan.
---   element-lt, element-id, element-cong: any number read as an element; one-test: a test as a byte
+--   element-lt, element-id, element-cong: any number read as an element; indicator-test: a test as a byte
 --   all2-at, all2-in, all3-at, all3-in: tests of every two and every three, as facts
 --   first-only, first-some: the only number that passes is the first
 --   join-reversed, meet-reversed, bot-reversed: one order and the other way round
 --   meet-out, meet-in: the test of a meet, as a fact; meet-is: where there is a meet, it is found; meet-some, meet-unique: it exists, and is one
 --   Antisymmetric: two elements at or below one another are the same
---   TopAt, top-only: a top, and that it is one; boundUpTo: one bound of the first numbers
+--   TopAt, top-only: a top, and that it is one; foldUpTo: the fold of an operation over the first numbers
 use Prim.Native.Nat.{ℕ, _%_, _≤_, _<_}
 use mathlib.Core.Path.{_≡_, refl, sym}
 use mathlib.Core.Bool.{Bool, true, false, cond, _&&_}
 use native.Mathlib.Omega.{arith}
 use borrow.Author.Tests.{ltb-true, lt-ltb}
 use lib.Dec.{ltb, eqb}
-use Rattle.theory.specs.Simulation.{one}
+use Rattle.theory.specs.Simulation.{indicator}
 use Rattle.theory.specs.Loop.{fold}
 use Rattle.theory.specs.Part.{LatticePart, isMeet, isJoin, meetOf, joinOf, topOf, botOf, element}
 use Rattle.theory.specs.Test.{allBelow, firstBelow}
@@ -23,9 +23,9 @@ use Rattle.order.specs.DeMorgan.{reversed, MeetAt}
 
 -- ---- a test as a byte
 
-pub one-test : (t : Bool) → eqb (one t) 1 ≡ t
-one-test true = refl
-one-test false = refl
+pub indicator-test : (t : Bool) → eqb (indicator t) 1 ≡ t
+indicator-test true = refl
+indicator-test false = refl
 
 -- ---- a number as an element
 
@@ -132,6 +132,6 @@ top-only P m s w =
     first-only (P .size) _ m (w .inside) (all-in (P .size) _ (w .above))
     (λ i l t. s .same i m l (w .inside) (w .above i l) (all-at (P .size) _ t m (w .inside)))
 
--- f 0 1, f (f 0 1) 2, ..: one bound of all the numbers below k
-abbrev pub boundUpTo : (ℕ → ℕ → ℕ) → ℕ → ℕ
-boundUpTo f k = fold f 0 (λ i. i) k
+-- f 0 1, f (f 0 1) 2, ..: the fold of f over all the numbers below k
+abbrev pub foldUpTo : (ℕ → ℕ → ℕ) → ℕ → ℕ
+foldUpTo f k = fold f 0 (λ i. i) k

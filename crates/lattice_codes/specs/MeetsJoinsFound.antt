@@ -1,8 +1,8 @@
 -- The test of refusal 6 by words: in a partial order with a top, where every & of two words is a word, every two elements have a meet, and so a
--- join, the meet of all elements at or above both. Rests on order's Ordered and Bounds, elements' Bits, Tests, Order.
+-- join, the meet of all elements at or above both. Rests on order's Ordered and Searched, elements' Bits, Tests, Order.
 --   Meets: every two elements have a meet; meet-word, word-meet: the word of a meet, and that only a meet has it
 --   closed-at, meets-closed: from and to the test; top-from, top-word: the word of a top
---   bounded-exactly: the test on the words is that of the order
+--   meetsAndJoins-exactly: the test on the words is that of the order
 use Prim.Native.Nat.{ℕ, zero, suc, _^_, _≤_, _<_}
 use mathlib.Core.Path.{_≡_, refl, sym, ap, ap₂, _∙_}
 use mathlib.Core.Bool.{Bool, true, false, _&&_}
@@ -13,13 +13,13 @@ use lib.Bits.{bitAnd}
 use lib.Dec.{eqb}
 use Rattle.theory.specs.Part.{LatticePart, meetOf, joinOf}
 use Rattle.theory.specs.TestLaws.{below-suc, bool-same, and-l, and-r, and-in, ⇒-elim, ⇒-in, false-true}
-use Rattle.order.specs.Tests.{bounded}
-use Rattle.order.specs.Bounds.{all2-at, all2-in, join-reversed, meet-some, boundUpTo, TopAt}
+use Rattle.order.specs.Tests.{meetsAndJoins}
+use Rattle.order.specs.Searched.{all2-at, all2-in, join-reversed, meet-some, foldUpTo, TopAt}
 use Rattle.order.specs.DeMorgan.{reversed, MeetAt}
-use Rattle.order.specs.Ordered.{Ordered, Bounded, bounded-in, bounded-out, meet-at, top-is}
+use Rattle.order.specs.Ordered.{Ordered, MeetsJoinsFound, meetsAndJoins-in, meetsAndJoins-out, meet-at, top-is}
 use Rattle.elements.specs.Bits.{bits, bits-cong, bits-same, bits-and, bits-at}
 use Rattle.elements.specs.Words.{within}
-use Rattle.lattice_codes.specs.Tests.{any-in, any-out, downOf, allOf, isWord, pairClosed, closed, boundedTest}
+use Rattle.lattice_codes.specs.Tests.{any-in, any-out, downOf, allOf, isWord, pairClosed, closed, meetsAndJoinsTest}
 
 -- every two elements have a meet
 pub record Meets (P : LatticePart) : Type 0 where
@@ -27,8 +27,8 @@ pub record Meets (P : LatticePart) : Type 0 where
   pub lt : (a b : ℕ) → a < P .size → b < P .size → meet a b < P .size
   pub at : (a b : ℕ) → a < P .size → b < P .size → MeetAt P a b (meet a b)
 
-pub bounded-meets : (P : LatticePart) → Bounded P → Meets P
-bounded-meets P w = record { meet = meetOf P; lt = w .meet-lt; at = meet-at P w }
+pub meetsAndJoins-meets : (P : LatticePart) → MeetsJoinsFound P → Meets P
+meetsAndJoins-meets P w = record { meet = meetOf P; lt = w .meet-lt; at = meet-at P w }
 
 module _ (P : LatticePart) (o : Ordered P) where
   -- ---- meets
@@ -120,9 +120,9 @@ module _ (P : LatticePart) (o : Ordered P) where
 
   -- ---- both
 
-  bounded-sound : closed (P .size) (downOf P) (allOf (P .size)) false ≡ true → isWord (P .size) (downOf P) (allOf (P .size)) ≡ true → Bounded P
+  meetsAndJoins-sound : closed (P .size) (downOf P) (allOf (P .size)) false ≡ true → isWord (P .size) (downOf P) (allOf (P .size)) ≡ true → MeetsJoinsFound P
   unfolding isWord
-  bounded-sound t u =
+  meetsAndJoins-sound t u =
       let v = any-out (P .size) (λ c. eqb (downOf P c) (allOf (P .size))) u in
       let w = closed-at t in
       record {
@@ -130,14 +130,14 @@ module _ (P : LatticePart) (o : Ordered P) where
         join-lt = λ a b l k. let m = join-from w (v .number) (top-from (v .number) (v .below) (eqb-true _ _ (v .passed))) a b l k in rw join-reversed (meet-some (reversed P) a b (m .0) (m .1) (m .2));
       }
 
-  pub bounded-top : 0 < P .size → Bounded P → isWord (P .size) (downOf P) (allOf (P .size)) ≡ true
+  pub meetsAndJoins-top : 0 < P .size → MeetsJoinsFound P → isWord (P .size) (downOf P) (allOf (P .size)) ≡ true
   unfolding isWord
-  bounded-top s w =
+  meetsAndJoins-top s w =
       let v = top-is P s o w in
-      any-in (P .size) (λ c. eqb (downOf P c) (allOf (P .size))) (boundUpTo (joinOf P) (P .size)) (v .inside) (eq-eqb _ _ (top-word _ v))
+      any-in (P .size) (λ c. eqb (downOf P c) (allOf (P .size))) (foldUpTo (joinOf P) (P .size)) (v .inside) (eq-eqb _ _ (top-word _ v))
 
-  pub bounded-exactly : 0 < P .size → boundedTest P ≡ bounded P
-  bounded-exactly s =
+  pub meetsAndJoins-exactly : 0 < P .size → meetsAndJoinsTest P ≡ meetsAndJoins P
+  meetsAndJoins-exactly s =
       bool-same _ _
-      (λ t. bounded-in P (bounded-sound (and-l (closed (P .size) (downOf P) (allOf (P .size)) false) _ t) (and-r (closed (P .size) (downOf P) (allOf (P .size)) false) _ t)))
-      (λ t. let w = bounded-out P t in and-in _ _ (meets-closed (bounded-meets P w)) (bounded-top s w))
+      (λ t. meetsAndJoins-in P (meetsAndJoins-sound (and-l (closed (P .size) (downOf P) (allOf (P .size)) false) _ t) (and-r (closed (P .size) (downOf P) (allOf (P .size)) false) _ t)))
+      (λ t. let w = meetsAndJoins-out P t in and-in _ _ (meets-closed (meetsAndJoins-meets P w)) (meetsAndJoins-top s w))

@@ -1,7 +1,7 @@
--- `examination::row_kept` meets its contract: by its tests.
+-- `examination::row_obeys` meets its contract: by its tests.
 use borrow.Author.Tests.{lt-ltb, le-ltb, eq-eqb, ne-eqb}
-use Rattle.examination.proofs.row_kept.Statement.{statement}
-use Rattle.examination.proofs.row_kept.Tie as tie
+use Rattle.examination.proofs.row_obeys.Statement.{statement}
+use Rattle.examination.proofs.row_obeys.Tie as tie
 
 returns : tie.Need-returns
 returns c = simp (le-ltb _ _ (c .if1 .taken))
@@ -12,5 +12,5 @@ returns-2 c = simp (lt-ltb _ _ (c .before .before .before .if1 .left), eq-eqb _ 
 returns-3 : tie.Need-returns-3
 returns-3 c = simp (lt-ltb _ _ (c .before .before .if1 .left), ne-eqb _ _ (c .if2 .left))
 
-pub row-kept-spec : {M : Type 1} → statement M
-row-kept-spec = tie.close (tie.spec returns returns-2 returns-3)
+pub row-obeys-spec : {M : Type 1} → statement M
+row-obeys-spec = tie.close (tie.spec returns returns-2 returns-3)

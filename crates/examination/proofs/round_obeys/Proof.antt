@@ -1,20 +1,20 @@
--- `examination::round_kept` meets its contract: by its tests.
+-- `examination::round_obeys` meets its contract: by its tests.
 use Prim.Native.Nat.{ℕ}
 use mathlib.Core.Path.{_≡_}
 use mathlib.Core.Bool.{false}
 use lib.Dec.{leb}
 use Rattle.desk.specs.Desk.{Standing}
-use Rattle.desk.specs.Refused.{roundKept}
+use Rattle.desk.specs.Refused.{roundObeys}
 use Rattle.examination.specs.Read.{standingOf}
 use Rattle.theory.specs.TestLaws.{and-false}
 use native.Mathlib.Omega.{arith}
 use borrow.Author.Tests.{le-leb, lt-leb}
 use borrow.Author.Needs.{needs}
-use Rattle.examination.proofs.round_kept.Statement.{statement}
-use Rattle.examination.proofs.round_kept.Tie as tie
+use Rattle.examination.proofs.round_obeys.Statement.{statement}
+use Rattle.examination.proofs.round_obeys.Tie as tie
 
-unsettled-kept : (most : ℕ) (s : Standing) → s .settled ≡ false → leb (s .round) most ≡ roundKept most s
-unsettled-kept most s e = rw e
+unsettled-obeys : (most : ℕ) (s : Standing) → s .settled ≡ false → leb (s .round) most ≡ roundObeys most s
+unsettled-obeys most s e = rw e
 
 returns : tie.Need-returns
 returns c = simp (c .before .if1 .taken, lt-leb 1 (c .before .before .before .args .s .round) (omega arith))
@@ -26,7 +26,7 @@ returns-3 : tie.Need-returns-3
 returns-3 c = simp (c .before .before .before .if1 .taken, le-leb 1 (c .before .before .before .before .before .args .s .round) (omega arith), le-leb _ _ (c .before .if3 .left))
 
 returns-4 : tie.Need-returns-4
-returns-4 c = let a = c .before .before .args in unsettled-kept (a .most) (standingOf (a .s)) (c .if1 .left)
+returns-4 c = let a = c .before .before .args in unsettled-obeys (a .most) (standingOf (a .s)) (c .if1 .left)
 
-pub round-kept-spec : {M : Type 1} → statement M
-round-kept-spec = tie.close (tie.spec (λ c. search needs) returns (λ c. search needs) returns-2 returns-3 returns-4)
+pub round-obeys-spec : {M : Type 1} → statement M
+round-obeys-spec = tie.close (tie.spec (λ c. search needs) returns (λ c. search needs) returns-2 returns-3 returns-4)
