@@ -11,7 +11,7 @@ use lib.ListN.{length, getD}
 use Rattle.theory.specs.Lattice.{Laws}
 use Rattle.theory.specs.Model.{Valued}
 use Rattle.theory.specs.Part.{opsOf, modelOf, ModelShape}
-use Rattle.order.specs.Sound.{LatticeSound}
+use Rattle.lattice_order.specs.Sound.{LatticeSound}
 use Rattle.lattice.specs.Accepted.{accepted-is-lattice, accepted-sound}
 use Rattle.model.specs.Places.{prod-le}
 use Rattle.model.specs.Accepted.{accepted-shape, accepted-valued}

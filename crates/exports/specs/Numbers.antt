@@ -1,5 +1,5 @@
 -- The numbers that the exports answer, for each of the desk's replies and for what a desk holds. Rests on desk's Desk, Case, Refused and Perform,
--- refusal's Number, and examination's Read.
+-- refusal's Number, and desk_check's Read.
 --   numbers: the numbers of a reply
 --   DoneInNumbers, AskedInNumbers: what an export of a call says, and one of a call that only reads
 --   named, namedBytes, ShownInNumbers: what show's export says
@@ -16,8 +16,8 @@ use Rattle.desk.specs.Desk.{Desk, Call, Question, Reply}
 use Rattle.desk.specs.Case.{latticeSize, model1, N1, N2, tableSize}
 use Rattle.desk.specs.Refused.{examined}
 use Rattle.desk.specs.Perform.{perform}
-use Rattle.examination.specs.declared.Standing.{Standing}
-use Rattle.examination.specs.Read.{deskOf}
+use Rattle.desk_check.specs.declared.Standing.{Standing}
+use Rattle.desk_check.specs.Read.{deskOf}
 use Rattle.exports.specs.declared.Answer.{Answer}
 use Rattle.exports.specs.declared.Shown.{Shown}
 use Rattle.exports.specs.declared.DeskSizes.{DeskSizes}

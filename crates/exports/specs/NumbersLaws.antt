@@ -1,4 +1,4 @@
--- What the exports' numbers tell, and how they follow from what the calls do. Rests on Numbers, moving's and asking's Answer, desk's RefusedLaws, casefile's Content and examination's Answer.
+-- What the exports' numbers tell, and how they follow from what the calls do. Rests on Numbers, moving's and desk_questions's Answer, desk's RefusedLaws, casefile's Content and desk_check's Answer.
 --   isShown, replyOf: whether a reply is show's; the reply that numbers tell
 --   numbers-back: the numbers lose nothing of a reply that is not show's
 --   refused-zero, accepted-some: what show's export names on a refused desk, and on any other
@@ -16,8 +16,8 @@ use lib.Seq.{length-take-le}
 use Rattle.refusal.specs.declared.Refusal.{Refusal}
 use Rattle.casefile.specs.declared.Sizes.{Sizes}
 use Rattle.casefile.specs.Answer.{sizesOf}
-use Rattle.examination.specs.declared.Examined.the-variants.{Refused, Held}
-use Rattle.examination.specs.Answer.{examinedAnswer, Does}
+use Rattle.desk_check.specs.declared.Examined.the-variants.{Refused, Held}
+use Rattle.desk_check.specs.Answer.{examinedAnswer, Does}
 use Rattle.casefile.specs.Reading.{Content, CaseReading, refused, content}
 use Rattle.casefile.specs.Content.{ContentSound, content-sound}
 use Rattle.desk.specs.Desk.{Desk, Call, Reply, wholeTable}

@@ -1,11 +1,11 @@
 // What a desk holds.
 use crate::DeskSizes;
-use examination::Examined;
-use examination::Standing;
+use desk_check::Examined;
+use desk_check::Standing;
 ghost use mathlib.Core.Path.{_≡_};
 ghost use Rattle.desk.specs.Desk.{Call};
 ghost use Rattle.desk.specs.Refused.{examined};
-ghost use Rattle.examination.specs.Read.{deskOf};
+ghost use Rattle.desk_check.specs.Read.{deskOf};
 ghost use Rattle.exports.specs.Numbers.{sized};
 
 // The sizes of what a desk holds, or the refusal that it gets.
@@ -18,7 +18,7 @@ pub extern "C" fn koelchair_sizes(
 ) -> DeskSizes
     ensures { λ r. ⌜ r ≡ sized (examined Call.Show (deskOf s (now (store .entry)) (now (first .entry)) (now (second .entry)))) ⌝ }
 {
-    match examination::sizes(s, store, first, second) {
+    match desk_check::sizes(s, store, first, second) {
         Examined::Refused(f) => DeskSizes {
             number: refusal::number(f),
             part: refusal::part(f),

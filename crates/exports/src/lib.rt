@@ -11,7 +11,7 @@ mod moves;
 mod numbers;
 mod questions;
 
-use examination::Standing;
+use desk_check::Standing;
 ghost use mathlib.Core.Path.{_≡_};
 ghost use lib.ListN.{length};
 ghost use Rattle.theory.specs.Lists.{written};

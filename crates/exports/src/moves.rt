@@ -2,9 +2,9 @@
 use crate::Moved;
 use crate::numbers::opened;
 use crate::numbers::stepped;
-use examination::Standing;
+use desk_check::Standing;
 ghost use Rattle.desk.specs.Desk.{Call};
-ghost use Rattle.examination.specs.Read.{deskOf};
+ghost use Rattle.desk_check.specs.Read.{deskOf};
 ghost use Rattle.exports.specs.Numbers.{DoneInNumbers};
 
 // Takes a case, and makes the desk anew.
@@ -19,7 +19,7 @@ pub extern "C" fn koelchair_open(
     ensures { λ r. ⌜ DoneInNumbers (Call.Open (now (case .entry))) (deskOf s (now (store .entry)) (now (first .entry)) (now (second .entry)))
         (r .answer) (deskOf (r .standing) (now (store .exit)) (now (first .exit)) (now (second .exit))) ⌝ }
 {
-    let o = moving::open(s, case, store, first, second);
+    let o = desk_moves::open(s, case, store, first, second);
     let after = o.standing;
     let a = o.answer;
     Moved {
@@ -39,7 +39,7 @@ pub extern "C" fn koelchair_step(
     ensures { λ r. ⌜ DoneInNumbers Call.Step (deskOf s (now (store .entry)) (now (first .entry)) (now (second .entry)))
         (r .answer) (deskOf (r .standing) (now (store .entry)) (now (first .exit)) (now (second .exit))) ⌝ }
 {
-    let o = moving::step(s, store, first, second);
+    let o = desk_moves::step(s, store, first, second);
     let next = o.standing;
     let a = o.answer;
     Moved {

@@ -1,15 +1,15 @@
 // The calls' answers as numbers.
 use crate::Answer;
-use asking::ElementAnswer;
-use asking::JudgeAnswer;
-use asking::ShareAnswer;
-use moving::OpenAnswer;
-use moving::StepAnswer;
+use desk_moves::OpenAnswer;
+use desk_moves::StepAnswer;
+use desk_questions::ElementAnswer;
+use desk_questions::JudgeAnswer;
+use desk_questions::ShareAnswer;
 use refusal::Refusal;
 ghost use mathlib.Core.Path.{_≡_};
 ghost use Rattle.desk.specs.Refused.{numberReply};
-ghost use Rattle.moving.specs.Answer.{stepReply, openReply};
-ghost use Rattle.asking.specs.Answer.{elementReply, shareReply, judgeReply};
+ghost use Rattle.desk_moves.specs.Answer.{stepReply, openReply};
+ghost use Rattle.desk_questions.specs.Answer.{elementReply, shareReply, judgeReply};
 ghost use Rattle.exports.specs.Numbers.{given, numbers};
 
 pub fn refused(f: Refusal) -> Answer

@@ -4,11 +4,11 @@ use crate::Shown;
 use crate::numbers::element;
 use crate::numbers::judged;
 use crate::numbers::per_cent;
+use desk_check::Standing;
 use elements::Element;
-use examination::Standing;
 use model::State;
 ghost use Rattle.desk.specs.Desk.{Question};
-ghost use Rattle.examination.specs.Read.{deskOf};
+ghost use Rattle.desk_check.specs.Read.{deskOf};
 ghost use Rattle.exports.specs.Numbers.{AskedInNumbers, ShownInNumbers};
 
 // Which table is the whole one, and how many of its bytes are shown.
@@ -21,7 +21,7 @@ pub extern "C" fn koelchair_show<'a>(
 ) -> Shown
     ensures { λ r. ⌜ ShownInNumbers (deskOf s (now (store .entry)) (now (first .entry)) (now (second .entry))) r ⌝ }
 {
-    let shown = asking::show(s, store, first, second);
+    let shown = desk_questions::show(s, store, first, second);
     let n = shown.len();
     if n == 0 {
         return Shown {
@@ -54,7 +54,7 @@ pub extern "C" fn koelchair_value(
 ) -> Answer
     ensures { λ r. ⌜ AskedInNumbers (Question.Value formula model state) s (now (store .entry)) (now (first .entry)) (now (second .entry)) r ⌝ }
 {
-    element(asking::value(s, store, first, second, formula, model, State(state)))
+    element(desk_questions::value(s, store, first, second, formula, model, State(state)))
 }
 
 // A formula's value on model 1 or 2.
@@ -69,7 +69,7 @@ pub extern "C" fn koelchair_whole(
 ) -> Answer
     ensures { λ r. ⌜ AskedInNumbers (Question.Whole formula model) s (now (store .entry)) (now (first .entry)) (now (second .entry)) r ⌝ }
 {
-    element(asking::whole(s, store, first, second, formula, model))
+    element(desk_questions::whole(s, store, first, second, formula, model))
 }
 
 // The score of the shown table.
@@ -82,7 +82,7 @@ pub extern "C" fn koelchair_score<'a>(
 ) -> Answer
     ensures { λ r. ⌜ AskedInNumbers Question.Score s (now (store .entry)) (now (first .entry)) (now (second .entry)) r ⌝ }
 {
-    element(asking::score(s, store, first, second))
+    element(desk_questions::score(s, store, first, second))
 }
 
 // The per cent of shown entries at or above an element.
@@ -96,7 +96,7 @@ pub extern "C" fn koelchair_share<'a>(
 ) -> Answer
     ensures { λ r. ⌜ AskedInNumbers (Question.Share e) s (now (store .entry)) (now (first .entry)) (now (second .entry)) r ⌝ }
 {
-    per_cent(asking::share(s, store, first, second, Element(e)))
+    per_cent(desk_questions::share(s, store, first, second, Element(e)))
 }
 
 // Whether a table is a simulation.
@@ -110,5 +110,5 @@ pub extern "C" fn koelchair_judge(
 ) -> Answer
     ensures { λ r. ⌜ AskedInNumbers (Question.Judge (now (table .entry))) s (now (store .entry)) (now (first .entry)) (now (second .entry)) r ⌝ }
 {
-    judged(asking::judge(s, store, first, second, table))
+    judged(desk_questions::judge(s, store, first, second, table))
 }

@@ -14,10 +14,10 @@ use lib.Seq.{drop-drop}
 use borrow.Author.Tests.{le-leb, lt-leb}
 use Rattle.theory.specs.Formula.{Formula, bottom, top, prop, negated, var, or, and, AX, EX, mu, nu, nestedBinders}
 use Rattle.model.specs.declared.Proposition.{Proposition}
-use Rattle.tokens.specs.declared.Token.{Token}
-use Rattle.tokens.specs.declared.Token.the-variants.{Bottom, Top, Literal, Variable, Two, Next, Fixpoint, End, Broken as Broken′}
-use Rattle.tokens.specs.Tokens.{tokenSize}
-use Rattle.tokens.specs.Sizes.{Stands, stands-within}
+use Rattle.formula_tokens.specs.declared.Token.{Token}
+use Rattle.formula_tokens.specs.declared.Token.the-variants.{Bottom, Top, Literal, Variable, Two, Next, Fixpoint, End, Broken as Broken′}
+use Rattle.formula_tokens.specs.Tokens.{tokenSize}
+use Rattle.formula_tokens.specs.Sizes.{Stands, stands-within}
 use Rattle.formula.specs.Bytes.{bytesOf, Parsed, parsed, unparsed, unary, binary, parse, allowed, whole, formulaReading}
 use Rattle.formula.specs.RoundTrip.{bytes-parse, bytes-least}
 use Rattle.formula.specs.ByToken.{byToken, parse-token}

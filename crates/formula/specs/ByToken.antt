@@ -1,5 +1,5 @@
 -- The parse by tokens: the token at the front of some bytes, and the bytes after it, decide the formula there, so that a function that goes
--- by tokens reads what `parse` says. Rests on Bytes, RoundTrip and tokens' Tokens.
+-- by tokens reads what `parse` says. Rests on Bytes, RoundTrip and formula_tokens' Tokens.
 --   byToken: the formula that begins with a token
 --   parse-token: it is what `parse` gives
 --   token-bytes: the first token of a formula's bytes is its first node
@@ -10,10 +10,10 @@ use mathlib.Core.List.{List, [], _∷_, _++_}
 use native.Mathlib.Omega.{arith}
 use lib.ListN.{length, drop}
 use Rattle.theory.specs.Formula.{Formula, bottom, top, prop, negated, var, or, and, AX, EX, mu, nu}
-use Rattle.tokens.specs.declared.Token.{Token}
-use Rattle.tokens.specs.declared.Token.the-variants.{Bottom, Top, Literal, Variable, Two, Next, Fixpoint, End, Broken}
-use Rattle.tokens.specs.Tokens.{tokenByCode, tokenOf, tokenSize, nodeOf}
-use Rattle.tokens.specs.Sizes.{code-other}
+use Rattle.formula_tokens.specs.declared.Token.{Token}
+use Rattle.formula_tokens.specs.declared.Token.the-variants.{Bottom, Top, Literal, Variable, Two, Next, Fixpoint, End, Broken}
+use Rattle.formula_tokens.specs.Tokens.{tokenByCode, tokenOf, tokenSize, nodeOf}
+use Rattle.formula_tokens.specs.Sizes.{code-other}
 use Rattle.formula.specs.Bytes.{bytesOf, Parsed, parsed, unparsed, unary, binary, byCode, parse}
 use Rattle.formula.specs.RoundTrip.{parse-code, parse-nil, code-refused}
 

@@ -1,5 +1,5 @@
 -- The parse and the bytes of a formula are inverse to one another, so that a formula part is read as φ exactly when it is the bytes
--- of φ, at most 255 of them, and φ is allowed. Rests on Bytes and tokens' Sizes.
+-- of φ, at most 255 of them, and φ is allowed. Rests on Bytes and formula_tokens' Sizes.
 --   reading-exactly: a part is read as φ exactly when it is the bytes of φ, at most 255, and φ is allowed
 --   parse-bytes, bytes-parse, bytes-injective: parse and bytes are inverse to one another
 --   code-refused: a code from 11 on; parse-code, parse-nil: the parse by the first byte; bytes-least: a formula has a byte
@@ -16,7 +16,7 @@ use lib.ListN.{length, length-append}
 use borrow.Author.Tests.{le-leb, leb-true}
 use Rattle.theory.specs.Formula.{Formula, bottom, top, prop, negated, var, or, and, AX, EX, mu, nu, closed, overProps, nestedBinders}
 use Rattle.theory.specs.TestLaws.{and-l, and-r}
-use Rattle.tokens.specs.Sizes.{code-past}
+use Rattle.formula_tokens.specs.Sizes.{code-past}
 use Rattle.formula.specs.Bytes.{bytesOf, Parsed, parsed, unparsed, numbered, unary, binary, byCode, parse, allowed, whole, FormulaReading, read, refused, formulaReading}
 
 -- a formula is found or not

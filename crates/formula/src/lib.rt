@@ -5,9 +5,9 @@ ghost use lib.Dec.{ltb};
 ghost use Rattle.formula.specs.Bytes.{formulaReading};
 ghost use Rattle.formula.specs.Check.{endIf, NodeIs};
 ghost use Rattle.formula.specs.Answer.{checked};
-use tokens::Token;
-use tokens::size;
-use tokens::token_at;
+use formula_tokens::Token;
+use formula_tokens::size;
+use formula_tokens::token_at;
 
 // What the check of a formula part answers.
 pub enum FormulaCheck {

@@ -1,4 +1,4 @@
--- An accepted part is a distributive De Morgan lattice, and every such lattice is accepted. Rests on theory's Lattice, order's Sound and Exactly,
+-- An accepted part is a distributive De Morgan lattice, and every such lattice is accepted. Rests on theory's Lattice, lattice_order's Sound and Exactly,
 -- Reading, Numbered.
 --   accepted-is-lattice: the operations of an accepted part obey the laws
 --   lattice-exactly: accepted are exactly the parts of the right form that are such lattices; lattice-is-accepted is one direction
@@ -14,10 +14,10 @@ use lib.ListN.{getD}
 use Rattle.theory.specs.Lattice.{Laws}
 use Rattle.theory.specs.Part.{LatticePart, meetOf, joinOf, opsOf, explicitPart}
 use Rattle.refusal.specs.declared.Refusal.{Refusal}
-use Rattle.order.specs.DeMorgan.{DeMorganLattice}
-use Rattle.order.specs.Ordered.{Formed, ordered-out, ordered-in, meetsAndJoins-out, meetsAndJoins-in}
-use Rattle.order.specs.Sound.{LatticeSound, lawsOf}
-use Rattle.order.specs.Exactly.{lattice-ordered, lattice-meetsAndJoins, lattice-distributive, lattice-complements, sound-lattice}
+use Rattle.lattice_order.specs.DeMorgan.{DeMorganLattice}
+use Rattle.lattice_order.specs.Ordered.{Formed, ordered-out, ordered-in, meetsAndJoins-out, meetsAndJoins-in}
+use Rattle.lattice_order.specs.Sound.{LatticeSound, lawsOf}
+use Rattle.lattice_order.specs.Exactly.{lattice-ordered, lattice-meetsAndJoins, lattice-distributive, lattice-complements, sound-lattice}
 use Rattle.lattice.specs.Panel.{panelPart}
 use Rattle.lattice.specs.Numbered.{explicit-out}
 use Rattle.lattice.specs.Reading.{LatticeReading, accepted, isPanel, latticeOf, explicitForm, latticeForm, partialOrder, meetsAndJoins, distributive, complementRules, require, partReading, latticeReading}

@@ -16,8 +16,8 @@ use Rattle.theory.specs.TestLaws.{and-in, false-true, not-passed}
 use Rattle.elements.specs.declared.Lattice.{Lattice}
 use Rattle.refusal.specs.declared.Refusal.{Refusal}
 use Rattle.refusal.specs.declared.Refusal.the-variants.{NoPartialOrder, NoMeetOrJoin, NotDistributive, BadComplement}
-use Rattle.order.specs.Tests.{partialOrder, meetsAndJoins, distributive, complementRules}
-use Rattle.order.specs.Ordered.{ordered-in, ordered-out, meetsAndJoins-in}
+use Rattle.lattice_order.specs.Tests.{partialOrder, meetsAndJoins, distributive, complementRules}
+use Rattle.lattice_order.specs.Ordered.{ordered-in, ordered-out, meetsAndJoins-in}
 use Rattle.lattice.specs.declared.LatticeCheck.{LatticeCheck}
 use Rattle.lattice.specs.declared.LatticeCheck.the-variants.{Refused, Accepted}
 use Rattle.lattice.specs.Reading.{LatticeReading, refused, accepted, require, partReading}

@@ -1,4 +1,4 @@
--- What a caller of the check learns of a part from the answer. Rests on theory's Lattice, order's Sound, lattice_codes' Held, Reading, Answer and
+-- What a caller of the check learns of a part from the answer. Rests on theory's Lattice, lattice_order's Sound, lattice_codes' Held, Reading, Answer and
 -- Accepted.
 --   codes-ops, codes-coded: the codes of an accepted part hold its operations, and are as `elements` asks
 --   AcceptedPart: the part is accepted, size, top, bottom and codes are its own, no refusal applies, and the laws hold
@@ -12,7 +12,7 @@ use Rattle.theory.specs.Part.{LatticePart, opsOf}
 use Rattle.elements.specs.declared.Lattice.{Lattice}
 use Rattle.elements.specs.Words.{opsIn, Coded}
 use Rattle.refusal.specs.declared.Refusal.{Refusal}
-use Rattle.order.specs.Sound.{LatticeSound, lawsOf}
+use Rattle.lattice_order.specs.Sound.{LatticeSound, lawsOf}
 use Rattle.lattice_codes.specs.Accepting.{DistributiveLattice}
 use Rattle.lattice_codes.specs.Held.{held-ops, held-coded}
 use Rattle.lattice.specs.declared.LatticeCheck.the-variants.{Refused, Accepted}

@@ -10,7 +10,7 @@ use Rattle.theory.specs.Lists.{Filled}
 use Rattle.theory.specs.Part.{LatticePart}
 use Rattle.refusal.specs.declared.Refusal.{Refusal}
 use Rattle.refusal.specs.declared.Refusal.the-variants.{LatticeForm}
-use Rattle.order.specs.Ordered.{Formed}
+use Rattle.lattice_order.specs.Ordered.{Formed}
 use Rattle.lattice.specs.declared.LatticeCheck.{LatticeCheck}
 use Rattle.lattice.specs.declared.LatticeCheck.the-variants.{Refused}
 use Rattle.lattice.specs.Reading.{LatticeReading, refused, require, latticeOf, latticeForm, latticeReading, partReading}

@@ -1,5 +1,5 @@
 -- What a lattice part has to be, a statement beside each test of Reading, and which refusal it is given exactly when: 4 to 8 of document 01's
--- table 'What a refused call gives'. Rests on theory's Part, order's DeMorgan and Ordered, Reading.
+-- table 'What a refused call gives'. Rests on theory's Part, lattice_order's DeMorgan and Ordered, Reading.
 --   ExplicitForm, HasForm: refusal 4; Ordered: refusal 5, order's; MeetsAndJoins: refusal 6; Distributive: refusal 7; ComplementRules: refusal 8
 --   Breaks4, Breaks5, Breaks6, Breaks7, Breaks8: a part breaks what refusal 4, 5, .. asks, and nothing that an earlier one asks
 --   LatticeRefused: each is given exactly when the part breaks what it asks and nothing earlier, and no other is given
@@ -13,10 +13,10 @@ use Rattle.theory.specs.Part.{LatticePart, meetOf, joinOf}
 use Rattle.refusal.specs.declared.Refusal.{Refusal}
 use Rattle.refusal.specs.declared.Refusal.the-variants.{LatticeForm, NoPartialOrder, NoMeetOrJoin, NotDistributive, BadComplement}
 use Rattle.refusal.specs.Number.{numberOf}
-use Rattle.order.specs.DeMorgan.{reversed, MeetAt}
+use Rattle.lattice_order.specs.DeMorgan.{reversed, MeetAt}
 use Rattle.lattice.specs.Reading.{refused, latticeOf, latticeReading}
 -- 'The order is reflexive, antisymmetric and transitive.'
-pub use Rattle.order.specs.Ordered.{Ordered}
+pub use Rattle.lattice_order.specs.Ordered.{Ordered}
 
 -- 'A lattice part is n (1 to 64), then n complement bytes, then n·n order bytes', each complement below n, each order byte 0 or 1
 pub record ExplicitForm (n : ℕ) (b : List ℕ) : Type 0 where

@@ -1,2 +1,2 @@
 -- What a distributive De Morgan lattice on the numbers below n is: order's definition.
-pub use Rattle.order.specs.DeMorgan.{reversed, MeetAt, DeMorganLattice}
+pub use Rattle.lattice_order.specs.DeMorgan.{reversed, MeetAt, DeMorganLattice}

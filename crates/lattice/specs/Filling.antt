@@ -1,4 +1,4 @@
--- The words of a lattice as the code fills them, and the rules of its complement on them. Rests on theory's Part and Lists, order's Ordered,
+-- The words of a lattice as the code fills them, and the rules of its complement on them. Rests on theory's Part and Lists, lattice_order's Ordered,
 -- lattice's Reading, elements' Words, Tests, Accepting, CodesOf, Answer.
 --   wordsBy: what belongs at each of the 128 places; held-from: filled so, they hold the lattice
 --   involutive, antitonePair, antitone: the rules of the complement, as the code tests them
@@ -19,9 +19,9 @@ use Rattle.theory.specs.TestLaws.{and-in, and-false, cond-true, cond-false}
 use Rattle.elements.specs.declared.Lattice.{Lattice}
 use Rattle.refusal.specs.declared.Refusal.{Refusal}
 use Rattle.refusal.specs.declared.Refusal.the-variants.{BadComplement}
-use Rattle.order.specs.Tests.{all2, complementRules}
-use Rattle.order.specs.Searched.{element-lt, element-cong}
-use Rattle.order.specs.Ordered.{Formed}
+use Rattle.lattice_order.specs.Tests.{all2, complementRules}
+use Rattle.lattice_order.specs.Searched.{element-lt, element-cong}
+use Rattle.lattice_order.specs.Ordered.{Formed}
 use Rattle.lattice.specs.declared.LatticeCheck.{LatticeCheck}
 use Rattle.lattice.specs.declared.LatticeCheck.the-variants.{Refused, Accepted}
 use Rattle.lattice.specs.Reading.{LatticeReading, refused, accepted, require, partReading}

@@ -1,4 +1,4 @@
--- Which of the refusals 4 to 8 a lattice part is given. Rests on order's Ordered and Searched, refusal's First, Reading, Conditions.
+-- Which of the refusals 4 to 8 a lattice part is given. Rests on lattice_order's Ordered and Searched, refusal's First, Reading, Conditions.
 --   explicit-out: the form test of an explicit part, as facts
 --   form-exactly, ordered-exactly, meetsAndJoins-exactly, distributive-exactly, complements-exactly: each test says what its statement says
 --   lattice-refused: each refusal is given exactly when the part breaks what it asks and nothing earlier, and no other is given
@@ -18,9 +18,9 @@ use Rattle.refusal.specs.declared.Refusal.{Refusal}
 use Rattle.refusal.specs.declared.Refusal.the-variants.{LatticeForm, NoPartialOrder, NoMeetOrJoin, NotDistributive, BadComplement}
 use Rattle.refusal.specs.Number.{numberOf}
 use Rattle.refusal.specs.First.{first-here, first-later, first-never}
-use Rattle.order.specs.Searched.{all2-at, all2-in, all3-at, all3-in, join-reversed, meet-some}
-use Rattle.order.specs.DeMorgan.{reversed}
-use Rattle.order.specs.Ordered.{ordered-out, ordered-in, meetsAndJoins-out, meetsAndJoins-in, meet-at, join-at}
+use Rattle.lattice_order.specs.Searched.{all2-at, all2-in, all3-at, all3-in, join-reversed, meet-some}
+use Rattle.lattice_order.specs.DeMorgan.{reversed}
+use Rattle.lattice_order.specs.Ordered.{ordered-out, ordered-in, meetsAndJoins-out, meetsAndJoins-in, meet-at, join-at}
 use Rattle.lattice.specs.Reading.{LatticeReading, refused, accepted, isPanel, latticeOf, explicitForm, latticeForm, partialOrder, meetsAndJoins, distributive, complementRules, require, partReading, latticeReading}
 use Rattle.lattice.specs.Conditions.{ExplicitForm, HasForm, Ordered, MeetsAndJoins, Distributive, ComplementRules, LatticeRefused}
 

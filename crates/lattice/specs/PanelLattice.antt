@@ -1,4 +1,4 @@
--- The panel lattice is a distributive De Morgan lattice. Rests on theory's Lattice, order's Exactly and Agree, Panel, Reading, Accepted, Form.
+-- The panel lattice is a distributive De Morgan lattice. Rests on theory's Lattice, lattice_order's Exactly and Agree, Panel, Reading, Accepted, Form.
 --   panel-read, panel-accepted: the one byte 0 is the panel lattice, and is accepted
 --   PanelBytes: an explicit part with the panel's elements, complements and order
 --   panel-bytes-same, panel-bytes-accepted: it has the same operations, and is accepted
@@ -18,12 +18,12 @@ use Rattle.theory.specs.Part.{opsOf, explicitPart}
 use Rattle.theory.specs.TestLaws.{and-l, and-r, and-in, all-in}
 use Rattle.lattice.specs.Panel.{panelOrder, panelPart}
 use Rattle.lattice.specs.Reading.{isPanel, latticeOf, latticeForm, accepted, latticeReading}
-use Rattle.order.specs.Searched.{indicator-test}
+use Rattle.lattice_order.specs.Searched.{indicator-test}
 use Rattle.theory.specs.Height.{distinct-le}
 use Rattle.lattice.specs.Accepted.{lattice-is-accepted}
-use Rattle.order.specs.Exactly.{ops-lattice}
+use Rattle.lattice_order.specs.Exactly.{ops-lattice}
 use Rattle.lattice.specs.Form.{part-explicit, form-last}
-use Rattle.order.specs.Agree.{ops-cong}
+use Rattle.lattice_order.specs.Agree.{ops-cong}
 
 -- ---- the operations, digit by digit. Any number is read by its remainder by 27
 

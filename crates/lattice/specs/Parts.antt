@@ -12,8 +12,8 @@ use Rattle.theory.specs.Lists.{Filled}
 use Rattle.theory.specs.Loop.{indicator-most}
 use Rattle.theory.specs.Part.{LatticePart, explicitPart, element}
 use Rattle.theory.specs.Simulation.{indicator}
-use Rattle.order.specs.Searched.{indicator-test, element-lt}
-use Rattle.order.specs.Ordered.{Formed}
+use Rattle.lattice_order.specs.Searched.{indicator-test, element-lt}
+use Rattle.lattice_order.specs.Ordered.{Formed}
 use Rattle.lattice.specs.Panel.{panelOrder, panelPart}
 use Rattle.lattice.specs.Reading.{isPanel, latticeOf, latticeForm}
 use Rattle.lattice.specs.Conditions.{ExplicitForm}

@@ -1,4 +1,4 @@
--- The reading of a lattice part: refused by the first of the refusals 4 to 8 that applies, or accepted. Rests on theory's Part, order's Tests,
+-- The reading of a lattice part: refused by the first of the refusals 4 to 8 that applies, or accepted. Rests on theory's Part, lattice_order's Tests,
 -- Panel.
 --   isPanel, latticeOf: what the bytes say; explicitForm, latticeForm: refusal 4
 --   LatticeReading, require, partReading, latticeReading: the refusal, or the part accepted
@@ -14,7 +14,7 @@ use Rattle.refusal.specs.declared.Refusal.{Refusal}
 use Rattle.refusal.specs.declared.Refusal.the-variants.{LatticeForm, NoPartialOrder, NoMeetOrJoin, NotDistributive, BadComplement}
 use Rattle.lattice.specs.Panel.{panelPart}
 -- the tests of refusals 5 to 8
-unfoldable pub use Rattle.order.specs.Tests.{reflexive, antisymmetric, transitive, partialOrder, meetsAndJoins, distributive, complementRules}
+unfoldable pub use Rattle.lattice_order.specs.Tests.{reflexive, antisymmetric, transitive, partialOrder, meetsAndJoins, distributive, complementRules}
 
 -- ---- what the bytes say
 

@@ -1,5 +1,5 @@
 -- The test that an accepted part passes: its order is that of the codes, the | of a code and an irreducible element's code is a code, and so is 0.
--- Exactly the distributive lattices pass it. Rests on order's Ordered, Bounds and Tests, elements' Bits and Laws, Tests, Order, Bounded, Birkhoff.
+-- Exactly the distributive lattices pass it. Rests on lattice_order's Ordered, Bounds and Tests, elements' Bits and Laws, Tests, Order, Bounded, Birkhoff.
 --   DownSet, CodeAt, set-code: every set of irreducible elements that has those below its own is the code of an element
 --   DistributiveLattice: a partial order with all meets and joins, and distributive
 --   lattice-sound: what passes is one; test-complete: each one passes; lattice-exactly: both; bottom-code: the code of the bottom is 0
@@ -13,10 +13,10 @@ use lib.Bits.{bitAnd, bitOr, or-comm}
 use lib.Dec.{eqb}
 use Rattle.theory.specs.Part.{LatticePart, meetOf, joinOf}
 use Rattle.theory.specs.TestLaws.{below-suc, bool-same, and-l, and-r, and-in, ⇒-elim, ⇒-in, not-passed, false-true}
-use Rattle.order.specs.Tests.{partialOrder, meetsAndJoins, distributive}
-use Rattle.order.specs.Searched.{all2-at, all2-in, join-reversed, meet-some, TopAt, foldUpTo}
-use Rattle.order.specs.DeMorgan.{reversed, MeetAt}
-use Rattle.order.specs.Ordered.{Ordered, MeetsJoinsFound, ordered-in, ordered-out, ordered-reversed, meetsAndJoins-in, meetsAndJoins-out, meetsAndJoins-reversed, top-is}
+use Rattle.lattice_order.specs.Tests.{partialOrder, meetsAndJoins, distributive}
+use Rattle.lattice_order.specs.Searched.{all2-at, all2-in, join-reversed, meet-some, TopAt, foldUpTo}
+use Rattle.lattice_order.specs.DeMorgan.{reversed, MeetAt}
+use Rattle.lattice_order.specs.Ordered.{Ordered, MeetsJoinsFound, ordered-in, ordered-out, ordered-reversed, meetsAndJoins-in, meetsAndJoins-out, meetsAndJoins-reversed, top-is}
 use Rattle.elements.specs.Bits.{bits, bits-cong, bits-same, bits-and, bits-or, bits-none, bits-at, without, without-l, without-r}
 use Rattle.elements.specs.Laws.{Within, and-left, and-right, and-glb, or-left, or-right, or-lub}
 use Rattle.elements.specs.Words.{within}

@@ -1,5 +1,5 @@
 -- Codes of the elements of a lattice, by its irreducible elements: a lattice is distributive exactly when the code of a join is the | of the
--- codes. Rests on order's Ordered, Bounds and Tests, elements' Bits and Laws, Tests, Order, Lattice.
+-- codes. Rests on lattice_order's Ordered, Bounds and Tests, elements' Bits and Laws, Tests, Order, Lattice.
 --   code-bits: the bits of a code; code-order: the order is that of the codes; code-distinct; code-meet: the code of a meet
 --   distributive-sound: where the | of every two codes is a code, the lattice is distributive; code-join: where it is, that of the join
 --   Irreducible, irreducible-in, irreducible-out: what it is to be irreducible
@@ -14,10 +14,10 @@ use lib.Bits.{bitAnd, bitOr, and-comm}
 use lib.Dec.{eqb}
 use Rattle.theory.specs.Part.{LatticePart, meetOf, joinOf}
 use Rattle.theory.specs.TestLaws.{decide, bool-same, and-l, and-r, and-in, false-true}
-use Rattle.order.specs.Tests.{distributive}
-use Rattle.order.specs.Searched.{all3-at, all3-in}
-use Rattle.order.specs.DeMorgan.{reversed, MeetAt}
-use Rattle.order.specs.Ordered.{Ordered, MeetsJoinsFound, meet-at, join-at}
+use Rattle.lattice_order.specs.Tests.{distributive}
+use Rattle.lattice_order.specs.Searched.{all3-at, all3-in}
+use Rattle.lattice_order.specs.DeMorgan.{reversed, MeetAt}
+use Rattle.lattice_order.specs.Ordered.{Ordered, MeetsJoinsFound, meet-at, join-at}
 use Rattle.elements.specs.Bits.{bits, bits-cong, bits-same, bits-and, bits-or, bits-less, bits-within-in, bits-within-out, without, without-in, without-l, without-r}
 use Rattle.elements.specs.Laws.{and-or, Within, within-refl, or-left, or-right, or-lub}
 use Rattle.elements.specs.Words.{within}

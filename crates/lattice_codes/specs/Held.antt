@@ -1,4 +1,4 @@
--- The words of a distributive lattice hold its operations. Rests on theory's Part, order's Ordered and Searched, elements' Words, Tests, Birkhoff,
+-- The words of a distributive lattice hold its operations. Rests on theory's Part, lattice_order's Ordered and Searched, elements' Words, Tests, Birkhoff,
 -- Accepting.
 --   CodesOf: 128 words hold the codes of the elements and of their complements
 --   held-ops: the operations read from them are the lattice's; held-coded: they are as `words` asks
@@ -16,10 +16,10 @@ use Rattle.theory.specs.Part.{LatticePart, meetOf, joinOf, topOf, botOf, elemen
 use Rattle.theory.specs.Test.{allBelow, _⇒_}
 use Rattle.theory.specs.TestLaws.{all-cong, first-unique, and-in, and-l, and-r}
 use Rattle.elements.specs.declared.Lattice.{Lattice}
-use Rattle.order.specs.Tests.{all2, complementRules}
-use Rattle.order.specs.Searched.{element-lt, element-id, element-cong, bot-reversed, TopAt, top-only, foldUpTo}
-use Rattle.order.specs.DeMorgan.{reversed}
-use Rattle.order.specs.Ordered.{Formed, Ordered, MeetsJoinsFound, ordered-reversed, meetsAndJoins-reversed, meet-at, top-is, top-found as join-of-all}
+use Rattle.lattice_order.specs.Tests.{all2, complementRules}
+use Rattle.lattice_order.specs.Searched.{element-lt, element-id, element-cong, bot-reversed, TopAt, top-only, foldUpTo}
+use Rattle.lattice_order.specs.DeMorgan.{reversed}
+use Rattle.lattice_order.specs.Ordered.{Formed, Ordered, MeetsJoinsFound, ordered-reversed, meetsAndJoins-reversed, meet-at, top-is, top-found as join-of-all}
 use Rattle.elements.specs.Bits.{bits-cong, bits-same, bits-and}
 use Rattle.elements.specs.Laws.{Within, and-assoc}
 use Rattle.elements.specs.Words.{codeIn, negatedCodeIn, decodeIn, within, atMostIn, meetIn, joinIn, complementIn, opsIn, Coded}

@@ -1,4 +1,4 @@
--- The elements whose bits stand in the codes are exactly the join-irreducible ones. Rests on theory's Irreducible, order's Ordered and Searched,
+-- The elements whose bits stand in the codes are exactly the join-irreducible ones. Rests on theory's Irreducible, lattice_order's Ordered and Searched,
 -- elements' Bits, Tests, Birkhoff.
 --   irreducible-exactly: the test on the words is theory's definition
 use Prim.Native.Nat.{ℕ, zero, suc, _≤_, _<_}
@@ -11,9 +11,9 @@ use borrow.Author.Tests.{ltb-true, lt-ltb}
 use Rattle.theory.specs.Irreducible.{JoinIrreducible}
 use Rattle.theory.specs.Part.{LatticePart, joinOf, botOf, element, opsOf}
 use Rattle.theory.specs.TestLaws.{below-suc, bool-same, false-true}
-use Rattle.order.specs.Searched.{element-id, bot-reversed, TopAt}
-use Rattle.order.specs.DeMorgan.{reversed, MeetAt}
-use Rattle.order.specs.Ordered.{Formed, Ordered, MeetsJoinsFound, ordered-reversed, meetsAndJoins-reversed, join-at, top-is, top-found}
+use Rattle.lattice_order.specs.Searched.{element-id, bot-reversed, TopAt}
+use Rattle.lattice_order.specs.DeMorgan.{reversed, MeetAt}
+use Rattle.lattice_order.specs.Ordered.{Formed, Ordered, MeetsJoinsFound, ordered-reversed, meetsAndJoins-reversed, join-at, top-is, top-found}
 use Rattle.elements.specs.Bits.{without, without-in, without-l, without-r}
 use Rattle.lattice_codes.specs.Tests.{downOf, irreducible}
 use Rattle.lattice_codes.specs.Birkhoff.{Irreducible, irreducible-in, irreducible-out}

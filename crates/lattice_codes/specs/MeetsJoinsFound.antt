@@ -1,5 +1,5 @@
 -- The test of refusal 6 by words: in a partial order with a top, where every & of two words is a word, every two elements have a meet, and so a
--- join, the meet of all elements at or above both. Rests on order's Ordered and Searched, elements' Bits, Tests, Order.
+-- join, the meet of all elements at or above both. Rests on lattice_order's Ordered and Searched, elements' Bits, Tests, Order.
 --   Meets: every two elements have a meet; meet-word, word-meet: the word of a meet, and that only a meet has it
 --   closed-at, meets-closed: from and to the test; top-from, top-word: the word of a top
 --   meetsAndJoins-exactly: the test on the words is that of the order
@@ -13,10 +13,10 @@ use lib.Bits.{bitAnd}
 use lib.Dec.{eqb}
 use Rattle.theory.specs.Part.{LatticePart, meetOf, joinOf}
 use Rattle.theory.specs.TestLaws.{below-suc, bool-same, and-l, and-r, and-in, ⇒-elim, ⇒-in, false-true}
-use Rattle.order.specs.Tests.{meetsAndJoins}
-use Rattle.order.specs.Searched.{all2-at, all2-in, join-reversed, meet-some, foldUpTo, TopAt}
-use Rattle.order.specs.DeMorgan.{reversed, MeetAt}
-use Rattle.order.specs.Ordered.{Ordered, MeetsJoinsFound, meetsAndJoins-in, meetsAndJoins-out, meet-at, top-is}
+use Rattle.lattice_order.specs.Tests.{meetsAndJoins}
+use Rattle.lattice_order.specs.Searched.{all2-at, all2-in, join-reversed, meet-some, foldUpTo, TopAt}
+use Rattle.lattice_order.specs.DeMorgan.{reversed, MeetAt}
+use Rattle.lattice_order.specs.Ordered.{Ordered, MeetsJoinsFound, meetsAndJoins-in, meetsAndJoins-out, meet-at, top-is}
 use Rattle.elements.specs.Bits.{bits, bits-cong, bits-same, bits-and, bits-at}
 use Rattle.elements.specs.Words.{within}
 use Rattle.lattice_codes.specs.Tests.{any-in, any-out, downOf, allOf, isWord, pairClosed, closed, meetsAndJoinsTest}

@@ -1,4 +1,4 @@
--- The test of refusal 5 by words. Rests on theory's Part and TestLaws, order's Tests and Ordered, elements' Bits and Laws, Tests.
+-- The test of refusal 5 by words. Rests on theory's Part and TestLaws, lattice_order's Tests and Ordered, elements' Bits and Laws, Tests.
 --   down-at: a bit of the word of an element
 --   by-words, word-in, word-out, word-distinct, ordered-sound: what the test says, with any words; ordered-complete: the other way round
 --   down-within: words in order; down-distinct, down-lt: different elements have different words, one at or below another has the lesser
@@ -13,9 +13,9 @@ use lib.Dec.{eqb}
 use Rattle.theory.specs.Part.{LatticePart}
 use Rattle.theory.specs.Test.{_⇒_}
 use Rattle.theory.specs.TestLaws.{bool-same, and-l, and-r, and-in, ⇒-elim, ⇒-in}
-use Rattle.order.specs.Tests.{partialOrder}
-use Rattle.order.specs.Searched.{all2-at, all2-in}
-use Rattle.order.specs.Ordered.{Ordered, ordered-in, ordered-out}
+use Rattle.lattice_order.specs.Tests.{partialOrder}
+use Rattle.lattice_order.specs.Searched.{all2-at, all2-in}
+use Rattle.lattice_order.specs.Ordered.{Ordered, ordered-in, ordered-out}
 use Rattle.elements.specs.Bits.{bits, bits-same, bits-within-in, bits-within-out, bits-at}
 use Rattle.elements.specs.Laws.{Within, within-refl, within-trans, within-antisym}
 use Rattle.elements.specs.Words.{within}

@@ -12,7 +12,7 @@ use lib.Dec.{eqb}
 use Rattle.theory.specs.Irreducible.{JoinIrreducible}
 use Rattle.theory.specs.Part.{LatticePart, meetOf, joinOf, opsOf}
 use Rattle.theory.specs.TestLaws.{and-l, and-r, and-in}
-use Rattle.order.specs.Ordered.{Formed, meet-at}
+use Rattle.lattice_order.specs.Ordered.{Formed, meet-at}
 use Rattle.elements.specs.Bits.{bits, bits-at}
 use Rattle.elements.specs.Words.{within}
 use Rattle.lattice_codes.specs.Tests.{ordered, closed, isWord, downOf, irreducible, irreducibles, codeOf, latticeTest}

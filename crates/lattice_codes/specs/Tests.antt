@@ -1,4 +1,4 @@
--- What the check tests of the words of an order, and the words. Rests on theory's Part and Test, order's Tests, elements' Bits and Words.
+-- What the check tests of the words of an order, and the words. Rests on theory's Part and Test, lattice_order's Tests, elements' Bits and Words.
 --   anyBelow: a test is passed at some number; any-in, any-out, any-cong
 --   downOf: the word of the elements at or below one; allOf: that of all elements
 --   FoundAt, found-here, found-none: where a word stands
@@ -18,9 +18,9 @@ use lib.ListN.{getD}
 use Rattle.theory.specs.Part.{LatticePart}
 use Rattle.theory.specs.Test.{allBelow, firstBelow, _⇒_}
 use Rattle.theory.specs.TestLaws.{first-is, not-passed, false-true, all-in, all-cong}
-use Rattle.order.specs.Tests.{all2}
-use Rattle.order.specs.Searched.{first-some}
-use Rattle.order.specs.Agree.{first-cong}
+use Rattle.lattice_order.specs.Tests.{all2}
+use Rattle.lattice_order.specs.Searched.{first-some}
+use Rattle.lattice_order.specs.Agree.{first-cong}
 use Rattle.elements.specs.Bits.{bits}
 use Rattle.elements.specs.Words.{within}
 

@@ -85,7 +85,14 @@ fn joined_two(row: &[u64; 64], table: &[u64; 4096], at: usize, n: usize) -> Two
 }
 
 // The joins of `row` with each of the first n1 rows of a table, two rows at a time, at the place `at` of joins.
-fn join_rows(row: &[u64; 64], table: &[u64; 4096], n1: usize, n2: usize, joins: &mut [u64], at: usize)
+fn join_rows(
+    row: &[u64; 64],
+    table: &[u64; 4096],
+    n1: usize,
+    n2: usize,
+    joins: &mut [u64],
+    at: usize,
+)
     requires { ⌜ (n1 ≤ 64) × (n2 ≤ 64) × (at + n1 ≤ length (now joins)) ⌝ }
     ensures { λ _. ⌜ now (joins .exit) ≡ written at (tab (λ q. joinCode (now (row .entry)) (now (table .entry)) (q * 64) n2) n1 0) (now (joins .entry)) ⌝ }
 {

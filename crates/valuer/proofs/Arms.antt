@@ -18,10 +18,10 @@ use Rattle.elements.specs.Folds.{decode-in, bigMeet-lt}
 use Rattle.elements.specs.Words.{decodeIn, opsIn}
 use Rattle.elements.specs.declared.Lattice.{Lattice}
 use Rattle.model.specs.declared.Proposition.{Proposition}
-use Rattle.tokens.specs.declared.Token.{Token}
-use Rattle.tokens.specs.declared.Token.the-variants.{Bottom, Top, Literal, Variable, Two, Next, Fixpoint}
-use Rattle.tokens.specs.Tokens.{tokenSize}
-use Rattle.tokens.specs.Sizes.{Stands}
+use Rattle.formula_tokens.specs.declared.Token.{Token}
+use Rattle.formula_tokens.specs.declared.Token.the-variants.{Bottom, Top, Literal, Variable, Two, Next, Fixpoint}
+use Rattle.formula_tokens.specs.Tokens.{tokenSize}
+use Rattle.formula_tokens.specs.Sizes.{Stands}
 use Rattle.formula.specs.Bytes.{bytesOf}
 use Rattle.valuer_maps.specs.Code.{startCode, slotOf, Literals, NextMap}
 use Rattle.valuer_maps.specs.Maps.{MapOf, startOf, map-start, map-literals, map-join-or-meet, map-next, implied, map-decoded}

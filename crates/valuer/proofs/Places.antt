@@ -12,9 +12,9 @@ use lib.ListN.{length, drop}
 use lib.Seq.{drop-drop, drop-append-seam}
 use Rattle.theory.specs.Formula.{Formula, bottom, top, prop, negated, var, or, and, AX, EX, mu, nu, closedUnder, overProps, nestedBinders}
 use Rattle.theory.specs.TestLaws.{and-l, and-r}
-use Rattle.tokens.specs.declared.Token.{Token}
-use Rattle.tokens.specs.declared.Token.the-variants.{Bottom, Top, Literal, Variable, Two, Next, Fixpoint, End, Broken}
-use Rattle.tokens.specs.Tokens.{tokenOf, tokenSize, tokenAt, nodeOf}
+use Rattle.formula_tokens.specs.declared.Token.{Token}
+use Rattle.formula_tokens.specs.declared.Token.the-variants.{Bottom, Top, Literal, Variable, Two, Next, Fixpoint, End, Broken}
+use Rattle.formula_tokens.specs.Tokens.{tokenOf, tokenSize, tokenAt, nodeOf}
 use Rattle.formula.specs.Bytes.{bytesOf, read, formulaReading}
 use Rattle.formula.specs.RoundTrip.{formula-part}
 use Rattle.formula.specs.ByToken.{token-bytes}

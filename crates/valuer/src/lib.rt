@@ -5,10 +5,10 @@
 use elements::Codes;
 use elements::Element;
 use elements::Lattice;
+use formula_tokens::Token;
+use formula_tokens::size;
+use formula_tokens::token_at;
 use model::State;
-use tokens::Token;
-use tokens::size;
-use tokens::token_at;
 use valuer_maps::all_step;
 use valuer_maps::combined;
 use valuer_maps::constant;

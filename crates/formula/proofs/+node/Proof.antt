@@ -4,9 +4,9 @@ use mathlib.Core.Path.{_≡_, refl, ap, _∙_}
 use lib.ListN.{length}
 use native.Mathlib.Omega.{arith}
 use borrow.Author.Needs.{needs}
-use Rattle.tokens.specs.declared.Token.{Token}
-use Rattle.tokens.specs.Tokens.{tokenSize}
-use Rattle.tokens.specs.Sizes.{end-most, Stands, stands, stands-within}
+use Rattle.formula_tokens.specs.declared.Token.{Token}
+use Rattle.formula_tokens.specs.Tokens.{tokenSize}
+use Rattle.formula_tokens.specs.Sizes.{end-most, Stands, stands, stands-within}
 use Rattle.formula.proofs.Laws.{told, forward, at-bottom, at-top, at-literal, at-variable, at-two, at-two-broken, at-next, at-fixpoint, at-fourth, at-end, at-broken}
 use borrow.Fn.Kinds.{In}
 use borrow.Fn.PlainCycle.{Measures, is, falls, and}
@@ -14,8 +14,8 @@ use Rattle.formula.proofs.node.Reads as node
 use Rattle.formula.proofs.node.Kinds as node-kinds
 use Rattle.formula.proofs.+node.Lts-node as node-lts
 use Rattle.formula.proofs.number_below.Reads as number-below-reads
-use Rattle.tokens.proofs.size.Reads as size-reads
-use Rattle.tokens.proofs.token_at.Reads as token-at-reads
+use Rattle.formula_tokens.proofs.size.Reads as size-reads
+use Rattle.formula_tokens.proofs.token_at.Reads as token-at-reads
 use Rattle.formula.proofs.+node.{statement}
 use Rattle.formula.proofs.+node.Tie.{close}
 

@@ -6,9 +6,9 @@ use native.Mathlib.Omega.{arith}
 use lib.ListN.{length, getD}
 use borrow.Author.Needs.{needs}
 use Rattle.theory.specs.Loop.{filled-as}
-use Rattle.tokens.specs.declared.Token.{Token}
-use Rattle.tokens.specs.Tokens.{tokenSize}
-use Rattle.tokens.specs.Sizes.{end-most, Stands, stands, stands-within}
+use Rattle.formula_tokens.specs.declared.Token.{Token}
+use Rattle.formula_tokens.specs.Tokens.{tokenSize}
+use Rattle.formula_tokens.specs.Sizes.{end-most, Stands, stands, stands-within}
 use Rattle.valuer.proofs.Arms.{here-literal, here-first, here-second, here-inner, here-body, bottom-arm, top-arm, literal-arm, variable-arm, two-arm, next-arm, fixpoint-arm, no-arm}
 use Rattle.valuer.proofs.Rounds.{Turned, turned-none, turned-more, turned-all, turned-still}
 use borrow.Fn.Kinds.{In}
@@ -23,8 +23,8 @@ use Rattle.valuer.proofs.value_node.Reads as value-node
 use Rattle.valuer.proofs.value_node.Kinds as value-node-kinds
 use Rattle.valuer.proofs.+iterate+second+value_node.Lts-value_node as value-node-lts
 use Rattle.model.proofs.states.Reads as states-reads
-use Rattle.tokens.proofs.size.Reads as size-reads
-use Rattle.tokens.proofs.token_at.Reads as token-at-reads
+use Rattle.formula_tokens.proofs.size.Reads as size-reads
+use Rattle.formula_tokens.proofs.token_at.Reads as token-at-reads
 use Rattle.valuer.proofs.round_limit.Reads as round-limit-reads
 use Rattle.valuer_maps.proofs.combined.Reads as combined-reads
 use Rattle.valuer_maps.proofs.constant.Reads as constant-reads

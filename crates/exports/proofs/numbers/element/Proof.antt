@@ -1,6 +1,6 @@
 -- `exports::element` meets its contract: by the case of the call's answer.
 use mathlib.Core.Path.{ap, _∙_}
-use Rattle.asking.specs.Answer.{elementReply}
+use Rattle.desk_questions.specs.Answer.{elementReply}
 use Rattle.exports.specs.Numbers.{given}
 use Rattle.exports.specs.NumbersLaws.{by-case}
 use borrow.Author.Needs.{needs}

@@ -1,5 +1,5 @@
 -- `exports::judged` meets its contract: by the case of the call's answer.
-use Rattle.asking.specs.Answer.{judgeReply}
+use Rattle.desk_questions.specs.Answer.{judgeReply}
 use Rattle.exports.specs.NumbersLaws.{by-case}
 use borrow.Author.Needs.{needs}
 use Rattle.exports.proofs.numbers.judged.Statement.{statement}

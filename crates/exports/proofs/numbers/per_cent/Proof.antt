@@ -1,6 +1,6 @@
 -- `exports::per_cent` meets its contract: by the case of the call's answer.
 use mathlib.Core.Path.{ap, _∙_}
-use Rattle.asking.specs.Answer.{shareReply}
+use Rattle.desk_questions.specs.Answer.{shareReply}
 use Rattle.exports.specs.Numbers.{given}
 use Rattle.exports.specs.NumbersLaws.{by-case}
 use borrow.Author.Needs.{needs}

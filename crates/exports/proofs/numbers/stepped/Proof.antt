@@ -1,5 +1,5 @@
 -- `exports::stepped` meets its contract: by the case of the call's answer.
-use Rattle.moving.specs.Answer.{stepReply}
+use Rattle.desk_moves.specs.Answer.{stepReply}
 use Rattle.exports.specs.NumbersLaws.{by-case}
 use borrow.Author.Needs.{needs}
 use Rattle.exports.proofs.numbers.stepped.Statement.{statement}

@@ -1,0 +1,36 @@
+-- What the calls that only read answer, in the desk's terms: for each of an enum's cases the number and values that document 01 gives. Rests on
+-- desk_check's Read and Answer, and desk's Refused.
+--   Reads, Asks: what a call that only reads does, and a question
+--   elementReply, shareReply, judgeReply: each answer as the desk's reply
+use Prim.Native.Nat.{ℕ}
+use mathlib.Core.List.{List}
+use Rattle.desk_check.specs.declared.Standing.{Standing}
+use Rattle.desk_check.specs.Read.{deskOf}
+use Rattle.desk_check.specs.Answer.{Does}
+use Rattle.desk.specs.Desk.{Call, Question, Reply}
+use Rattle.desk.specs.Refused.{numberReply}
+use Rattle.desk_questions.specs.declared.ElementAnswer.{ElementAnswer}
+use Rattle.desk_questions.specs.declared.ElementAnswer.the-variants as element
+use Rattle.desk_questions.specs.declared.ShareAnswer.{ShareAnswer}
+use Rattle.desk_questions.specs.declared.ShareAnswer.the-variants as share
+use Rattle.desk_questions.specs.declared.JudgeAnswer.{JudgeAnswer}
+use Rattle.desk_questions.specs.declared.JudgeAnswer.the-variants as judge
+
+-- the call k on the desk of these four answers x and leaves that desk; so the question q
+abbrev pub Reads : Call → Standing → List ℕ → List ℕ → List ℕ → Reply → Type 0
+Reads k s store first second x = Does k (deskOf s store first second) x (deskOf s store first second)
+
+abbrev pub Asks : Question → Standing → List ℕ → List ℕ → List ℕ → Reply → Type 0
+Asks q = Reads (Call.Ask q)
+
+abbrev pub elementReply : ElementAnswer → Reply
+elementReply (element.Refused r) = numberReply r
+elementReply (element.Is e) = Reply.Element (e .0)
+
+abbrev pub shareReply : ShareAnswer → Reply
+shareReply (share.Refused r) = numberReply r
+shareReply (share.PerCent p) = Reply.PerCent p
+
+abbrev pub judgeReply : JudgeAnswer → Reply
+judgeReply (judge.Refused r) = numberReply r
+judgeReply (judge.Says b) = Reply.Says b

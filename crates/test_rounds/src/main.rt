@@ -1,0 +1,132 @@
+// The worked examples 1 to 4 and 6 of document 01, by the functions on tables: each round, T, score, and the shares.
+use elements::Codes;
+use elements::Element;
+use elements::Lattice;
+use lattice::LatticeCheck;
+ghost use mathlib.Core.Path.{_≡_};
+ghost use Prim.Native.Nat.{_+_, _*_, _≤_};
+ghost use lib.ListN.{length, getD};
+ghost use Rattle.theory.specs.Part.{ModelShape};
+ghost use Rattle.elements.specs.Words.{Coded};
+ghost use Rattle.rounds.specs.Table.{Shaped};
+
+// ---- printing
+
+// A label and a number on a line.
+fn say(text: &[u8], n: usize) {
+    test_printing::item(text, n as u64);
+    test_printing::say(b"\n");
+}
+
+// A row by its number and its entries, on a line.
+fn show_row(s: &[u8], q1: usize, at: usize, n: usize)
+    requires { ⌜ at + n ≤ length (now s) ⌝ }
+{
+    let end = at + n;
+    test_printing::item(b"row ", q1 as u64);
+    test_printing::say(b":");
+    test_printing::bytes(&s[at..end]);
+    test_printing::say(b"\n");
+}
+
+fn show_round(r: usize, s: &[u8], n1: usize, n2: usize)
+    requires { ⌜ n1 * n2 ≤ length (now s) ⌝ }
+{
+    say(b"round ", r);
+    for q1 in 0..n1 {
+        show_row(s, q1, q1 * n2, n2);
+    }
+}
+
+// What is said of the round that changed nothing.
+fn show_settled(w: &Codes, l: Lattice, m1: &[u8], m2: &[u8], s: &[u8], r: usize)
+    requires { ⌜ Coded (now w) l × Shaped (now m1) (now m2) (now s) ⌝ }
+{
+    say(b"settled ", r);
+    let e = rounds::score(w, l, m1, m2, s);
+    say(b"score ", e.0 as usize);
+    if rounds::is_simulation(w, l, m1, m2, s) {
+        test_printing::say(b"a simulation\n");
+    } else {
+        test_printing::say(b"no simulation\n");
+    }
+}
+
+// ---- an example
+
+// Works rounds, from all top, up to the first that changes nothing.
+fn settle(w: &Codes, l: Lattice, m1: &[u8], m2: &[u8])
+    requires { ⌜ Coded (now w) l × ModelShape (now m1) × ModelShape (now m2) × (getD (now m1) 1 0 ≡ getD (now m2) 1 0)
+        × (getD (now m1) 0 0 * getD (now m2) 0 0 ≤ 64) ⌝ }
+{
+    let n1 = model::states(m1);
+    let n2 = model::states(m2);
+    let top = l.top.0;
+    let mut s = [top; 64];
+    let mut out = [top; 64];
+    for r in 1..17 {
+        let changed = rounds::round(w, l, m1, m2, &s, &mut out);
+        show_round(r, &out, n1, n2);
+        if !changed {
+            show_settled(w, l, m1, m2, &out, r);
+            return;
+        }
+        s = out;
+    }
+}
+
+// One example, over the lattice of a lattice part.
+fn example(number: usize, part: &[u8], m1: &[u8], m2: &[u8])
+    requires { ⌜ ModelShape (now m1) × ModelShape (now m2) × (getD (now m1) 1 0 ≡ getD (now m2) 1 0) × (getD (now m1) 0 0 * getD (now m2) 0 0 ≤ 64) ⌝ }
+{
+    let mut w = [0u64; 128];
+    say(b"example ", number);
+    match lattice::check(part, &mut w) {
+        LatticeCheck::Refused(f) => test_printing::refused(f),
+        LatticeCheck::Accepted(l) => settle(&w, l, m1, m2),
+    }
+}
+
+// The lattice parts of the chains of one, two and three elements: n, the complements, the order.
+const L1: [u8; 3] = [1, 0, 1];
+
+const L2: [u8; 7] = [2, 1, 0, 1, 1, 0, 1];
+
+const L3: [u8; 13] = [3, 2, 1, 0, 1, 1, 1, 0, 1, 1, 0, 0, 1];
+
+fn first_examples() {
+    let a = [1u8, 1, 2, 1, 0];
+    example(1, &L3, &a, &a);
+    let b = [1u8, 0, 1, 1];
+    let c = [1u8, 0, 1, 0];
+    example(2, &L2, &b, &c);
+    example(2, &L2, &c, &b);
+}
+
+fn last_examples() {
+    let a = [1u8, 0, 2, 1];
+    let b = [1u8, 0, 2, 0];
+    example(3, &L3, &a, &b);
+    let c = [2u8, 1, 1, 0, 0, 1, 0, 1, 0, 0];
+    let d = [2u8, 1, 1, 0, 0, 0, 0, 1, 0, 0];
+    example(4, &L2, &c, &d);
+    let e = [1u8, 0, 0, 0];
+    example(6, &L1, &e, &e);
+}
+
+// ---- share
+
+// The share of entries at or above 1, of a table of eight entries.
+fn share(text: &[u8], s: &[u8; 8]) {
+    let mut w = [0u64; 128];
+    lattice::check(&L2, &mut w);
+    say(text, rounds::share(&w, Element(1), s, 8) as usize);
+}
+
+fn main() {
+    first_examples();
+    last_examples();
+    share(b"share of 1 in 8: ", &[0, 0, 1, 0, 0, 0, 0, 0]);
+    share(b"share of 3 in 8: ", &[1, 0, 1, 0, 0, 0, 0, 1]);
+    share(b"share of 8 in 8: ", &[1, 1, 1, 1, 1, 1, 1, 1]);
+}
