@@ -9,14 +9,29 @@ use crate::names;
 
 /// A case as text.
 pub fn print(case: &Case) -> String {
-    let mut text: String = case
-        .head
+    let mut text = head(case) + &shared(case);
+    for m in 0..2 {
+        text.push('\n');
+        text.push_str(&model(case, m));
+    }
+    text + &formulas(case)
+}
+
+/// The comment at the head.
+pub fn head(case: &Case) -> String {
+    case.head
         .iter()
         .map(|line| format!("# {line}").trim_end().to_string() + "\n")
-        .collect();
-    if let Some(title) = &case.title {
-        text.push_str(&format!("title \"{title}\"\n"));
-    }
+        .collect()
+}
+
+/// What both models share: the title, the lattice and the propositions.
+pub fn shared(case: &Case) -> String {
+    let title = case
+        .title
+        .iter()
+        .map(|title| format!("title \"{title}\"\n"));
+    let mut text: String = title.collect();
     text.push_str(&lattice_text::print(&case.lattice));
     if !case.propositions.is_empty() {
         text.push_str(&format!(
@@ -24,17 +39,21 @@ pub fn print(case: &Case) -> String {
             names::written(&case.propositions)
         ));
     }
+    text
+}
+
+/// A model, 0 the student's and 1 the course's.
+pub fn model(case: &Case, m: usize) -> String {
     let shared = Shared {
         lattice: &case.lattice,
         propositions: &case.propositions,
     };
-    for (i, model) in case.models.iter().enumerate() {
-        text.push('\n');
-        text.push_str(&model_text::print(model, i + 1, shared));
-    }
-    if !case.formulas.is_empty() {
-        text.push('\n');
-    }
+    model_text::print(&case.models[m], m + 1, shared)
+}
+
+/// The formulas, after an empty line where there are some.
+pub fn formulas(case: &Case) -> String {
+    let mut text = String::from(if case.formulas.is_empty() { "" } else { "\n" });
     for named in &case.formulas {
         let formula = formula_text::print(&named.formula, &case.propositions);
         text.push_str(&format!("formula {}: {formula}\n", named.name));

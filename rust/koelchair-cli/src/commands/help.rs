@@ -1,7 +1,7 @@
 //! What `--help` says.
 
 /// Sub-command, usage, what it does.
-const COMMANDS: [(&str, &str, &str); 10] = [
+const COMMANDS: [(&str, &str, &str); 11] = [
     (
         "check",
         "koelchair check [--json] [--deny-warnings] FILE",
@@ -61,6 +61,14 @@ const COMMANDS: [(&str, &str, &str); 10] = [
         "koelchair dot FILE",
         "Writes both models as a drawing for Graphviz: `koelchair dot FILE | dot -Tsvg > models.svg`. An arrow whose value is not\n\
          top is dashed and says it.",
+    ),
+    (
+        "draw",
+        "koelchair draw [--with-course] [FILE]",
+        "Writes a page of HTML in which a model is drawn by mouse, touch or keys, and saved and opened as text. It needs no network.\n\
+         FILE is a course's: its lattice and propositions are fixed, a student's file for mark is saved, and the course's model\n\
+         is not in the page. Without FILE a whole case is drawn.\n\
+         --with-course  the course's model and formulas are in the page too, to be looked at and saved as a whole case",
     ),
     (
         "encode",

@@ -4,6 +4,7 @@ mod arguments;
 mod check;
 mod decode;
 mod dot;
+mod draw;
 mod encode;
 mod explain;
 mod failure;
@@ -155,6 +156,7 @@ fn dispatch(arguments: &[String], input: &mut dyn Read) -> Outcome {
         "explain" => explain::explain(rest, input),
         "page" => crate::page::page(rest, input),
         "dot" => dot::dot(rest, input),
+        "draw" => draw::draw(rest, input),
         "encode" => encode::encode(rest, input),
         "decode" => decode::decode(rest, input),
         other => Err(Failure::Usage(format!(

@@ -140,6 +140,7 @@ impl Reader {
                         let code = u32::from_str_radix(&digits, 16).expect("four digits");
                         text.push(char::from_u32(code).expect("a character"));
                     }
+                    'n' => text.push('\n'),
                     c @ ('"' | '\\') => text.push(c),
                     c => panic!("escape {c}"),
                 },
