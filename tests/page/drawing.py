@@ -324,11 +324,16 @@ def check_free(tab, folder):
     status, _, said = tool("check", folder / "drawing.case")
     check(status == 0, f"free: check says {said} of\n{saved}")
     check("lattice power a b\npropositions whole\n" in saved and "new: whole = {a, b}" in saved, f"free: saved\n{saved}")
+    tab.evaluate("document.getElementById('text').closest('details').open = true")
+    tab.evaluate("document.getElementById('text').value = 'include \"course.case\"\\nmodel 1\\n  states a b c\\n  a -> b c: {a}\\n'")
+    hand.press("read")
+    check(hand.said() == 'Opened the text. Its line include "course.case" is left out.', f"free: {hand.said()}")
+    check("  a -> b: {a}\n  a -> c: {a}\n" in hand.text() and "model 2\n  states new\n" in hand.text(), f"free: a text is read\n{hand.text()}")
     bad = folder / "bad.case"
     bad.write_text("lattice chain no yes\nmodel 1\n  states a\n  a -> b\n")
     before = hand.text()
     hand.open(bad)
-    check(hand.said() == "bad.case cannot be read: line 4: b is no state. Nothing was altered." and hand.text() == before, f"free: {hand.said()}")
+    check(hand.said() == "Nothing was altered, since bad.case cannot be read: line 4: b is no state." and hand.text() == before, f"free: {hand.said()}")
     hand.leave()
 
 

@@ -40,7 +40,7 @@ function take(text, name) {
     if (!read.drawing.models[0] && !read.drawing.models[1]) throw new Wrong(0, "`model 1` and `model 2` are missing");
   } catch (error) {
     if (!(error instanceof Wrong)) throw error;
-    say(`${name} cannot be read: ${error.message}. Nothing was altered.`);
+    say(`Nothing was altered, since ${name} cannot be read: ${error.message}.`);
     return false;
   }
   const { drawing, included } = read;
@@ -136,7 +136,7 @@ function start() {
   now.kept = JSON.stringify(now.drawing);
   at("title").textContent = given.fixed ? now.drawing.title || "Drawing" : "Drawing";
   const click = { undo: () => travel(now.past, now.future), redo: () => travel(now.future, now.past), open: () => at("file").click(), save,
-    "zoom-in": () => zoom(0.2), "zoom-out": () => zoom(-0.2), read: () => take(at("text").value, "The text"),
+    "zoom-in": () => zoom(0.2), "zoom-out": () => zoom(-0.2), read: () => take(at("text").value, "the text"),
     theme: () => setTheme(document.documentElement.dataset.theme === "dark" ? "light" : "dark") };
   for (const [id, handler] of Object.entries(click)) at(id).addEventListener("click", handler);
   at("sort").addEventListener("change", showSorts);

@@ -47,7 +47,7 @@ function proposition(state, number, p) {
   const set = (chosen) => alter(() => {
     model().states[number].values[p] = chosen;
   });
-  const chip = button(name, value !== bottom(), () => set(value === bottom() ? top_() : bottom()), `chip ${p}`, { class: "chip" });
+  const chip = button(name, value !== bottom(), () => set(value === bottom() ? top() : bottom()), `chip ${p}`, { class: "chip" });
   return make("div", { class: "row" }, chip, picker(lattice, value, set, `value of ${name}`, `value ${p}`));
 }
 
@@ -56,7 +56,7 @@ function stateSide(state, number) {
   const set = (value) => alter(() => {
     model().states[number].initial = value;
   });
-  const initial = button("initial", state.initial !== bottom(), () => set(state.initial === bottom() ? top_() : bottom()), "initial", { class: "chip" });
+  const initial = button("initial", state.initial !== bottom(), () => set(state.initial === bottom() ? top() : bottom()), "initial", { class: "chip" });
   return [
     make("h2", {}, "State"),
     field("Name", "state-name", state.name, (name) => renameState(number, name)),
