@@ -19,7 +19,7 @@ import browser
 HERE = pathlib.Path(__file__).resolve().parent
 ROOT = HERE.parent.parent
 TOOL = os.environ.get("KOELCHAIR", str(ROOT / "target/cargo/release/koelchair"))
-SIZES = ((1280, 720), (1920, 1080), (390, 800))
+SIZES = ((1024, 768), (1280, 720), (1920, 1080), (390, 800))
 COURSE = ROOT / "examples/class/course.case"
 KEYS = {"Delete": 46, "Escape": 27, "Enter": 13, "ArrowRight": 39, "ArrowDown": 40, "Tab": 9}
 DRAWN = """model 1 "Ada"
@@ -292,12 +292,12 @@ def check_panel(tab, folder):
     hand.key("Enter")
     for key in ("arrow value 0 2", "arrow value 1 0", "arrow value 2 1"):
         hand.press(key)
-    check("old -> half: yn?\n" in hand.text(), f"panel: three clicks\n{hand.text()}")
+    check(hand.text().startswith("model 1") and "old -> half: yn?\n" in hand.text(), f"panel: three clicks\n{hand.text()}")
     tab.evaluate("document.getElementById('sort').value = 'case'; document.getElementById('sort').dispatchEvent(new Event('change'))")
     saved = hand.save("a-panel-of-three-instructors.case")
     status, _, said = tool("check", folder / "a-panel-of-three-instructors.case")
     check(status == 0, f"panel: check says {said}")
-    check(saved.endswith("formula never-partly-updated: nu z. whole & AX z\n"), f"panel: whole case\n{saved}")
+    check(saved.endswith("formula never-partly-updated: nu z. whole & AX z\n") and saved.startswith("# Three instructors"), f"panel: whole case\n{saved}")
     hand.press("tab 1")
     check("cannot be altered" in tab.evaluate("document.getElementById('chosen').textContent"), "panel: the course's model is fixed")
     hand.leave()
@@ -324,11 +324,16 @@ def check_free(tab, folder):
     status, _, said = tool("check", folder / "drawing.case")
     check(status == 0, f"free: check says {said} of\n{saved}")
     check("lattice power a b\npropositions whole\n" in saved and "new: whole = {a, b}" in saved, f"free: saved\n{saved}")
+    tab.evaluate("document.getElementById('text').closest('details').open = true")
+    tab.evaluate("document.getElementById('text').value = 'include \"course.case\"\\nmodel 1\\n  states a b c\\n  a -> b c: {a}\\n'")
+    hand.press("read")
+    check(hand.said() == 'Opened the text. Its line include "course.case" is left out.', f"free: {hand.said()}")
+    check("  a -> b: {a}\n  a -> c: {a}\n" in hand.text() and "model 2\n  states new\n" in hand.text(), f"free: a text is read\n{hand.text()}")
     bad = folder / "bad.case"
     bad.write_text("lattice chain no yes\nmodel 1\n  states a\n  a -> b\n")
     before = hand.text()
     hand.open(bad)
-    check(hand.said() == "bad.case cannot be read: line 4: b is no state. Nothing was altered." and hand.text() == before, f"free: {hand.said()}")
+    check(hand.said() == "Nothing was altered, since bad.case cannot be read: line 4: b is no state." and hand.text() == before, f"free: {hand.said()}")
     hand.leave()
 
 
@@ -350,11 +355,25 @@ def check_sizes(tab, folder, out):
         hand.leave()
 
 
+def check_great(tab, folder):
+    """64 states and all their arrows can be opened and saved again."""
+    case = ROOT / "examples/greatest-sizes.case"
+    hand = Hand(tab, folder, ["--with-course", case], "great")
+    check(tab.evaluate("document.querySelectorAll('[data-state]').length") == 64, "great: 64 states")
+    path = folder / "great.case"
+    path.write_text(hand.text())
+    header = "".join(line for line in case.read_text().splitlines(True) if not line.startswith("#")).split("model 1")[0]
+    (folder / "great-course.case").write_text(header + "model 2\n  states a\n")
+    status, _, said = tool("check", "--course", folder / "great-course.case", path)
+    check(status == 0, f"great: check says {said}")
+    hand.leave()
+
+
 def run(tab, folder, out=None):
     """All checks; the failures."""
     if out:
         out.mkdir(parents=True, exist_ok=True)
-    for part in (check_student, check_undo, check_warnings, check_keys, check_touch, check_panel, check_free):
+    for part in (check_student, check_undo, check_warnings, check_keys, check_touch, check_panel, check_free, check_great):
         part(tab, folder)
         print(f"draw, {part.__name__.removeprefix('check_')}: checked")
     check_sizes(tab, folder, out)

@@ -36,7 +36,7 @@ pub fn draw(arguments: &[String], input: &mut dyn Read) -> Outcome {
     if arguments.plain.is_empty() && arguments.values("--course").next().is_none() {
         return Ok(Printed::new(html("koelchair", PLAIN, false)));
     }
-    let [file] = arguments.exactly(["[FILE]"])?;
+    let [file] = arguments.exactly(["FILE"])?;
     let opened = open(read_course(file, &arguments, input)?)?;
     let title = match &opened.case.title {
         Some(title) => format!("{title} - koelchair"),

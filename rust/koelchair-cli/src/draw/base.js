@@ -62,7 +62,7 @@ function bottom() {
   return leftOut(now.drawing.lattice);
 }
 
-function top_() {
+function top() {
   return extreme(now.drawing.lattice, true) ?? size(now.drawing.lattice) - 1;
 }
 

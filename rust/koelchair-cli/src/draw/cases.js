@@ -84,7 +84,7 @@ function sameAs(known, drawing) {
 function placesOf(lines, list) {
   const found = new Map();
   for (let i = list[0].tokens[0].line; i < lines.length; i += 1) {
-    if (/^\s*(title|lattice|propositions|model|formula)\b/.test(lines[i])) break;
+    if (/^\s*(title|lattice|propositions|model|formula)(\s|$)/.test(lines[i])) break;
     const comment = /^\s*#\s*at\s(.*)$/.exec(lines[i]);
     for (const part of comment ? comment[1].split(",") : []) {
       const [name, x, y] = part.trim().split(/\s+/);

@@ -16,7 +16,7 @@ function freeName(prefix, taken) {
 function newState(states, x, y) {
   return {
     name: freeName("s", states.map((s) => s.name)),
-    initial: states.length === 0 ? top_() : bottom(),
+    initial: states.length === 0 ? top() : bottom(),
     values: now.drawing.propositions.map(bottom),
     x: snapped(x),
     y: snapped(y),
@@ -30,7 +30,7 @@ function addState(x, y, from) {
   alter(() => {
     const { states, arrows } = model();
     states.push(newState(states, x, y));
-    if (from !== undefined) arrows.push({ from, to: states.length - 1, value: top_() });
+    if (from !== undefined) arrows.push({ from, to: states.length - 1, value: top() });
     choose("state", states.length - 1);
   });
   at("state-name").focus();
@@ -47,7 +47,7 @@ function addArrow(from, to) {
     return void show();
   }
   alter(() => {
-    model().arrows.push({ from, to, value: top_() });
+    model().arrows.push({ from, to, value: top() });
     choose("arrow", model().arrows.length - 1);
   });
 }
@@ -130,7 +130,7 @@ function setLattice(text) {
     return void show();
   }
   const old = now.drawing.lattice;
-  const [low, high, names] = [bottom(), top_(), Array.from({ length: size(lattice) }, (_, a) => elementName(lattice, a))];
+  const [low, high, names] = [bottom(), top(), Array.from({ length: size(lattice) }, (_, a) => elementName(lattice, a))];
   let raised = 0;
   const moved = (value) => {
     if (value === low) return leftOut(lattice);

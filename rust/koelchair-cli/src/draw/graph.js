@@ -8,7 +8,7 @@ function textWidth(text, bold) {
 
 // A value behind a word, unless it is top.
 function said(word, value) {
-  return value === top_() ? word : `${word} = ${elementName(now.drawing.lattice, value)}`;
+  return value === top() ? word : `${word} = ${elementName(now.drawing.lattice, value)}`;
 }
 
 // What stands in a state's box, and the box around its place.
@@ -49,7 +49,7 @@ function way({ from, to }, boxes) {
 function arrowNode(arrow, number, boxes) {
   const { states } = model();
   const { d, x, y } = way(arrow, boxes);
-  const [plain, marked] = [arrow.value === top_(), chosenArrow() === arrow];
+  const [plain, marked] = [arrow.value === top(), chosenArrow() === arrow];
   const value = elementName(now.drawing.lattice, arrow.value);
   return draw(
     "g",
@@ -63,7 +63,7 @@ function arrowNode(arrow, number, boxes) {
 
 function initialNode(state, { w }) {
   const x = state.x - w;
-  const value = state.initial === top_() ? [] : [draw("text", { x: x - 22, y: state.y - 16, class: "value" }, elementName(now.drawing.lattice, state.initial))];
+  const value = state.initial === top() ? [] : [draw("text", { x: x - 22, y: state.y - 16, class: "value" }, elementName(now.drawing.lattice, state.initial))];
   return draw(
     "g",
     { class: "initial" },

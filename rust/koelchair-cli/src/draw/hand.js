@@ -167,7 +167,7 @@ function keyed(event) {
     choose("state", number);
     alter(() => {
       const state = model().states[number];
-      state.initial = state.initial === bottom() ? top_() : bottom();
+      state.initial = state.initial === bottom() ? top() : bottom();
     });
   } else if (sort === "state" && MOVES[event.key]) {
     choose("state", number);

@@ -14,10 +14,16 @@ function fileName(sort) {
   return `${plain.replace(/^[.-]+/, "") || "drawing"}.case`;
 }
 
+// What is saved. The comment at the head of the text in this page is the course's, and no student's file has it.
+function textOf(sort) {
+  const head = sort === "student" || now.drawing.head.length > 0 ? now.drawing.head : now.courseHead;
+  return writeCase({ ...now.drawing, head }, sort);
+}
+
 function save() {
   const sort = at("sort").value;
   if (!savable()[sort]) return void say(`There is no ${SORTS[sort]} to save yet: a model needs a state.`);
-  const link = make("a", { download: fileName(sort), href: URL.createObjectURL(new Blob([writeCase(now.drawing, sort)], { type: "text/plain" })) });
+  const link = make("a", { download: fileName(sort), href: URL.createObjectURL(new Blob([textOf(sort)], { type: "text/plain" })) });
   link.click();
   setTimeout(() => URL.revokeObjectURL(link.href), 1000);
   now.kept = JSON.stringify(now.drawing);
@@ -34,7 +40,7 @@ function take(text, name) {
     if (!read.drawing.models[0] && !read.drawing.models[1]) throw new Wrong(0, "`model 1` and `model 2` are missing");
   } catch (error) {
     if (!(error instanceof Wrong)) throw error;
-    say(`${name} cannot be read: ${error.message}. Nothing was altered.`);
+    say(`Nothing was altered, since ${name} cannot be read: ${error.message}.`);
     return false;
   }
   const { drawing, included } = read;
@@ -108,7 +114,7 @@ function showSorts() {
   at("sort").hidden = offered.length === 1;
   if (!can[at("sort").value]) at("sort").value = offered.find((sort) => can[sort]) || "student";
   at("save").disabled = !can[at("sort").value];
-  if (document.activeElement !== at("text")) at("text").value = can[at("sort").value] ? writeCase(now.drawing, at("sort").value) : "";
+  if (document.activeElement !== at("text")) at("text").value = can[at("sort").value] ? textOf(at("sort").value) : "";
 }
 
 function setTheme(theme) {
@@ -125,10 +131,12 @@ function zoom(by) {
 function start() {
   now.drawing = { head: [], title: "", lattice: null, propositions: [], models: [null, null], formulas: [] };
   now.drawing = whole(readCase(given.text, now.drawing, false).drawing);
+  now.courseHead = now.drawing.head;
+  now.drawing.head = [];
   now.kept = JSON.stringify(now.drawing);
   at("title").textContent = given.fixed ? now.drawing.title || "Drawing" : "Drawing";
   const click = { undo: () => travel(now.past, now.future), redo: () => travel(now.future, now.past), open: () => at("file").click(), save,
-    "zoom-in": () => zoom(0.2), "zoom-out": () => zoom(-0.2), read: () => take(at("text").value, "The text"),
+    "zoom-in": () => zoom(0.2), "zoom-out": () => zoom(-0.2), read: () => take(at("text").value, "the text"),
     theme: () => setTheme(document.documentElement.dataset.theme === "dark" ? "light" : "dark") };
   for (const [id, handler] of Object.entries(click)) at(id).addEventListener("click", handler);
   at("sort").addEventListener("change", showSorts);

@@ -1,5 +1,8 @@
 // Beside the drawing: what is chosen with its values, the case, the warnings and the text.
 
+// Up to so many elements are picked by a button each.
+const MOST_BUTTONS = 8;
+
 function button(label, pressed, onclick, key, more = {}) {
   return make("button", { type: "button", "aria-pressed": pressed === undefined ? false : String(pressed), "data-key": key, onclick, ...more }, label);
 }
@@ -21,6 +24,10 @@ function picker(lattice, value, set, label, key) {
       return group(places(lattice, value).map((part, i) =>
         picker(lattice.factors[i], part, (chosen) => placed(i, chosen), `${label}, place ${i + 1}`, `${key} ${i}`)));
     default:
+      if (lattice.names.length > MOST_BUTTONS) {
+        const option = (name, i) => make("option", { value: i, selected: i === value }, name);
+        return make("select", { "aria-label": label, "data-key": key, onchange: (event) => set(Number(event.target.value)) }, ...lattice.names.map(option));
+      }
       return group(lattice.names.map((name, i) => button(name, i === value, () => set(i), `${key} ${i}`)));
   }
 }
@@ -40,7 +47,7 @@ function proposition(state, number, p) {
   const set = (chosen) => alter(() => {
     model().states[number].values[p] = chosen;
   });
-  const chip = button(name, value !== bottom(), () => set(value === bottom() ? top_() : bottom()), `chip ${p}`, { class: "chip" });
+  const chip = button(name, value !== bottom(), () => set(value === bottom() ? top() : bottom()), `chip ${p}`, { class: "chip" });
   return make("div", { class: "row" }, chip, picker(lattice, value, set, `value of ${name}`, `value ${p}`));
 }
 
@@ -49,7 +56,7 @@ function stateSide(state, number) {
   const set = (value) => alter(() => {
     model().states[number].initial = value;
   });
-  const initial = button("initial", state.initial !== bottom(), () => set(state.initial === bottom() ? top_() : bottom()), "initial", { class: "chip" });
+  const initial = button("initial", state.initial !== bottom(), () => set(state.initial === bottom() ? top() : bottom()), "initial", { class: "chip" });
   return [
     make("h2", {}, "State"),
     field("Name", "state-name", state.name, (name) => renameState(number, name)),
@@ -111,4 +118,5 @@ function showSide(warnings) {
   at("whole").replaceChildren(title, ...(given.fixed ? [] : caseSide()));
   const item = (w) => make("li", { "data-kind": w.kind }, "Warning: ", ...withCode(`${w.message}.`));
   at("warnings").replaceChildren(...warnings.map(item));
+  at("unknown").hidden = now.drawing.models[1] !== null || !warnings.some((w) => w.kind === "leads-nowhere");
 }
