@@ -83,6 +83,10 @@ caseReading b =
     (refused Directory))
     (refused CaseSize)
 
--- A store is read as a case, in its first 24,576 bytes.
+-- 'a store of 24,576 bytes'
+abbrev pub storeLength : ℕ
+storeLength = 24576
+
+-- A store is read as a case, in its first bytes.
 abbrev pub storeReading : List ℕ → CaseReading
-storeReading s = caseReading (take 24576 s)
+storeReading s = caseReading (take storeLength s)

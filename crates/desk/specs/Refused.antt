@@ -20,15 +20,19 @@ use Rattle.theory.specs.Test.{allBelow, _⇒_}
 use Rattle.refusal.specs.declared.Refusal.{Refusal}
 use Rattle.refusal.specs.declared.Refusal.the-variants.{ShortDesk, SpoiledDesk, OutOfRange}
 use Rattle.refusal.specs.Number.{numberOf, partOf}
-use Rattle.casefile.specs.Reading.{Content, CaseReading, refused, content, caseReading, storeReading}
+use Rattle.casefile.specs.Reading.{Content, CaseReading, refused, content, caseReading, storeReading, storeLength}
 use Rattle.desk.specs.Desk.{Standing, Desk, Question, Call, Reply}
 use Rattle.desk.specs.Case.{latticeSize, N1, N2, tableSize, modelIn, limit}
 use Rattle.desk.specs.View.{View, viewOf}
 
 -- ---- 11: 'the store or a table is shorter than above'
 
+-- 'and two tables of 4,096'
+abbrev pub tableLength : ℕ
+tableLength = 4096
+
 abbrev pub tooShort : List ℕ → List ℕ → List ℕ → Bool
-tooShort store first second = ltb (length store) 24576 || ltb (length first) 4096 || ltb (length second) 4096
+tooShort store first second = ltb (length store) storeLength || ltb (length first) tableLength || ltb (length second) tableLength
 
 unfoldable pub short : Desk → Bool
 short d = tooShort (d .store) (d .first) (d .second)

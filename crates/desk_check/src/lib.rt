@@ -11,6 +11,11 @@ ghost use Rattle.desk_check.specs.Answer.{rulesOf, examinedAnswer, DeskE
 ghost use Rattle.desk.specs.Desk.{Call};
 ghost use Rattle.desk.specs.Refused.{tooShort, rowObeys, roundObeys, standingObeys, examined};
 
+// How many bytes a store and a table have at least.
+pub const STORE_LENGTH: usize = 24576;
+
+pub const TABLE_LENGTH: usize = 4096;
+
 // Where the desk stands. Its layout is C's, since the exported calls take and give it by value.
 #[repr(C)]
 pub struct Standing {
@@ -37,13 +42,13 @@ pub enum Examined {
 pub fn too_short(store: &[u8], first: &[u8], second: &[u8]) -> bool
     ensures { λ r. ⌜ r ≡ tooShort (now (store .entry)) (now (first .entry)) (now (second .entry)) ⌝ }
 {
-    if store.len() < 24576 {
+    if store.len() < STORE_LENGTH {
         return true;
     }
-    if first.len() < 4096 {
+    if first.len() < TABLE_LENGTH {
         return true;
     }
-    second.len() < 4096
+    second.len() < TABLE_LENGTH
 }
 
 // N1·N2, the entries of a table.
@@ -135,7 +140,7 @@ pub fn examine(s: Standing, store: &[u8], first: &[u8], second: &[u8], w: &mut C
     if too_short(store, first, second) {
         return Examined::Refused(Refusal::ShortDesk);
     }
-    match casefile::check(&store[..24576], w) {
+    match casefile::check(&store[..STORE_LENGTH], w) {
         CaseCheck::Refused(_) => Examined::Refused(Refusal::SpoiledDesk),
         CaseCheck::Accepted(z) => {
             if rules_obeyed(s, z, first, second) {

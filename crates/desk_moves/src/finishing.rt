@@ -5,6 +5,7 @@ use crate::stepping::answer_of;
 use crate::stepping::either;
 use crate::stepping::next_round;
 use desk_check::Examined;
+use desk_check::STORE_LENGTH;
 use desk_check::Standing;
 use desk_check::examine;
 use elements::Codes;
@@ -102,7 +103,7 @@ pub fn finish_round(s: Standing, store: &[u8], first: &mut [u8], second: &mut [u
                 };
             }
             let l = z.lattice;
-            let bytes = &store[..24576];
+            let bytes = &store[..STORE_LENGTH];
             if s.second_whole {
                 return round_done(s, work_rest(&w, l, bytes, second, first, State(s.row)));
             }

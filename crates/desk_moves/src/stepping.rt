@@ -2,6 +2,7 @@
 use crate::StepAnswer;
 use crate::Stepped;
 use desk_check::Examined;
+use desk_check::STORE_LENGTH;
 use desk_check::Standing;
 use desk_check::examine;
 use elements::Codes;
@@ -117,7 +118,7 @@ pub fn step(s: Standing, store: &[u8], first: &mut [u8], second: &mut [u8]) -> S
                 };
             }
             let l = z.lattice;
-            let bytes = &store[..24576];
+            let bytes = &store[..STORE_LENGTH];
             if s.second_whole {
                 return answered(s, work_row(&w, l, bytes, second, first, State(s.row)));
             }

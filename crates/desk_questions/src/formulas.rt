@@ -1,6 +1,7 @@
 // The calls that value a formula.
 use crate::ElementAnswer;
 use desk_check::Examined;
+use desk_check::STORE_LENGTH;
 use desk_check::Standing;
 use desk_check::examine;
 use elements::Codes;
@@ -53,7 +54,7 @@ pub fn whole(s: Standing, store: &[u8], first: &[u8], second: &[u8], f: u8, m: u
             if !in_range(f, m, z.formulas) {
                 return ElementAnswer::Refused(Refusal::OutOfRange);
             }
-            let bytes = &store[..24576];
+            let bytes = &store[..STORE_LENGTH];
             ElementAnswer::Is(whole_of(&w, l, bytes, f, m))
         }
     }
@@ -97,7 +98,7 @@ pub fn value(
             if !in_range(f, m, z.formulas) {
                 return ElementAnswer::Refused(Refusal::OutOfRange);
             }
-            let bytes = &store[..24576];
+            let bytes = &store[..STORE_LENGTH];
             if !has_state(bytes, f, m, q) {
                 return ElementAnswer::Refused(Refusal::OutOfRange);
             }

@@ -3,6 +3,7 @@ use crate::ElementAnswer;
 use crate::JudgeAnswer;
 use crate::ShareAnswer;
 use desk_check::Examined;
+use desk_check::STORE_LENGTH;
 use desk_check::Standing;
 use desk_check::examine;
 use desk_check::table_size;
@@ -63,7 +64,7 @@ pub fn score<'a>(s: Standing, store: &[u8], first: &'a [u8], second: &'a [u8]) -
         Examined::Refused(f) => ElementAnswer::Refused(f),
         Examined::Held(z) => {
             let l = z.lattice;
-            let bytes = &store[..24576];
+            let bytes = &store[..STORE_LENGTH];
             let whole = whole_table(s.second_whole, first, second);
             ElementAnswer::Is(score_of(&w, l, bytes, whole))
         }
@@ -120,7 +121,7 @@ pub fn judge(s: Standing, store: &[u8], first: &[u8], second: &[u8], table: &[u8
             if !elements::below(table, 0, n, l.size) {
                 return JudgeAnswer::Refused(Refusal::OutOfRange);
             }
-            let bytes = &store[..24576];
+            let bytes = &store[..STORE_LENGTH];
             JudgeAnswer::Says(simulation_of(&w, l, bytes, table))
         }
     }

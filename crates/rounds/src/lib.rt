@@ -7,6 +7,7 @@ use elements::Codes;
 use elements::Element;
 use elements::Lattice;
 use model::State;
+use words::TableCodes;
 use words::all_joins;
 use words::encode_table;
 use words::joined;
@@ -85,7 +86,7 @@ pub fn round(w: &Codes, l: Lattice, m1: &[u8], m2: &[u8], whole: &[u8], other: &
 }
 
 // The inner joins of a table, of every q2.
-fn prepare(w: &Codes, m1: &[u8], m2: &[u8], s: &[u8], joins: &mut [u64; 4096])
+fn prepare(w: &Codes, m1: &[u8], m2: &[u8], s: &[u8], joins: &mut TableCodes)
     requires { ⌜ Shaped (now m1) (now m2) (now s) ⌝ }
     ensures { λ _. ⌜ Prepared (now (w .entry)) (now (m1 .entry)) (now (m2 .entry)) (now (s .entry)) (now (joins .exit)) ⌝ }
 {

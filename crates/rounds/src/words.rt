@@ -10,6 +10,9 @@ ghost use Rattle.theory.specs.Lists.{Filled, tab, written};
 ghost use Rattle.model.specs.Reading.{leavingCode};
 ghost use Rattle.rounds.specs.Codes.{ModelPair, tableCode, joinCode, innerCode, meetCode, iffCode, propositionsCode, entryFrom, rowFrom, Rows, EntryCodes};
 
+// The codes of a table, or of the inner joins of one, 64 to a row.
+pub(crate) type TableCodes = [u64; 4096];
+
 // ---- what is read
 
 // The codes of a table's n1 rows of n2 entries, 64 to a row.
@@ -70,7 +73,7 @@ struct Two {
 }
 
 // The same of two rows of a table, of which the second begins 64 places after the first: each word of `row` is read once for both.
-fn joined_two(row: &[u64; 64], table: &[u64; 4096], at: usize, n: usize) -> Two
+fn joined_two(row: &[u64; 64], table: &TableCodes, at: usize, n: usize) -> Two
     requires { ⌜ (n ≤ 64) × (at + 64 + n ≤ 4096) ⌝ }
     ensures { λ r. ⌜ (r .a ≡ joinCode (now (row .entry)) (now (table .entry)) at n) × (r .b ≡ joinCode (now (row .entry)) (now (table .entry)) (at + 64) n) ⌝ }
 {
@@ -87,7 +90,7 @@ fn joined_two(row: &[u64; 64], table: &[u64; 4096], at: usize, n: usize) -> Two
 // The joins of `row` with each of the first n1 rows of a table, two rows at a time, at the place `at` of joins.
 fn join_rows(
     row: &[u64; 64],
-    table: &[u64; 4096],
+    table: &TableCodes,
     n1: usize,
     n2: usize,
     joins: &mut [u64],
@@ -114,7 +117,7 @@ fn inner_joins(
     w: &Codes,
     m2: &[u8],
     q2: State,
-    table: &[u64; 4096],
+    table: &TableCodes,
     n1: usize,
     joins: &mut [u64],
     at: usize,
@@ -128,7 +131,7 @@ fn inner_joins(
 }
 
 // The inner joins of every q2, 64 to a row: one filling serves all rows of a round.
-pub(crate) fn all_joins(w: &Codes, m2: &[u8], table: &[u64; 4096], n1: usize, joins: &mut [u64])
+pub(crate) fn all_joins(w: &Codes, m2: &[u8], table: &TableCodes, n1: usize, joins: &mut [u64])
     requires { ⌜ ModelShape (now m2) × (n1 ≤ 64) × (length (now joins) ≡ 4096) ⌝ }
     ensures { λ _. ⌜ Rows (innerCode (now (w .entry)) (now (m2 .entry)) (now (table .entry))) (getD (now (m2 .entry)) 0 0) n1 (now (joins .exit)) ⌝ }
 {
@@ -179,7 +182,7 @@ pub(crate) fn row_codes(
     top: u64,
     m1: &[u8],
     m2: &[u8],
-    table: &[u64; 4096],
+    table: &TableCodes,
     q1: State,
     out: &mut [u64],
 )
@@ -204,7 +207,7 @@ pub(crate) fn row_from(
     top: u64,
     m1: &[u8],
     m2: &[u8],
-    joins: &[u64; 4096],
+    joins: &TableCodes,
     q1: State,
     out: &mut [u64],
 )
