@@ -102,13 +102,3 @@ pub fn encode(w: &Codes, s: &[u8], from: usize, count: usize, out: &mut [u64], a
         out[at + i] = w[(s[from + i] % 64) as usize];
     }
 }
-
-// The codes of the complements of `count` bytes of s from `from` on, written at the place `at` of out.
-pub fn encode_negated(w: &Codes, s: &[u8], from: usize, count: usize, out: &mut [u64], at: usize)
-    requires { ⌜ (from + count ≤ length (now s)) × (at + count ≤ length (now out)) ⌝ }
-    ensures { λ _. ⌜ now (out .exit) ≡ written at (tab (λ i. negatedCodeIn (now (w .entry)) (getD (now (s .entry)) (from + i) 0)) count 0) (now (out .entry)) ⌝ }
-{
-    for i in 0..count {
-        out[at + i] = w[64 + (s[from + i] % 64) as usize];
-    }
-}

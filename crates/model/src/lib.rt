@@ -93,7 +93,8 @@ pub fn transition(m: &[u8], q: State, r: State) -> Element
 // The codes of the transitions that leave q, or of their complements, at the place `at` of out.
 pub fn transition_codes(w: &Codes, m: &[u8], q: State, negated: bool, out: &mut [u64], at: usize)
     requires { ⌜ ModelShape (now m) × (q .0 < getD (now m) 0 0) × (at + getD (now m) 0 0 ≤ length (now out)) ⌝ }
-    ensures { λ _. ⌜ now (out .exit) ≡ written at (tab (leavingCode negated (now (w .entry)) (now (m .entry)) (q .0)) (getD (now (m .entry)) 0 0) 0) (now (out .entry)) ⌝ }
+    ensures { λ _. ⌜ now (out .exit) ≡ written at (tab (leavingCode negated (now (w .entry)) (now (m .entry)) (q .0)) (getD (now (m .entry)) 0 0) 0)
+        (now (out .entry)) ⌝ }
 {
     let n = states(m);
     for r in 0..n {

@@ -123,7 +123,8 @@ fn inner_joins(
     at: usize,
 )
     requires { ⌜ ModelShape (now m2) × (q2 .0 < getD (now m2) 0 0) × (n1 ≤ 64) × (at + n1 ≤ length (now joins)) ⌝ }
-    ensures { λ _. ⌜ now (joins .exit) ≡ written at (tab (innerCode (now (w .entry)) (now (m2 .entry)) (now (table .entry)) (q2 .0)) n1 0) (now (joins .entry)) ⌝ }
+    ensures { λ _. ⌜ now (joins .exit) ≡ written at (tab (innerCode (now (w .entry)) (now (m2 .entry)) (now (table .entry)) (q2 .0)) n1 0)
+        (now (joins .entry)) ⌝ }
 {
     let mut row = [0u64; 64];
     model::transition_codes(w, m2, q2, false, &mut row, 0);
@@ -212,7 +213,8 @@ pub(crate) fn row_from(
     out: &mut [u64],
 )
     requires { ⌜ ModelPair (now m1) (now m2) × (q1 .0 < getD (now m1) 0 0) × (length (now out) ≡ 64) ⌝ }
-    ensures { λ _. ⌜ Filled (rowFrom (now (w .entry)) top (now (m1 .entry)) (now (m2 .entry)) (now (joins .entry)) (q1 .0)) (getD (now (m2 .entry)) 0 0) (now (out .exit)) ⌝ }
+    ensures { λ _. ⌜ Filled (rowFrom (now (w .entry)) top (now (m1 .entry)) (now (m2 .entry)) (now (joins .entry)) (q1 .0))
+        (getD (now (m2 .entry)) 0 0) (now (out .exit)) ⌝ }
 {
     let n2 = model::states(m2);
     let mut left = [0u64; 64];

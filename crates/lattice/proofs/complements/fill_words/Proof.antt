@@ -1,4 +1,4 @@
--- `lattice::fill_words` meets its contract: the words below the counter are filled. Assumes nothing.
+-- `lattice::complements::fill_words` meets its contract: the words below the counter are filled. Assumes nothing.
 use mathlib.Core.Path.{_≡_, refl}
 use Prim.Native.Nat.{_≤_, _-_}
 use native.Mathlib.Omega.{arith}
@@ -8,8 +8,8 @@ use Rattle.theory.specs.Loop.{filled-none, filled-more, filled-as}
 use Rattle.lattice.specs.Reading.{latticeOf}
 use Rattle.lattice.specs.Filling.{wordsBy}
 use borrow.Author.Needs.{needs}
-use Rattle.lattice.proofs.fill_words.Statement.{statement}
-use Rattle.lattice.proofs.fill_words.Tie as tie
+use Rattle.lattice.proofs.complements.fill_words.Statement.{statement}
+use Rattle.lattice.proofs.complements.fill_words.Tie as tie
 
 abbrev Inv-loop : tie.InvT-loop
 Inv-loop part codes n w₀ k₀ w k = (k ≤ 128) × (length w ≡ 128) × Filled (wordsBy (latticeOf part) codes) k w

@@ -1,4 +1,4 @@
--- `lattice::is_involutive` meets its contract: the elements passed are tested. Assumes nothing.
+-- `lattice::complements::is_involutive` meets its contract: the elements passed are tested. Assumes nothing.
 use mathlib.Core.Path.{_≡_, sym, ap, _∙_}
 use Prim.Native.Nat.{ℕ, _≤_, _<_, _-_}
 use native.Mathlib.Omega.{arith}
@@ -9,8 +9,8 @@ use Rattle.lattice.specs.Reading.{latticeOf}
 use Rattle.lattice.specs.Accepted.{formed}
 use Rattle.lattice.specs.Filling.{involutive}
 use borrow.Author.Needs.{needs}
-use Rattle.lattice.proofs.is_involutive.Statement.{statement}
-use Rattle.lattice.proofs.is_involutive.Tie as tie
+use Rattle.lattice.proofs.complements.is_involutive.Statement.{statement}
+use Rattle.lattice.proofs.complements.is_involutive.Tie as tie
 
 abbrev Inv-loop : tie.InvT-loop
 Inv-loop part n a₀ a = (a ≤ n) × Passed (involutive (latticeOf part)) a

@@ -1,9 +1,9 @@
--- `lattice::element_of` meets its contract: by its test. Assumes nothing.
+-- `lattice::complements::element_of` meets its contract: by its test. Assumes nothing.
 use borrow.Author.Tests.{lt-ltb, le-ltb}
 use borrow.Author.Needs.{needs}
 use Rattle.theory.specs.Part.{element}
-use Rattle.lattice.proofs.element_of.Statement.{statement}
-use Rattle.lattice.proofs.element_of.Tie as tie
+use Rattle.lattice.proofs.complements.element_of.Statement.{statement}
+use Rattle.lattice.proofs.complements.element_of.Tie as tie
 
 returns : tie.Need-returns
 unfolding element

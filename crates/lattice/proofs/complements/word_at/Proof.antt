@@ -1,4 +1,4 @@
--- `lattice::word_at` meets its contract: an element's code, or its complement's. Assumes nothing.
+-- `lattice::complements::word_at` meets its contract: an element's code, or its complement's. Assumes nothing.
 use mathlib.Core.Path.{_≡_, sym, ap, _∙_}
 use Prim.Native.Nat.{ℕ}
 use native.Mathlib.Omega.{arith}
@@ -9,8 +9,8 @@ use Rattle.lattice.specs.Accepted.{formed}
 use Rattle.lattice.specs.Parts.{element-within}
 use Rattle.lattice.specs.Filling.{words-low, words-high}
 use borrow.Author.Needs.{needs}
-use Rattle.lattice.proofs.word_at.Statement.{statement}
-use Rattle.lattice.proofs.word_at.Tie as tie
+use Rattle.lattice.proofs.complements.word_at.Statement.{statement}
+use Rattle.lattice.proofs.complements.word_at.Tie as tie
 
 element-copy-out-result : tie.Need-element-copy-out-result
 element-copy-out-result c =

@@ -1,8 +1,8 @@
--- `lattice::pair_antitone` meets its contract: case by case. Assumes nothing.
+-- `lattice::complements::pair_antitone` meets its contract: case by case. Assumes nothing.
 use Rattle.lattice.specs.Filling.{antitone-skip, antitone-test}
 use borrow.Author.Needs.{needs}
-use Rattle.lattice.proofs.pair_antitone.Statement.{statement}
-use Rattle.lattice.proofs.pair_antitone.Tie as tie
+use Rattle.lattice.proofs.complements.pair_antitone.Statement.{statement}
+use Rattle.lattice.proofs.complements.pair_antitone.Tie as tie
 
 returns : tie.Need-returns
 returns c = let p = c .before .before .before .before .before .args in antitone-test (p .w .now) (p .a) (p .b) (c .if1 .taken)
