@@ -14,7 +14,7 @@ mod note;
 mod report;
 mod step;
 mod table;
-mod why;
+pub mod why;
 
 pub use arguments::Arguments;
 pub use failure::{refusal_text, Failure};

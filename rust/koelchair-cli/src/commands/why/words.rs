@@ -17,7 +17,7 @@ pub fn text(case: &Case, answer: &Answer, all: bool) -> String {
     let mut text = heading(case, answer);
     for reason in &answer.reasons {
         let view = reason.view();
-        let words = Words { case, view: &view };
+        let words = Words::of(case, &view);
         text.push('\n');
         text.push_str(&words.reason(answer, reason, all));
     }
@@ -25,11 +25,13 @@ pub fn text(case: &Case, answer: &Answer, all: bool) -> String {
 }
 
 /// A sentence for each reason: whose view it is, and the cause.
-pub fn in_short(case: &Case, answer: &Answer) -> Vec<String> {
+pub fn in_short(case: &Case, answer: &Answer, owners: [&str; 2]) -> Vec<String> {
     let sentence = |reason: &Reason| {
-        let view = reason.view();
-        let words = Words { case, view: &view };
-        let label = words.label(answer, reason).replace('\n', " ");
+        let view = &reason.view();
+        let words = Words { case, view, owners };
+        let label = words
+            .label(&reason.views, answer.element)
+            .replace('\n', " ");
         let short = match (&reason.initial, reason.way.is_empty()) {
             (Some(initial), true) => words.initial(initial),
             _ => words.sentence(&reason.way),
@@ -70,13 +72,25 @@ fn heading(case: &Case, answer: &Answer) -> String {
     text
 }
 
+/// Whose the models are.
+pub const OWNERS: [&str; 2] = ["student", "course"];
+
 /// The words of one view.
-struct Words<'a> {
-    case: &'a Case,
-    view: &'a View,
+pub struct Words<'a> {
+    /// The case.
+    pub case: &'a Case,
+    /// The view.
+    pub view: &'a View,
+    /// Whose model is followed, and whose follows.
+    pub owners: [&'a str; 2],
 }
 
-impl Words<'_> {
+impl<'a> Words<'a> {
+    fn of(case: &'a Case, view: &'a View) -> Words<'a> {
+        let owners = OWNERS;
+        Words { case, view, owners }
+    }
+
     fn state(&self, model: usize, state: usize) -> &str {
         &self.case.models[model].states[state]
     }
@@ -95,7 +109,7 @@ impl Words<'_> {
     }
 
     fn reason(&self, answer: &Answer, reason: &Reason, all: bool) -> String {
-        let mut text = self.label(answer, reason);
+        let mut text = self.label(&reason.views, answer.element);
         if let Some(initial) = &reason.initial {
             text.push_str(&self.initial(initial));
         }
@@ -116,34 +130,32 @@ impl Words<'_> {
     }
 
     /// Whose view it is, and what the entry or the score is in it.
-    fn label(&self, answer: &Answer, reason: &Reason) -> String {
-        let labels: Vec<&str> = reason.views.iter().map(|v| v.label.as_str()).collect();
+    pub fn label(&self, views: &[View], element: u8) -> String {
+        let labels: Vec<&str> = views.iter().map(|v| v.label.as_str()).collect();
         match labels[..] {
             [""] => String::new(),
-            [one] => format!("For {one}: {}\n", self.element(answer.element)),
-            _ => format!(
-                "For {}: {}\n",
-                labels.join(" and "),
-                self.element(answer.element)
-            ),
+            _ => format!("For {}: {}\n", labels.join(" and "), self.element(element)),
         }
     }
 
     fn initial(&self, initial: &Initial) -> String {
+        let [one, other] = self.owners;
         let state = self.state(0, initial.state);
         let value = self.unless_top(initial.value);
-        let mut text = format!("The student begins at {state}{value}. ");
+        let mut text = format!("The {one} begins at {state}{value}. ");
         match &initial.answers[..] {
-            [] => text.push_str("The course has no initial state.\n"),
+            [] => {
+                let _ = writeln!(text, "The {other} has no initial state.");
+            }
             [best, others @ ..] => {
                 let to = self.state(1, best.to);
                 let _ = match best.low {
                     true => writeln!(
                         text,
-                        "The course begins at {to} only with {}.",
+                        "The {other} begins at {to} only with {}.",
                         self.element(best.value)
                     ),
-                    false => writeln!(text, "The course begins at {to}; see 1."),
+                    false => writeln!(text, "The {other} begins at {to}; see 1."),
                 };
                 text.push_str(&self.others(initial.state, None, others, ""));
             }
@@ -220,6 +232,7 @@ impl Words<'_> {
     }
 
     fn proposition(&self, difference: &Difference) -> String {
+        let [one, other] = self.owners;
         let name = format!("`{}`", self.case.propositions[difference.proposition]);
         let [student, course] = difference.values.map(|v| self.element(v));
         match student == course {
@@ -227,7 +240,7 @@ impl Words<'_> {
                 let gives = self.element(difference.gives);
                 format!("{name} is {student} for both, and compared with itself that gives {gives}")
             }
-            false => format!("{name} is {student} for the student and {course} for the course"),
+            false => format!("{name} is {student} for the {one} and {course} for the {other}"),
         }
     }
 
@@ -239,19 +252,20 @@ impl Words<'_> {
     }
 
     /// The way of the student's to the cause, and the cause, in one sentence.
-    fn sentence(&self, way: &[Step]) -> String {
+    pub fn sentence(&self, way: &[Step]) -> String {
         let Some(last) = way.last() else {
             return String::new();
         };
+        let [one, other] = self.owners;
         let (path, course) = (self.path(way), self.state(1, last.pair.1));
         match &last.cause {
             Cause::Propositions(list) => {
                 let said: Vec<String> = list.iter().map(|d| self.proposition(d)).collect();
                 let said = said.join(", ");
                 match way.len() {
-                    1 => format!("at {path} (the course at {course}) {said}."),
+                    1 => format!("at {path} (the {other} at {course}) {said}."),
                     _ => {
-                        format!("the student can go {path}; there (the course at {course}) {said}.")
+                        format!("the {one} can go {path}; there (the {other} at {course}) {said}.")
                     }
                 }
             }
@@ -265,7 +279,7 @@ impl Words<'_> {
                     }
                 };
                 format!(
-                    "the student can go {path} -> {target}, and the course at {course} {goes_on}."
+                    "the {one} can go {path} -> {target}, and the {other} at {course} {goes_on}."
                 )
             }
         }
