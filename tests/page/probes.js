@@ -102,7 +102,8 @@ window.probe = {
       return box.left < -1 || box.top < -1 || box.right > window.innerWidth + 1 || box.bottom > window.innerHeight + 1;
     };
     const inner = [...document.querySelectorAll(".model svg text")].filter(over);
-    return [...parts.filter((node) => over(node) || node.getBoundingClientRect().height < 20).map((node) => node.id), ...inner.map((node) => node.textContent)];
+    const words = document.getElementById("pair");
+    return [...(words.scrollHeight > words.clientHeight + 1 ? ["a part of the words"] : []), ...parts.filter((node) => over(node) || node.getBoundingClientRect().height < 20).map((node) => node.id), ...inner.map((node) => node.textContent)];
   },
 
   // The least text in both drawings, in pixels.

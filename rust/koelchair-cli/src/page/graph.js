@@ -316,9 +316,11 @@ function showModels() {
 function fitStage() {
   const stage = at("stage");
   const part = (at("table").offsetWidth + 12 + (at("overview").hidden ? 0 : at("overview").offsetWidth + 10)) / stage.clientWidth;
-  const wide = window.innerWidth >= 900 && part > 0.34;
+  const wide = window.innerWidth >= 900 && part > 0.35;
   stage.classList.toggle("wide", wide);
-  stage.style.setProperty("--left", wide ? Math.max(10, Math.min(16, Math.ceil(part * 24))) : `${Math.max(31, part * 100)}%`);
+  stage.style.setProperty("--left", wide ? Math.max(10, Math.min(16, Math.ceil(part * 24))) : `${Math.max(33, part * 100)}%`);
+  const top = Math.max(at("table").offsetHeight + 9, stage.clientHeight * 0.34);
+  stage.style.setProperty("--top", `${Math.min(top, stage.clientHeight * 0.46)}px`);
   [0, 1].filter((m) => at(`model${m + 1}`).checkVisibility()).forEach(drawGraph);
   if (chosen !== null) showPair();
 }

@@ -2,7 +2,7 @@
 
 function showHead() {
   const [one, other] = data.owners;
-  at("title").textContent = data.title || "Latticed simulation";
+  at("title").textContent = (data.title || "Latticed simulation") + (exchanged ? ", exchanged" : "");
   at("direction").replaceChildren(
     "How far can the ", person(1), " follow the ", person(0), `? Rows are the ${one}'s states, columns the ${other}'s. ` +
     `What is true of all ways on in the ${other}'s model carries over to the ${one}'s, as far as the entry says; nothing is said the other way round.`,
@@ -94,6 +94,8 @@ function start() {
   startControls();
   fitStage();
   readAddress();
+  fitStage();
+  toCell();
   reading = false;
   window.addEventListener("hashchange", () => {
     reading = true;

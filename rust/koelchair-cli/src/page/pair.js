@@ -123,7 +123,7 @@ function withCode(text) {
 function reasonLine({ label, cause }, i, several) {
   const inside = [...(label ? [make("strong", {}, `${label}. `)] : []), ...withCode(capital(cause?.text ?? ""))];
   if (!several) return make("p", { class: "reason" }, ...inside);
-  const button = make("button", { type: "button", class: "reason", "aria-pressed": i === shownReason }, ...inside);
+  const button = make("button", { type: "button", class: "reason", "aria-pressed": String(i === shownReason) }, ...inside);
   button.addEventListener("click", () => {
     shownReason = i;
     showPair();
@@ -132,27 +132,25 @@ function reasonLine({ label, cause }, i, several) {
   return button;
 }
 
-// The two arrows that are lit, in words; of propositions the round alone.
+// The two arrows that are lit, in words, and the round in which the entry fell.
 function litWords(cause) {
   const [q1, q2] = cause.pair;
-  const fell = ` The entry fell in round ${cause.round}.`;
-  if (cause.to === null) return [fell.trim()];
-  const answer = cause.answer === null
-    ? [person(1), ` has no transition from ${columns[q2]}.`]
-    : [person(1), ` answers best by ${columns[q2]} \u2192 ${columns[cause.answer]}.`];
-  return ["The ", person(0), ` goes ${rows[q1]} \u2192 ${rows[cause.to]}; the `, ...answer, fell];
+  const fell = `Fell in round ${cause.round}.`;
+  if (cause.to === null) return [fell];
+  const answer = cause.answer === null ? ` has no arrow from ${columns[q2]}. ` : ` at best ${columns[q2]} \u2192 ${columns[cause.answer]}. `;
+  return [person(0), ` ${rows[q1]} \u2192 ${rows[cause.to]}, `, person(1), answer, fell];
 }
 
 function stepButtons(cause) {
   const next = make("button", { type: "button", id: "next-cause", onclick: nextCause }, "Next cause");
   const back = make("button", { type: "button", id: "back", onclick: formerCause }, "Back");
-  next.disabled = cause === null || cause.next === null;
+  next.disabled = cause.next === null;
   back.disabled = trail.length === 0;
   const keep = document.activeElement?.id;
   if (["next-cause", "back"].includes(keep)) queueMicrotask(() => (at(keep).disabled ? at(keep === "back" ? "next-cause" : "back") : at(keep)).focus());
-  const after = cause !== null && cause.next !== null ? causeOf(cause.next).pair : null;
-  const where = after ? ` leads to (${rows[after[0]]}, ${columns[after[1]]})` : trail.length > 0 ? " this is the cause" : "";
-  return make("div", { class: "line steps" }, back, next, make("span", {}, where));
+  const after = cause.next !== null ? causeOf(cause.next).pair : null;
+  if (after) next.title = `the student's arrow and the best answer lead to (${rows[after[0]]}, ${columns[after[1]]})`.replace("student", data.owners[0]);
+  return make("div", { class: "line steps" }, back, next, make("span", {}, after ? "" : "This is the cause."));
 }
 
 // What is said of the chosen pair in words, and lit in the drawings.
@@ -174,11 +172,10 @@ function showPair() {
   const [q1, q2] = chosen;
   const entry = entries[q1 * columns.length + q2];
   if (shownReason >= reasons().length) shownReason = 0;
-  const standing = shownRound === T ? `settled at round ${T}` : `round ${shownRound} of ${T}, not a result`;
   const heading = make("h3", { id: "pair-heading" }, person(0), ` ${rows[q1]}, `, person(1), ` ${columns[q2]}: `, chip(entry));
   at("pair").replaceChildren(
     heading,
-    make("p", { id: "pair-entry", "data-entry": lattice.names[entry], class: shownRound === T ? "" : "middle" }, capital(standing)),
+    ...(shownRound === T ? [] : [make("p", { class: "middle" }, `Round ${shownRound} of ${T}, not a result`)]),
     ...(chosenArrow === null ? showWhy(entry) : showArrow()),
   );
   showBounds(entry);

@@ -28,7 +28,7 @@ function buildTable() {
     const line = columns.map((_, q2) => make("td", {}, cell(q1, q2)));
     return make("tr", {}, make("th", { scope: "row" }, name), ...line);
   });
-  at("table").append(make("caption", { id: "table-caption" }), make("thead", {}, head), make("tbody", {}, ...body));
+  at("table").append(make("caption", {}, make("span", { id: "table-caption" })), make("thead", {}, head), make("tbody", {}, ...body));
   if (columns.length * longestName() > 90 || rows.length > 12) startOverview();
   cells[0].setAttribute("tabindex", "0");
   roving(at("table"), ".cell", nextCell);
