@@ -114,7 +114,11 @@ window.probe = {
   // On paper: buttons that are no entries, and boxes that hide a part of what they hold.
   paper() {
     const buttons = [...document.querySelectorAll("button:not(.cell):not(.reason), input, summary")].filter((node) => node.checkVisibility());
-    const cut = [...document.querySelectorAll(".scroll")].filter((node) => node.checkVisibility() && getComputedStyle(node).overflowY !== "visible");
+    const low = (text) => text.getBoundingClientRect().bottom > text.closest(".model").getBoundingClientRect().bottom;
+    const cut = [
+      ...[...document.querySelectorAll(".scroll")].filter((node) => node.checkVisibility() && getComputedStyle(node).overflowY !== "visible"),
+      ...[...document.querySelectorAll(".model svg text")].filter(low),
+    ];
     return { buttons: buttons.map((node) => node.id || node.textContent), cut: cut.length, folded: document.querySelectorAll("details:not([open])").length, theme: document.documentElement.dataset.theme };
   },
 

@@ -32,7 +32,7 @@ function bestDrawing(m, width, height) {
     return drawn[m][bare].reduce((a, b) => (scale(b) > scale(a) * 1.05 ? b : a));
   };
   const full = made(false);
-  return layered || scale(full) * 18 >= 14 ? full : made(true);
+  return layered || scale(full) * 18 >= 13 ? full : made(true);
 }
 
 function valueLabel(label, m) {
