@@ -94,12 +94,35 @@ class Browser:
         """Sets the size of the window and what the system prefers."""
         self.command("Emulation.setDeviceMetricsOverride", width=width, height=height, deviceScaleFactor=1, mobile=False)
         value = "dark" if dark else "light"
-        self.command("Emulation.setEmulatedMedia", features=[{"name": "prefers-color-scheme", "value": value}])
+        self.command("Emulation.setEmulatedMedia", media="", features=[{"name": "prefers-color-scheme", "value": value}])
+
+    def paper(self):
+        """Shows the page as on paper."""
+        self.command("Emulation.setEmulatedMedia", media="print")
+
+    def click(self, selector):
+        """Presses the mouse in the middle of the first element that a selector finds."""
+        middle = ("((n) => { const b = n.getBoundingClientRect(); return [b.left + b.width / 2, b.top + b.height / 2]; })"
+                  f"(document.querySelector({json.dumps(selector)}))")
+        x, y = self.evaluate(middle)
+        self.press(x, y)
+
+    def press(self, x, y):
+        """Presses the mouse at a place of the window."""
+        for kind in ("mouseMoved", "mousePressed", "mouseReleased"):
+            self.command("Input.dispatchMouseEvent", type=kind, x=x, y=y, button="none" if kind == "mouseMoved" else "left", clickCount=1)
+
+    def drag(self, start, end):
+        """Drags the mouse from one place of the window to another."""
+        steps = (("mouseMoved", start, 0), ("mousePressed", start, 1), ("mouseMoved", end, 1), ("mouseReleased", end, 0))
+        for kind, (x, y), held in steps:
+            button = "left" if held or kind == "mouseReleased" else "none"
+            self.command("Input.dispatchMouseEvent", type=kind, x=x, y=y, button=button, buttons=held, clickCount=1)
 
     def key(self, key, shift=False):
         """Presses a key."""
         text = {"Enter": "\r", " ": " "}.get(key)
-        codes = {"Enter": 13, " ": 32, "Tab": 9, "End": 35, "Home": 36, "ArrowLeft": 37, "ArrowUp": 38, "ArrowRight": 39, "ArrowDown": 40}
+        codes = {"Enter": 13, " ": 32, "Tab": 9, "End": 35, "PageUp": 33, "PageDown": 34, "Home": 36, "ArrowLeft": 37, "ArrowUp": 38, "ArrowRight": 39, "ArrowDown": 40}
         parameters = {"key": key, "code": "Space" if key == " " else key, "windowsVirtualKeyCode": codes[key], "modifiers": 8 if shift else 0}
         down = {"type": "keyDown", "text": text} if text else {"type": "rawKeyDown"}
         self.command("Input.dispatchKeyEvent", **down, **parameters)

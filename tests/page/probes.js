@@ -29,7 +29,7 @@ window.probe = {
   },
 
   pairLines() {
-    const rows = [...document.querySelectorAll("#pair tbody tr")];
+    const rows = [...document.querySelectorAll("#bounds tbody tr")];
     return {
       heading: document.getElementById("pair-heading").textContent,
       lines: rows.map((row) => [...row.querySelectorAll("td")].map((cell) => cell.textContent)),
@@ -41,8 +41,8 @@ window.probe = {
     const found = [];
     for (const cell of document.querySelectorAll(".cell")) {
       cell.click();
-      const entry = document.querySelector("#pair-entry .chip").textContent;
-      for (const row of document.querySelectorAll("#pair tbody tr")) {
+      const entry = document.querySelector("#pair-heading .chip").textContent;
+      for (const row of document.querySelectorAll("#bounds tbody tr")) {
         const [value2, value1, bound, below, covered] = [...row.querySelectorAll("td")].map((td) => td.textContent);
         found.push({ value1, value2, bound, entry, below: below === "at or below", covered: covered.startsWith("covered") });
       }
@@ -81,11 +81,53 @@ window.probe = {
     return nodes.filter((node) => own(node) && this.seen(node) && node.closest("noscript") === null);
   },
 
-  // Text under 18px; in a drawing its size on the screen counts, and the mark in the banner's triangle does not.
+  // What is said of the chosen pair, and what is lit: for each drawing its arrows and its states.
+  why() {
+    const lit = (model, selector, ...names) => [...document.querySelectorAll(`#model${model} ${selector}.lit`)].map((node) => names.map((name) => Number(node.dataset[name])));
+    return {
+      heading: document.getElementById("pair-heading").textContent,
+      sentences: [...document.querySelectorAll("#pair .reason")].map((node) => node.textContent),
+      said: document.getElementById("pair").textContent,
+      arrows: [1, 2].map((model) => lit(model, ".arrow", "from", "to")),
+      states: [1, 2].map((model) => lit(model, ".node", "state").flat()),
+      pair: this.pair().map(Number),
+    };
+  },
+
+  // Of what the first screen has to hold: what reaches over the window's edge, and what of the words is cut off.
+  outside() {
+    const parts = ["title", "controls", "banner", "table-box", "pair", "model1", "model2"].map((id) => document.getElementById(id));
+    const over = (node) => {
+      const box = node.getBoundingClientRect();
+      return box.left < -1 || box.top < -1 || box.right > window.innerWidth + 1 || box.bottom > window.innerHeight + 1;
+    };
+    const inner = [...document.querySelectorAll(".model svg text")].filter(over);
+    const words = document.getElementById("pair");
+    return [...(words.scrollHeight > words.clientHeight + 1 ? ["a part of the words"] : []), ...parts.filter((node) => over(node) || node.getBoundingClientRect().height < 20).map((node) => node.id), ...inner.map((node) => node.textContent)];
+  },
+
+  // The least text in both drawings, in pixels.
+  leastInDrawings() {
+    return Math.min(...[...document.querySelectorAll(".model svg text")].map((node) => parseFloat(getComputedStyle(node).fontSize) * node.getScreenCTM().a));
+  },
+
+  // On paper: buttons that are no entries, and boxes that hide a part of what they hold.
+  paper() {
+    const buttons = [...document.querySelectorAll("button:not(.cell):not(.reason), input, summary")].filter((node) => node.checkVisibility());
+    const low = (text) => text.getBoundingClientRect().bottom > text.closest(".model").getBoundingClientRect().bottom;
+    const cut = [
+      ...[...document.querySelectorAll(".scroll")].filter((node) => node.checkVisibility() && getComputedStyle(node).overflowY !== "visible"),
+      ...[...document.querySelectorAll(".model svg text")].filter(low),
+    ];
+    return { buttons: buttons.map((node) => node.id || node.textContent), cut: cut.length, folded: document.querySelectorAll("details:not([open])").length, theme: document.documentElement.dataset.theme };
+  },
+
+  // Text under 18px; the size of text in the models' drawings, which are fitted into the screen, is asked for by itself, and the
+  // mark in the banner's triangle does not count.
   smallText() {
     const small = (node) => {
       const scale = node.ownerSVGElement ? node.getScreenCTM().a : 1;
-      return parseFloat(getComputedStyle(node).fontSize) * scale < 17.9 && !node.closest(".shape");
+      return parseFloat(getComputedStyle(node).fontSize) * scale < 17.9 && !node.closest(".shape, .model svg");
     };
     return [...new Set(this.texts().filter(small).map((node) => `${node.tagName} ${node.textContent.slice(0, 20)}`))].slice(0, 5);
   },
@@ -93,7 +135,7 @@ window.probe = {
   // Texts of one drawing that lie on each other.
   overlaps() {
     const found = [];
-    for (const svg of document.querySelectorAll(".drawing svg")) {
+    for (const svg of document.querySelectorAll(".drawing svg:not(.layered)")) {
       const boxes = [...svg.querySelectorAll("text")].map((text) => [text.textContent, text.getBoundingClientRect()]);
       boxes.forEach(([name, a], i) => {
         for (const [other, b] of boxes.slice(i + 1)) {

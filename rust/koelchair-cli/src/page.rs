@@ -2,8 +2,12 @@
 //! they show stands in it as JSON (`data`). The script looks values up and draws; it works out no entry and no value.
 
 mod data;
+mod why;
 
+use crate::case::Case;
+use crate::commands::why::OWNERS;
 use crate::commands::{open, read_text, Arguments, Failure, Opened, Outcome, Printed};
+use crate::encode::encode;
 use crate::json;
 use crate::warnings::{warnings, Warning};
 use std::io::Read;
@@ -13,11 +17,12 @@ const STYLE: &str = include_str!("page/style.css");
 /// What stands on the page before the script has run.
 const BODY: &str = include_str!("page/body.html");
 /// The script, in the order in which its parts rest on each other.
-const SCRIPT: [&str; 8] = [
+const SCRIPT: [&str; 9] = [
     include_str!("page/base.js"),
     include_str!("page/colours.js"),
     include_str!("page/table.js"),
     include_str!("page/pair.js"),
+    include_str!("page/layout.js"),
     include_str!("page/graph.js"),
     include_str!("page/hasse.js"),
     include_str!("page/formulas.js"),
@@ -26,18 +31,21 @@ const SCRIPT: [&str; 8] = [
 /// Tells the browser to load nothing from anywhere.
 const POLICY: &str = "default-src 'none'; style-src 'unsafe-inline'; script-src 'unsafe-inline'";
 
+/// Up to so many states a page also has the case exchanged.
+const MOST_STATES: usize = 24;
+
 /// Runs `page`.
 pub fn page(arguments: &[String], input: &mut dyn Read) -> Outcome {
     let flags = ["--bytes", "--deny-warnings"];
     let arguments = Arguments::read(arguments, &flags, &["--course"])?;
     let [file] = arguments.exactly(["FILE"])?;
-    let mut opened = open(read_text(file, &arguments, input)?)?;
+    let opened = open(read_text(file, &arguments, input)?)?;
     let list = warnings(&opened.text, &opened.case);
     let surroundings = Surroundings {
         warnings: &list,
         ..Surroundings::default()
     };
-    let html = html(&mut opened, &surroundings)?;
+    let html = html(&opened, &surroundings)?;
     Ok(Printed::new(html).with_warnings(&opened.text, &list, &arguments))
 }
 
@@ -52,9 +60,10 @@ pub struct Surroundings<'a> {
     pub warnings: &'a [Warning],
 }
 
-/// The page of an opened case at round 0. Afterwards the desk is settled.
-pub fn html(opened: &mut Opened, surroundings: &Surroundings) -> Result<String, Failure> {
-    let data = data::of(opened)?;
+/// The page of an opened case.
+pub fn html(opened: &Opened, surroundings: &Surroundings) -> Result<String, Failure> {
+    let data = data::of(&opened.case, &opened.text.bytes, OWNERS)?;
+    let exchanged = exchanged(&opened.case)?;
     let title = match &opened.case.title {
         Some(title) => format!("{title} - koelchair"),
         None => "koelchair".to_string(),
@@ -66,16 +75,40 @@ pub fn html(opened: &mut Opened, surroundings: &Surroundings) -> Result<String, 
     let script = SCRIPT.concat();
     let student = surroundings.student.map(json::text).unwrap_or_default();
     let class = match surroundings.class {
-        true => format!("<p><a href=\"index.html\">The class</a> / {student}</p>\n"),
+        true => format!("<p><a href=\"index.html\">The class</a> / {student}</p>\n      "),
         false => String::new(),
     };
-    let warnings = warning_list(surroundings.warnings);
-    let body = BODY.replacen("<main>", &format!("{warnings}<main>"), 1);
+    let warnings = folded_warnings(surroundings.warnings);
+    let body = BODY.replacen("<div id=\"warnings\"></div>", &warnings, 1);
+    let body = body.replacen("<h1 ", &format!("{class}<h1 "), 1);
     let body = format!(
-        "{class}{body}<script type=\"application/json\" id=\"case\">{data}</script>\n\
+        "{body}<script type=\"application/json\" id=\"case\">{data}</script>\n\
+         <script type=\"application/json\" id=\"exchanged\">{exchanged}</script>\n\
          <script>\n\"use strict\";\n(() => {{\n{script}}})();\n</script>\n"
     );
     Ok(document(&title, &body))
+}
+
+/// The data of the case with its models exchanged, worked by the library; `null` for a case whose page would be too long.
+fn exchanged(case: &Case) -> Result<String, Failure> {
+    let other = data::exchanged(case);
+    match encode(&other) {
+        Ok(bytes) if case.models.iter().all(|m| m.size() <= MOST_STATES) => {
+            data::of(&other, &bytes, [OWNERS[1], OWNERS[0]])
+        }
+        _ => Ok("null".to_string()),
+    }
+}
+
+/// How many warnings there are, beside the score, unfolded to the list; nothing where there is none.
+fn folded_warnings(list: &[Warning]) -> String {
+    let summary = match list.len() {
+        0 => return String::new(),
+        1 => "1 warning".to_string(),
+        n => format!("{n} warnings"),
+    };
+    let list = warning_list(list);
+    format!("<details id=\"warnings\"><summary>{summary}</summary>\n{list}</details>\n")
 }
 
 /// Warnings as a list; nothing where there is none.

@@ -18,7 +18,7 @@ pub struct Reasoning<'a> {
 }
 
 /// One pair on the way to the cause.
-#[derive(Clone, Debug, PartialEq, Eq)]
+#[derive(Clone, Debug, PartialEq, Eq, Hash)]
 pub struct Step {
     /// The student's state and the course's.
     pub pair: (usize, usize),
@@ -31,7 +31,7 @@ pub struct Step {
 }
 
 /// What makes an entry fail a question.
-#[derive(Clone, Debug, PartialEq, Eq)]
+#[derive(Clone, Debug, PartialEq, Eq, Hash)]
 pub enum Cause {
     /// These propositions.
     Propositions(Vec<Difference>),
@@ -47,7 +47,7 @@ pub enum Cause {
 }
 
 /// A proposition on which two states do not agree to the degree that is asked.
-#[derive(Clone, Copy, Debug, PartialEq, Eq)]
+#[derive(Clone, Copy, Debug, PartialEq, Eq, Hash)]
 pub struct Difference {
     /// The proposition.
     pub proposition: usize,
@@ -58,7 +58,7 @@ pub struct Difference {
 }
 
 /// A transition of the course's, or an initial state, that does not answer.
-#[derive(Clone, Copy, Debug, PartialEq, Eq)]
+#[derive(Clone, Copy, Debug, PartialEq, Eq, Hash)]
 pub struct Tried {
     /// The course's state that it leads to.
     pub to: usize,

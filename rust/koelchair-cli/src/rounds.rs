@@ -55,6 +55,11 @@ impl History {
         changes[later - 1].1
     }
 
+    /// The elements that an entry is in one round after another, each once.
+    pub fn elements(&self, place: usize) -> impl Iterator<Item = u8> + '_ {
+        self.changes[place].iter().map(|(_, e)| *e)
+    }
+
     /// The settled entry.
     pub fn settled(&self, place: usize) -> u8 {
         self.at(place, self.rounds)

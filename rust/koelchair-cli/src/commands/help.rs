@@ -88,11 +88,11 @@ const COMMANDS: [(&str, &str, &str); 11] = [
 const SHARED: [(&str, &str); 4] = [
     (
         "--course COURSE  FILE has model 1 alone, and COURSE the rest",
-        "check, report, why, step, explain, page, dot, encode",
+        "check, report, why, step, explain, page, dot, draw, encode",
     ),
     (
         "--bytes          FILE holds the bytes of a case, not its text",
-        "check, report, why, step, explain, page, dot",
+        "check, report, why, step, explain, page, dot, draw",
     ),
     (
         "--json           what is said as JSON, on one line (docs/TEXT-FORM.md gives its form)",

@@ -15,7 +15,7 @@ mod note;
 mod report;
 mod step;
 mod table;
-mod why;
+pub mod why;
 
 pub use arguments::{count, Arguments};
 pub use failure::{refusal_text, Failure};

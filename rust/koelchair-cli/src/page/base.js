@@ -9,8 +9,11 @@ function failed(message) {
 window.addEventListener("error", (event) => failed(event.message));
 window.addEventListener("unhandledrejection", (event) => failed(String(event.reason)));
 
-// The case as the tool wrote it. All that the page says of it stands there; the script looks it up.
-const data = JSON.parse(document.getElementById("case").textContent);
+// The case as the tool wrote it, or exchanged where the address says so. All that the page says of it stands there; the script
+// looks it up.
+const other = JSON.parse(document.getElementById("exchanged").textContent);
+const exchanged = other !== null && location.hash.slice(1).split("&").includes("exchanged");
+const data = exchanged ? other : JSON.parse(document.getElementById("case").textContent);
 const lattice = data.lattice;
 const T = data.rounds.length - 1;
 const SVG = document.querySelector("svg").namespaceURI;
@@ -38,14 +41,19 @@ function draw(tag, attributes = {}, ...inside) {
   return fill(document.createElementNS(SVG, tag), attributes, inside);
 }
 
-// What people call a model: `model 1 (student)`.
+// What people call a model: `student's model`, with its title where that says more.
 function modelName(m) {
-  const title = data.models[m].title;
-  return title ? `model ${m + 1} (${title})` : `model ${m + 1}`;
+  const [owner, title] = [data.owners[m], data.models[m].title];
+  return title && title !== owner ? `${owner}'s model (${title})` : `${owner}'s model`;
+}
+
+// `student` or `course` in its colour.
+function person(m) {
+  return make("span", { class: `person ${data.owners[m]}` }, data.owners[m]);
 }
 
 function capital(text) {
-  return text[0].toUpperCase() + text.slice(1);
+  return text === "" ? "" : text[0].toUpperCase() + text.slice(1);
 }
 
 function count(number, what) {
@@ -54,7 +62,7 @@ function count(number, what) {
 
 // An element's name in its colour.
 function chip(element) {
-  return make("span", { class: `chip h${lattice.height[element]}` }, lattice.names[element]);
+  return make("span", { class: `chip ${coloured(element)}` }, lattice.names[element]);
 }
 
 // A table of nodes or text: the first row and the first cell of each other row are headings.
@@ -86,6 +94,18 @@ function textWidth(text, bold = false) {
 function short(text, most) {
   const letters = [...text];
   return letters.length > most ? `${letters.slice(0, most - 1).join("")}\u2026` : text;
+}
+
+// Names cut so that no two are the same: at the end, else in the middle, else not at all.
+function shortNames(names, most) {
+  const inside = (name) => {
+    const letters = [...name];
+    const half = Math.floor((most - 1) / 2);
+    return letters.length > most ? `${letters.slice(0, most - 1 - half).join("")}\u2026${letters.slice(-half).join("")}` : name;
+  };
+  const alone = (cut, name) => names.filter((other) => cut(other) === cut(name)).length === 1;
+  const cuts = [(name) => short(name, most), inside];
+  return names.map((name) => cuts.find((cut) => alone(cut, name))?.(name) ?? name);
 }
 
 // Arrow keys, Home and End over a list with one place in the order of Tab; `move` gives the next place or undefined.

@@ -1,4 +1,5 @@
-// Light and dark, and the colours of the elements: from orange (bottom) to blue (top) by height. Every cell also has its name.
+// Light and dark, and the colours of the elements: from orange (bottom) to blue (top) by level; for a panel a stripe for each
+// instructor. Every cell also has its name.
 
 const STOPS = {
   light: [[163, 64, 13], [246, 232, 190], [13, 84, 134]],
@@ -38,13 +39,28 @@ function showTheme() {
   at("theme").textContent = theme === "dark" ? "Light colours" : "Dark colours";
 }
 
+// The class that colours an element: by its level, and for a panel by its letters besides.
+function coloured(element) {
+  const letters = lattice.letters.length > 0 ? ` panel p${lattice.letters[element].join("")}` : "";
+  return `h${lattice.height[element]}${letters}`;
+}
+
+// For a panel a stripe for each instructor at the foot of a cell or chip, in the colours of no, unsure and yes.
+function panelRules() {
+  const colour = (letter) => `var(--h${(letter * highest) / 2})`;
+  return [...new Map(lattice.letters.map((letters) => [letters.join(""), letters]))].map(([name, letters]) => {
+    const stops = letters.map((letter, i) => `${colour(letter)} ${(i * 100) / 3}% ${((i + 1) * 100) / 3}%`);
+    return `.p${name}::after{background:linear-gradient(90deg,${stops.join(",")})}`;
+  });
+}
+
 function startTheme() {
   const rules = [];
   for (let h = 0; h <= highest; h += 1) {
     rules.push(`.h${h}{background:var(--h${h});color:var(--t${h})}`);
     rules.push(`.drawing .h${h} rect{fill:var(--h${h})}.drawing .h${h} text{fill:var(--t${h})}`);
   }
-  document.head.append(make("style", {}, rules.join("\n")));
+  document.head.append(make("style", {}, [...rules, ...panelRules()].join("\n")));
   systemDark.addEventListener("change", showTheme);
   at("theme").addEventListener("click", () => {
     chosenTheme = document.documentElement.dataset.theme === "dark" ? "light" : "dark";
@@ -54,18 +70,19 @@ function startTheme() {
   showTheme();
 }
 
-// What the colours mean: the elements themselves, or the heights where there are many.
+// What the colours mean: the elements themselves, or the levels where there are many.
 function showLegend() {
   const colours = [];
   const byHeight = (h) => lattice.names.filter((_, element) => lattice.height[element] === h);
   for (let h = 0; h <= highest && highest < 12; h += 1) {
     const names = byHeight(h);
-    colours.push(make("span", { class: `chip h${h}` }, names.length === 1 ? names[0] : `height ${h}`), " ");
+    colours.push(make("span", { class: `chip h${h}` }, names.length === 1 ? names[0] : `level ${h}`), " ");
   }
   if (highest >= 12) {
     for (const h of [0, highest >> 2, highest >> 1, highest - (highest >> 2), highest]) {
-      colours.push(make("span", { class: `chip h${h}` }, byHeight(h).length === 1 ? byHeight(h)[0] : `height ${h}`), " ");
+      colours.push(make("span", { class: `chip h${h}` }, byHeight(h).length === 1 ? byHeight(h)[0] : `level ${h}`), " ");
     }
   }
-  at("legend").append("Colours, from bottom to top: ", ...colours, "\u25BE lower than in the round before.");
+  at("legend").append("Colours, from bottom to top: ", ...colours, "\u25BE lower than in the round before.",
+    lattice.letters.length > 0 ? " The stripes below an entry are the three instructors' views." : "");
 }

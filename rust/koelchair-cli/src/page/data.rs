@@ -1,50 +1,78 @@
 //! What the page shows, as JSON. Entries of every round, scores, T and the formulas' values come from the library. Names,
-//! transitions and the order are those of the case. Heights, covering pairs and the table of (not a) joined with b come from the
-//! order, by `tables` as in `explain`: the library has no call for a single operation of the lattice.
+//! transitions and the order are those of the case. Levels, covering pairs and the table of (not a) joined with b come from the
+//! order, by `tables` as in `explain`: the library has no call for a single operation of the lattice. Reasons are those of `why`.
 
+use super::why;
 use crate::case::{Case, NamedFormula};
-use crate::commands::{Failure, Opened};
+use crate::commands::why::{ceiling, OWNERS};
+use crate::commands::Failure;
 use crate::formula_text;
 use crate::json::{array, numbers, object, string, strings};
 use crate::lattice::Lattice;
 use crate::lattice_text::covers;
 use crate::model::Model;
 use crate::progress::Progress;
-use crate::rounds::finish_round;
+use crate::reasons::Reasoning;
+use crate::rounds::{finish_round, History};
 use crate::tables::Operations;
 use koelchair::{Desk, Element, State, StepAnswer};
 
-/// The JSON of an opened case. Afterwards the desk is settled.
-pub fn of(opened: &mut Opened) -> Result<String, Failure> {
-    let no_lattice = || {
-        Failure::Other(
-            "the library accepts this lattice, and this tool finds no meets in it".to_string(),
-        )
-    };
-    let operations = Operations::of(&opened.case.lattice).ok_or_else(no_lattice)?;
-    let first = numbers(opened.desk.show());
-    let rounds = rounds(&mut opened.desk);
-    let case = &opened.case;
-    let formula = |(f, named)| formula(case, &opened.desk, f, named);
+/// The JSON of an accepted case, its bytes, and whose the two models are; the ceiling is what the course's scores against itself.
+pub fn of(case: &Case, bytes: &[u8], owners: [&str; 2]) -> Result<String, Failure> {
+    let no_lattice = "the library accepts this lattice, and this tool finds no meets in it";
+    let operations =
+        Operations::of(&case.lattice).ok_or_else(|| Failure::Other(no_lattice.to_string()))?;
+    let mut desk = open(bytes)?;
+    let first = numbers(desk.show());
+    let rounds = rounds(&mut desk);
+    let formula = |(f, named)| formula(case, &desk, f, named);
     let formulas: Vec<String> = case
         .formulas
         .iter()
         .enumerate()
         .map(formula)
         .collect::<Result<_, _>>()?;
+    let history = History::of(&mut open(bytes)?);
+    let reasoning = Reasoning {
+        case,
+        operations: &operations,
+        history: &history,
+    };
+    let models = case.models.iter();
     Ok(object(&[
         ("title", string(case.title.as_deref().unwrap_or(""))),
         ("about", string(&case.head.join(" "))),
+        ("owners", strings(owners)),
+        ("ceiling", ceiling_of(case, owners)),
         ("lattice", lattice(&case.lattice, &operations)),
         ("propositions", strings(&case.propositions)),
-        (
-            "models",
-            array(case.models.iter().map(|m| model(m, operations.bottom))),
-        ),
+        ("models", array(models.map(|m| model(m, operations.bottom)))),
         ("formulas", array(formulas)),
         ("first", first),
         ("rounds", array(rounds)),
+        ("why", why::of(&reasoning, desk.score().0, owners)?),
     ]))
+}
+
+/// A desk at round 0.
+fn open(bytes: &[u8]) -> Result<Desk, Failure> {
+    Desk::open(bytes).map_err(|refusal| Failure::Other(refusal.to_string()))
+}
+
+/// What the course's model scores against itself, whichever of the two it is.
+fn ceiling_of(case: &Case, owners: [&str; 2]) -> String {
+    let ceiling = match owners == OWNERS {
+        true => ceiling(case),
+        false => ceiling(&exchanged(case)),
+    };
+    ceiling.map_or("null".to_string(), |e| e.to_string())
+}
+
+/// The case with its models exchanged.
+pub fn exchanged(case: &Case) -> Case {
+    let mut other = case.clone();
+    other.models.swap(0, 1);
+    other
 }
 
 /// For each round from 0 to T: its score, then for each entry that differs from the round before its place and its element.
@@ -70,7 +98,7 @@ fn rounds(desk: &mut Desk) -> Vec<String> {
     }
 }
 
-/// Names, complements, heights, covering pairs, (not a) joined with b at a·n + b, and whether a is at or below b.
+/// Names, complements, heights, a panel's letters, covering pairs, (not a) joined with b at a·n + b, and whether a is at or below b.
 fn lattice(lattice: &Lattice, operations: &Operations) -> String {
     let n = lattice.size();
     let pairs = || (0..n * n).map(move |i| (i / n, i % n));
@@ -89,9 +117,19 @@ fn lattice(lattice: &Lattice, operations: &Operations) -> String {
         ("covers", array(covering)),
         ("implies", numbers(implies)),
         ("atMost", numbers(at_most)),
+        ("letters", array(letters(lattice))),
         ("bottom", operations.bottom.to_string()),
         ("top", operations.top.to_string()),
     ])
+}
+
+/// For a panel each element's letters, from 0 (no) to 2 (yes); nothing for another lattice.
+fn letters(lattice: &Lattice) -> Vec<String> {
+    let each = |a: usize| numbers([a / 9 % 3, a / 3 % 3, a % 3]);
+    match lattice {
+        Lattice::Panel => (0..lattice.size()).map(each).collect(),
+        _ => Vec::new(),
+    }
 }
 
 /// Each element's height: the length of the longest way up to it from bottom.

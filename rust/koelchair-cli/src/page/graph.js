@@ -1,190 +1,10 @@
-// The models as graphs: states as circles on a ring, transitions as curved arrows with their values. Of several curves for an
-// arrow the one is drawn that comes nearest to touching no other state and no other value.
+// The models as graphs, each fitted into its part of the first screen; states and arrows can be chosen. What a chosen pair's
+// reason names is lit: the arrow of who is followed, the best answer of who follows, or the propositions that differ.
 
-const MOST_STATES = 12;
-const LINE = 23;
-
-// A graph's states: the lines in each circle, one radius for all, and their places.
-function circles(model) {
-  const nodes = model.states.map((name, q) => ({ q, name, lines: stateLines(model, q) }));
-  const radius = Math.max(36, ...nodes.map((node) => radiusOf(node.lines)));
-  nodes.forEach((node) => { node.radius = radius; });
-  return nodes;
-}
-
-// A state's name and its propositions that are not bottom; at most three lines of them.
-function stateLines(model, q) {
-  const k = data.propositions.length;
-  const all = data.propositions
-    .map((name, p) => [name, model.propositions[q * k + p]])
-    .filter(([, value]) => value !== lattice.bottom)
-    .map(([name, value]) => (value === lattice.top ? short(name, 15) : `${short(name, 9)}: ${short(lattice.names[value], 14)}`));
-  const shown = all.length > 4 ? [...all.slice(0, 3), `and ${all.length - 3} more`] : all;
-  return [short(model.states[q], 14), ...shown];
-}
-
-function radiusOf(lines) {
-  const reach = lines.map((line, i) => {
-    const y = Math.abs(i - (lines.length - 1) / 2) * LINE + 9;
-    return Math.hypot(textWidth(line, i === 0) / 2, y);
-  });
-  return Math.max(...reach) + 6;
-}
-
-// Puts the states on a ring, clockwise from the left, as far apart as `apart`; `out` is the direction away from the ring.
-function place(nodes, apart) {
-  const n = nodes.length;
-  if (n === 1) return Object.assign(nodes[0], { x: 0, y: 0, out: -Math.PI / 2 });
-  const flat = n > 6 ? 0.68 : 1;
-  const steps = 3600;
-  const point = (i) => {
-    const angle = Math.PI + (2 * Math.PI * i) / steps;
-    return [Math.cos(angle), flat * Math.sin(angle), angle];
-  };
-  const lengths = [0];
-  for (let i = 1; i <= steps; i += 1) {
-    const [a, b] = [point(i - 1), point(i)];
-    lengths.push(lengths[i - 1] + Math.hypot(b[0] - a[0], b[1] - a[1]));
-  }
-  const spread = nodes.map((_, q) => point(lengths.findIndex((length) => length >= (lengths[steps] * q) / n - 1e-9)));
-  const near = Math.min(...spread.map((a, q) => {
-    const b = spread[(q + 1) % n];
-    return Math.hypot(a[0] - b[0], a[1] - b[1]);
-  }));
-  nodes.forEach((node, q) => {
-    const [x, y, angle] = spread[q];
-    Object.assign(node, { x: (x * apart) / near, y: (y * apart) / near, out: Math.atan2(Math.sin(angle), flat * Math.cos(angle)) });
-  });
-}
-
-// The rectangle of a text around a point.
-function rectangle(text, x, y) {
-  const width = textWidth(text) + 14;
-  return { text, x: x - width / 2, y: y - 14, width, height: 28 };
-}
-
-function overlap(a, b, margin = 3) {
-  return a.x < b.x + b.width + margin && b.x < a.x + a.width + margin && a.y < b.y + b.height + margin && b.y < a.y + a.height + margin;
-}
-
-// How far a point is from a rectangle.
-function distance(x, y, r) {
-  const dx = Math.max(r.x - x, 0, x - r.x - r.width);
-  const dy = Math.max(r.y - y, 0, y - r.y - r.height);
-  return Math.hypot(dx, dy);
-}
-
-// The point of a curve with one control point at a part from 0 to 1.
-function onCurve([a, c, b], t) {
-  const mix = (key) => (1 - t) ** 2 * a[key] + 2 * t * (1 - t) * c[key] + t ** 2 * b[key];
-  return { x: mix("x"), y: mix("y") };
-}
-
-// The piece of a curve between two parts of it.
-function piece([a, c, b], s, t) {
-  const curve = [a, c, b];
-  const control = (key) => (1 - s) * (1 - t) * a[key] + (s * (1 - t) + t * (1 - s)) * c[key] + s * t * b[key];
-  return [onCurve(curve, s), { x: control("x"), y: control("y") }, onCurve(curve, t)];
-}
-
-// An arrow from one state to another with a bend, its value at a part of it, and how much it is in the way of others.
-function candidate(drawing, from, to, text, bend, part) {
-  const [dx, dy] = [to.x - from.x, to.y - from.y];
-  const control = { x: (from.x + to.x) / 2 + dy * bend, y: (from.y + to.y) / 2 - dx * bend };
-  const curve = [from, control, to];
-  const points = Array.from({ length: 31 }, (_, i) => onCurve(curve, i / 30));
-  const middle = onCurve(curve, part);
-  const label = rectangle(text, middle.x, middle.y);
-  const others = drawing.nodes.filter((node) => node !== from && node !== to);
-  let cost = Math.abs(Math.abs(bend) - 0.18) * 60 + (bend < 0 ? 4 : 0) + Math.abs(part - 0.5) * 40;
-  for (const node of others) {
-    if (points.some((p) => Math.hypot(p.x - node.x, p.y - node.y) < node.radius + 10)) cost += 1000;
-  }
-  if (drawing.bends.get(`${to.q},${from.q}`) === -bend) cost += 1000;
-  if (text) {
-    for (const node of drawing.nodes) if (distance(node.x, node.y, label) < node.radius + 6) cost += 400;
-    for (const other of drawing.labels) if (overlap(label, other)) cost += 600;
-    for (const other of drawing.curves) if (other.some((p) => distance(p.x, p.y, label) < 5)) cost += 60;
-  }
-  for (const other of drawing.labels) if (points.some((p) => distance(p.x, p.y, other) < 5)) cost += 60;
-  return { curve, points, label, bend, cost };
-}
-
-function arrow(drawing, from, to, text) {
-  const bends = [0.18, -0.18, 0.08, -0.08, 0.32, -0.32, 0.45, -0.45, 0.62, -0.62, 0.85, -0.85];
-  const parts = [0.5, 0.4, 0.6, 0.3, 0.7];
-  const all = bends.flatMap((bend) => parts.map((part) => candidate(drawing, from, to, text, bend, part)));
-  const best = all.reduce((a, b) => (b.cost < a.cost ? b : a));
-  const outside = (node, margin) => (p) => Math.hypot(p.x - node.x, p.y - node.y) > node.radius + margin;
-  const fine = Array.from({ length: 201 }, (_, i) => i / 200);
-  const start = fine.find((t) => outside(from, 1)(onCurve(best.curve, t))) ?? 0;
-  const end = fine.findLast((t) => outside(to, 11)(onCurve(best.curve, t))) ?? 1;
-  const [a, c, b] = piece(best.curve, start, Math.max(start, end));
-  drawing.curves.push(best.points);
-  drawing.bends.set(`${from.q},${to.q}`, best.bend);
-  if (text) drawing.labels.push(best.label);
-  return { path: `M${a.x} ${a.y} Q${c.x} ${c.y} ${b.x} ${b.y}` };
-}
-
-// Where a text stands beyond a point in a direction.
-function beyond(node, reach, angle, text) {
-  const width = textWidth(text) + 14;
-  const [c, s] = [Math.cos(angle), Math.sin(angle)];
-  const side = (part) => Math.max(-1, Math.min(1, 1.8 * part));
-  return rectangle(text, node.x + c * reach + (side(c) * width) / 2, node.y + s * reach + side(s) * 14);
-}
-
-// A transition from a state to itself: a loop away from the ring.
-function loop(drawing, node, text, angle) {
-  const far = node.radius + 62;
-  const corner = (turn, reach) => `${node.x + Math.cos(angle + turn) * reach} ${node.y + Math.sin(angle + turn) * reach}`;
-  const wide = 24 / node.radius;
-  drawing.curves.push([{ x: node.x + Math.cos(angle) * (far - 10), y: node.y + Math.sin(angle) * (far - 10) }]);
-  if (text) drawing.labels.push(beyond(node, node.radius + 50, angle, text));
-  return { path: `M${corner(-wide, node.radius + 1)} C${corner(-0.45, far)} ${corner(0.45, far)} ${corner(wide, node.radius + 11)}` };
-}
-
-// The mark of a state whose initial value is not bottom: an arrow from nowhere.
-function initial(drawing, node, text, angle) {
-  const point = (reach) => `${node.x + Math.cos(angle) * reach} ${node.y + Math.sin(angle) * reach}`;
-  drawing.labels.push(beyond(node, node.radius + 46, angle, text));
-  return { path: `M${point(node.radius + 44)} L${point(node.radius + 11)}` };
-}
-
-// All of a drawing: states, values at their places, paths.
-function layOut(model, values) {
-  const drawing = { nodes: circles(model), labels: [], curves: [], bends: new Map(), paths: [], elements: [] };
-  const widest = Math.max(40, ...model.transitions.map(([, , value]) => textWidth(values(value)) + 14));
-  const gap = model.states.length > 6 ? 48 : Math.min(widest, 190) + 44;
-  place(drawing.nodes, 2 * drawing.nodes[0].radius + gap);
-  const put = (made, element) => {
-    drawing.paths.push(made.path);
-    while (drawing.elements.length < drawing.labels.length) drawing.elements.push(element);
-  };
-  for (const node of drawing.nodes) {
-    const own = model.transitions.find(([from, to]) => from === node.q && to === node.q);
-    const value = model.initial[node.q];
-    const both = own && value !== lattice.bottom ? 0.62 : 0;
-    if (own) put(loop(drawing, node, values(own[2]), node.out + both), own[2]);
-    if (value !== lattice.bottom) put(initial(drawing, node, `initial: ${lattice.names[value]}`, node.out - both), value);
-  }
-  for (const [from, to, value] of model.transitions) {
-    if (from !== to) put(arrow(drawing, drawing.nodes[from], drawing.nodes[to], values(value)), value);
-  }
-  return drawing;
-}
-
-// What a drawing takes up.
-function extent({ nodes, labels, curves }) {
-  const boxes = [
-    ...nodes.map((n) => [n.x - n.radius, n.y - n.radius, n.x + n.radius, n.y + n.radius]),
-    ...labels.map((l) => [l.x, l.y, l.x + l.width, l.y + l.height]),
-    ...curves.flat().map((p) => [p.x, p.y, p.x, p.y]),
-  ];
-  const side = (i, pick) => pick(...boxes.map((box) => box[i]));
-  const [left, top, right, bottom] = [side(0, Math.min), side(1, Math.min), side(2, Math.max), side(3, Math.max)];
-  return [left - 12, top - 12, right - left + 24, bottom - top + 24];
-}
+// The arrow that is chosen, as [model, from, to].
+let chosenArrow = null;
+// For each model its drawings, the shown one, and what of it is seen.
+const drawn = [{}, {}];
 
 // A drawing in which 18 units are the size of the page's text; where there is less room, down to 18 pixels, then it scrolls.
 function sized(svg, box) {
@@ -195,13 +15,47 @@ function sized(svg, box) {
   return svg;
 }
 
-function valueLabel(label, element) {
+// The name of a value on an arrow; where there are many arrows none for top.
+function arrowValue(model) {
+  const dense = model.transitions.length > 2.5 * model.states.length + 4;
+  return (value) => (dense && value === lattice.top ? "" : short(lattice.names[value], 22));
+}
+
+// The drawing of a model that is largest in a box: with propositions in the circles unless only names can be read.
+function bestDrawing(m, width, height) {
+  const model = data.models[m];
+  const layered = model.states.length > MOST_STATES;
+  const forms = layered ? [true, false] : model.transitions.length > 60 ? RINGS.slice(1, 4) : RINGS;
+  const scale = ({ box }) => Math.min(width / box[2], height / box[3]);
+  const made = (bare) => {
+    drawn[m][bare] ??= forms.map((form) => layOut(model, arrowValue(model), bare, form));
+    return drawn[m][bare].reduce((a, b) => (scale(b) > scale(a) * 1.05 ? b : a));
+  };
+  const full = made(false);
+  return layered || scale(full) * 18 >= 13 ? full : made(true);
+}
+
+function valueLabel(label, m) {
   return draw(
     "g",
-    { class: `value h${lattice.height[element]}` },
+    { class: `value h${lattice.height[label.element]}`, "data-from": label.arrow.from, "data-to": label.arrow.to, "data-model": m },
     draw("rect", { x: label.x, y: label.y, width: label.width, height: label.height, rx: 7 }),
     draw("text", { x: label.x + label.width / 2, y: label.y + 14 }, label.text),
   );
+}
+
+// A state in full: its name and its propositions.
+function stateWords(m, q) {
+  const model = data.models[m];
+  const all = valued(model, q, data.propositions, data.propositions);
+  return `${model.states[q]}${all.length > 0 ? `: ${all.join(", ")}` : ""}`;
+}
+
+// An arrow in full: where it goes, and its value.
+function arrowWords(m, from, to) {
+  const model = data.models[m];
+  const value = model.transitions.find(([a, b]) => a === from && b === to)?.[2] ?? lattice.bottom;
+  return `${model.states[from]} \u2192 ${model.states[to]}: ${lattice.names[value]}`;
 }
 
 function stateCircle(node, m) {
@@ -209,28 +63,205 @@ function stateCircle(node, m) {
     const y = node.y + (i - (node.lines.length - 1) / 2) * LINE;
     return draw("text", { x: node.x, y, class: i === 0 ? "name" : "" }, text);
   };
-  const circle = draw("circle", { class: "state", cx: node.x, cy: node.y, r: node.radius, "data-model": m, "data-state": node.q });
-  return draw("g", {}, draw("title", {}, node.name), circle, ...node.lines.map(line));
+  const circle = draw("circle", { class: "state", cx: node.x, cy: node.y, r: node.radius });
+  const said = stateWords(m, node.q);
+  const attributes = { class: "node", role: "button", tabindex: "-1", "aria-label": `state ${said}`, "data-model": m, "data-state": node.q };
+  return draw("g", attributes, draw("title", {}, said), circle, ...node.lines.map(line));
 }
 
-function graph(m) {
-  const model = data.models[m];
-  const dense = model.transitions.length > 2.5 * model.states.length + 4;
-  const values = (value) => (dense && value === lattice.top ? "" : short(lattice.names[value], 22));
-  const drawing = layOut(model, values);
-  const tip = draw("path", { class: "tip", d: "M0 0 L12 5 L0 10 Z" });
-  const marker = draw("marker", { id: `tip${m}`, viewBox: "0 0 12 10", refX: 1, refY: 5, markerWidth: 12, markerHeight: 10, markerUnits: "userSpaceOnUse", orient: "auto" }, tip);
+function arrowPath({ path, from, to }, m) {
+  if (from < 0) return draw("path", { class: "edge", d: path, "marker-end": `url(#tip${m})` });
+  const said = arrowWords(m, from, to);
+  const attributes = { class: "arrow", role: "button", tabindex: "-1", "aria-label": `arrow ${said}`, "data-model": m, "data-from": from, "data-to": to };
+  return draw(
+    "g", attributes, draw("title", {}, said), draw("path", { class: "hit", d: path }),
+    draw("path", { class: "edge", d: path, "marker-end": `url(#tip${m})` }),
+  );
+}
+
+// A tip for arrows, and one for arrows that are lit.
+function tips(m) {
+  const tip = (id, name) => draw(
+    "marker",
+    { id, viewBox: "0 0 12 10", refX: 1, refY: 5, markerWidth: 12, markerHeight: 10, markerUnits: "userSpaceOnUse", orient: "auto" },
+    draw("path", { class: name, d: "M0 0 L12 5 L0 10 Z" }),
+  );
+  return draw("defs", {}, tip(`tip${m}`, "tip"), tip(`lit${m}`, `tip lit ${data.owners[m]}`));
+}
+
+function drawGraph(m) {
+  const box = at(`model${m + 1}`).querySelector(".drawing");
+  const form = bestDrawing(m, box.clientWidth, box.clientHeight);
+  if (drawn[m].shown === form) return fitPart(m);
   const svg = draw(
     "svg",
-    { role: "img", "aria-label": `Graph of ${modelName(m)}: ${count(model.states.length, "state")}; the same as a table below` },
-    draw("defs", {}, marker),
-    ...drawing.paths.map((d) => draw("path", { class: "edge", d, "marker-end": `url(#tip${m})` })),
-    ...drawing.nodes.map((node) => stateCircle(node, m)),
-    ...drawing.labels.map((label, i) => valueLabel(label, drawing.elements[i])),
+    { role: "group", class: form.nodes.length > MOST_STATES ? "layered" : "", "aria-label": `Graph of the ${modelName(m)}: ${count(form.nodes.length, "state")}; the same as a table below` },
+    tips(m),
+    ...form.arrows.map((arrow) => arrowPath(arrow, m)),
+    ...form.nodes.map((node) => stateCircle(node, m)),
+    ...form.labels.map((label) => valueLabel(label, m)),
   );
-  const note = dense ? `An arrow without a value is ${lattice.names[lattice.top]}.` : "";
-  const box = { class: "drawing", "data-graph": m + 1, tabindex: "0", role: "region", "aria-label": `Drawing of ${modelName(m)}` };
-  return [make("div", box, sized(svg, extent(drawing))), ...(note ? [make("p", {}, note)] : [])];
+  box.replaceChildren(svg);
+  drawn[m].shown = form;
+  svg.querySelector(".node").setAttribute("tabindex", "0");
+  roving(svg, ".node, .arrow", (from, key) => beside(svg, from, key));
+  fitPart(m);
+  if (chosen !== null) markChosen();
+}
+
+// The state or arrow that a key leads to.
+function beside(svg, from, key) {
+  const all = [...svg.querySelectorAll(".node"), ...svg.querySelectorAll(".arrow")];
+  const i = all.indexOf(from);
+  const steps = { ArrowRight: i + 1, ArrowDown: i + 1, ArrowLeft: i - 1, ArrowUp: i - 1, Home: 0, End: all.length - 1 };
+  return all[steps[key]];
+}
+
+// Shows the part of a drawing that is to be seen.
+function showPart(m) {
+  at(`model${m + 1}`).querySelector(".drawing svg").setAttribute("viewBox", drawn[m].part.join(" "));
+}
+
+// Makes a drawing larger or smaller around a point from 0 to 1 of its box.
+function zoom(m, by, [px, py] = [0.5, 0.5]) {
+  const [x, y, width, height] = drawn[m].part;
+  const whole = drawn[m].shown.box;
+  const factor = Math.max(0.05, Math.min(1.5, (width / whole[2]) * by)) / (width / whole[2]);
+  drawn[m].part = [x + width * px * (1 - factor), y + height * py * (1 - factor), width * factor, height * factor];
+  showPart(m);
+}
+
+// Shows all of a drawing, in letters not much larger than the page's.
+function fitPart(m) {
+  const { clientWidth, clientHeight } = at(`model${m + 1}`).querySelector(".drawing");
+  const [x, y, width, height] = drawn[m].shown.box;
+  const most = (1.25 * parseFloat(getComputedStyle(document.documentElement).fontSize)) / 18;
+  const [wide, high] = [Math.max(width, clientWidth / most), Math.max(height, clientHeight / most)];
+  const small = width < wide && height < high;
+  drawn[m].part = small ? [x - (wide - width) / 2, y - (high - height) / 2, wide, high] : [x, y, width, height];
+  showPart(m);
+}
+
+// One drawing over the whole stage, or both.
+function alone(m) {
+  const stage = at("stage");
+  const now = stage.dataset.alone === String(m + 1);
+  if (now) delete stage.dataset.alone;
+  else stage.dataset.alone = m + 1;
+  document.querySelectorAll(".model .large").forEach((button, i) => {
+    const large = stage.dataset.alone === String(i + 1);
+    button.textContent = large ? "Both" : "Large";
+    button.setAttribute("aria-pressed", large);
+  });
+  fitStage();
+}
+
+// Dragging moves a drawing; Ctrl and the wheel, or two fingers, make it larger or smaller.
+function startMoving(m, box) {
+  let last = null;
+  box.addEventListener("pointerdown", (event) => { last = [event.clientX, event.clientY, false]; });
+  box.addEventListener("pointermove", (event) => {
+    if (last === null || event.buttons === 0) return;
+    const [dx, dy] = [event.clientX - last[0], event.clientY - last[1]];
+    if (!last[2] && Math.hypot(dx, dy) < 6) return;
+    const scale = box.querySelector("svg").getScreenCTM().a;
+    drawn[m].part[0] -= dx / scale;
+    drawn[m].part[1] -= dy / scale;
+    last = [event.clientX, event.clientY, true];
+    box.setPointerCapture(event.pointerId);
+    showPart(m);
+  });
+  box.addEventListener("click", (event) => {
+    if (last?.[2]) event.stopPropagation();
+    last = null;
+  }, true);
+  box.addEventListener("wheel", (event) => {
+    if (!event.ctrlKey) return;
+    event.preventDefault();
+    const own = box.getBoundingClientRect();
+    zoom(m, event.deltaY > 0 ? 1.15 : 1 / 1.15, [(event.clientX - own.left) / own.width, (event.clientY - own.top) / own.height]);
+  }, { passive: false });
+}
+
+// A click, or Enter or Space, chooses a state or an arrow; pointing at it or going to it says it in full.
+function startChoosing(box, said) {
+  const pick = (event) => {
+    const mark = event.target.closest("[data-state], [data-from]");
+    if (!mark || mark.dataset.from === "-1") return;
+    const m = Number(mark.dataset.model);
+    if (mark.dataset.state !== undefined) chooseState(m, Number(mark.dataset.state));
+    else chooseArrow(m, Number(mark.dataset.from), Number(mark.dataset.to));
+  };
+  box.addEventListener("click", pick);
+  box.addEventListener("keydown", (event) => {
+    if (!["Enter", " "].includes(event.key)) return;
+    event.preventDefault();
+    pick(event);
+  });
+  const say = (event) => {
+    const mark = event.target.closest?.("[data-state], [data-from]");
+    const { model, state, from, to } = mark?.dataset ?? {};
+    said.textContent = state !== undefined ? stateWords(Number(model), Number(state))
+      : from !== undefined && from !== "-1" ? arrowWords(Number(model), Number(from), Number(to)) : "";
+  };
+  for (const name of ["mouseover", "focusin"]) box.addEventListener(name, say);
+  for (const name of ["mouseleave", "focusout"]) box.addEventListener(name, () => { said.textContent = ""; });
+}
+
+// A state of one model is chosen with the other's of the pair before.
+function chooseState(m, q) {
+  choose(...(m === 0 ? [q, chosen[1]] : [chosen[0], q]));
+  toCell();
+}
+
+// An arrow is chosen with the pair that it goes from.
+function chooseArrow(m, from, to) {
+  chooseState(m, from);
+  chosenArrow = [m, from, to];
+  showPair();
+}
+
+// What is said of a chosen arrow: its value, and for each arrow of the other's the entry of the pair that both lead to.
+function showArrow() {
+  const [m, from, to] = chosenArrow;
+  const o = 1 - m;
+  const here = chosen[o];
+  const others = data.models[o].transitions.filter(([q]) => q === here);
+  const pair = (q) => (m === 0 ? [to, q] : [q, to]);
+  const line = ([q, r, value]) => {
+    const [q1, q2] = pair(r);
+    return make("li", {}, `${data.models[o].states[q]} \u2192 ${data.models[o].states[r]} (`, chip(value), `) leads to (${rows[q1]}, ${columns[q2]}): `, chip(entries[q1 * columns.length + q2]));
+  };
+  light(null);
+  lightArrow(m, from, to);
+  return [
+    make("p", { class: "reason" }, "The ", person(m), `'s ${arrowWords(m, from, to)}. With it, each arrow of the `, person(o), `'s from ${data.models[o].states[here]}:`),
+    others.length > 0 ? make("ul", {}, ...others.map(line)) : make("p", {}, "There is none."),
+  ];
+}
+
+function lightArrow(m, from, to) {
+  at(`model${m + 1}`).querySelectorAll(`[data-from="${from}"][data-to="${to}"]`).forEach((node) => {
+    node.classList.add("lit");
+    node.querySelector(".edge")?.setAttribute("marker-end", `url(#lit${m})`);
+    // Over the other arrows, and under the states.
+    if (node.matches(".arrow") && node !== document.activeElement) node.parentNode.insertBefore(node, node.parentNode.querySelector(".node"));
+  });
+}
+
+// Lights what a cause names; nothing for none.
+function light(cause) {
+  document.querySelectorAll(".model .lit:not(.tip)").forEach((node) => {
+    node.classList.remove("lit");
+    const m = node.closest(".model").id.slice(-1) - 1;
+    node.querySelector(".edge")?.setAttribute("marker-end", `url(#tip${m})`);
+  });
+  if (cause === null) return;
+  if (cause.to !== null) lightArrow(0, cause.pair[0], cause.to);
+  if (cause.answer !== null) lightArrow(1, cause.pair[1], cause.answer);
+  if (cause.propositions.length > 0) {
+    cause.pair.forEach((q, m) => at(`model${m + 1}`).querySelector(`[data-state="${q}"]`)?.classList.add("lit"));
+  }
 }
 
 // States, initial values, propositions and transitions as a table; equal values stand together.
@@ -255,26 +286,41 @@ function modelTable(m) {
   return scrolling(`states of ${modelName(m)}`, tableOf("", [head, ...model.states.map(line)]));
 }
 
-// Both models side by side if both drawings then have room, else one below the other.
-function fitModels() {
-  const widths = [...document.querySelectorAll("#models svg")].map((svg) => parseFloat(svg.style.minWidth));
-  const tables = data.models.some((model) => model.states.length > MOST_STATES);
-  const room = at("models").clientWidth / 2 - 16;
-  at("models").classList.toggle("wide", tables || Math.max(...widths) > room);
-}
-
+// The captions, buttons and boxes of both drawings.
 function showModels() {
   data.models.forEach((model, m) => {
-    const heading = make("h3", {}, capital(modelName(m)));
-    const drawn = model.states.length <= MOST_STATES;
-    const parts = drawn
-      ? [...graph(m), make("details", {}, make("summary", {}, "As a table"), modelTable(m))]
-      : [make("p", {}, `${model.states.length} states: too many to draw, so they stand in a table.`), modelTable(m)];
-    at("models").append(make("section", {}, heading, ...parts));
+    const button = (words, label, work) => make("button", { type: "button", "aria-label": `${label} the ${data.owners[m]}'s drawing`, onclick: work }, words);
+    const large = button("Large", "show large", () => alone(m));
+    large.classList.add("large");
+    const title = model.title && model.title !== data.owners[m] ? ` ${model.title}` : "";
+    const box = make("div", { class: "drawing", "data-graph": m + 1 });
+    const said = make("p", { class: "said", "aria-hidden": "true" });
+    at(`model${m + 1}`).classList.add(data.owners[m]);
+    at(`model${m + 1}`).append(
+      make("div", { class: "line" }, make("h3", {}, person(m), title),
+        button("+", "enlarge", () => zoom(m, 1 / 1.3)), button("\u2212", "shrink", () => zoom(m, 1.3)), button("Fit", "fit", () => fitPart(m)), large),
+      box, said,
+    );
+    startMoving(m, box);
+    startChoosing(box, said);
+    at("models").append(make("details", {}, make("summary", {}, capital(modelName(m))), modelTable(m)));
   });
-  fitModels();
-  window.addEventListener("resize", fitModels);
-  const left = `Left out are transitions, initial values and propositions that are ${lattice.names[lattice.bottom]}. `;
-  const bare = data.propositions.length > 0 ? `A proposition without a value is ${lattice.names[lattice.top]}.` : "";
-  at("models").after(make("p", { class: "note" }, left, bare, " The states of the chosen pair have a thick ring."));
+  const left = `Left out of the drawings are transitions, initial values and propositions that are ${lattice.names[lattice.bottom]}. `;
+  const bare = data.propositions.length > 0 ? `A proposition without a value is ${lattice.names[lattice.top]}. ` : "";
+  const dense = data.models.some((model) => arrowValue(model)(lattice.top) === "") ? `An arrow without a value is ${lattice.names[lattice.top]}. ` : "";
+  const many = data.models.some((model) => model.states.length > MOST_STATES) ? "Where a drawing has more than 12 states, an arrow's value is said when it is pointed at." : "";
+  at("left-out").textContent = left + bare + dense + many;
+}
+
+// Table, words and drawings on one screen: the table beside the drawings, or above them where it is wide.
+function fitStage() {
+  const stage = at("stage");
+  const part = (at("table").offsetWidth + 12 + (at("overview").hidden ? 0 : at("overview").offsetWidth + 10)) / stage.clientWidth;
+  const wide = window.innerWidth >= 900 && part > 0.35;
+  stage.classList.toggle("wide", wide);
+  stage.style.setProperty("--left", wide ? Math.max(10, Math.min(16, Math.ceil(part * 24))) : `${Math.max(33, part * 100)}%`);
+  const top = Math.max(at("table").offsetHeight + 9, stage.clientHeight * 0.34);
+  stage.style.setProperty("--top", `${Math.min(top, stage.clientHeight * 0.46)}px`);
+  [0, 1].filter((m) => at(`model${m + 1}`).checkVisibility()).forEach(drawGraph);
+  if (chosen !== null) showPair();
 }

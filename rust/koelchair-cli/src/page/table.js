@@ -1,4 +1,4 @@
-// The table of a round: rows are states of model 1, columns states of model 2.
+// The table of a round: rows are states of who is followed, columns states of who follows.
 
 const [rows, columns] = data.models.map((model) => model.states);
 const entries = Uint8Array.from(data.first);
@@ -21,15 +21,14 @@ function withFormer() {
 }
 
 function buildTable() {
-  const heading = make("th", { scope: "col" }, "1 \u2193 2 \u2192");
-  heading.title = "rows: states of model 1, columns: states of model 2";
+  const heading = make("th", { scope: "col", class: "corner" }, make("div", {}, person(1), " \u2192"), make("div", {}, person(0), " \u2193"));
+  heading.title = `rows: the ${data.owners[0]}'s states, columns: the ${data.owners[1]}'s states`;
   const head = make("tr", {}, heading, ...columns.map((name) => make("th", { scope: "col" }, name)));
   const body = rows.map((name, q1) => {
     const line = columns.map((_, q2) => make("td", {}, cell(q1, q2)));
     return make("tr", {}, make("th", { scope: "row" }, name), ...line);
   });
-  at("table").append(make("caption", { id: "table-caption" }), make("thead", {}, head), make("tbody", {}, ...body));
-  at("split").classList.toggle("wide", columns.length * longestName() > 40);
+  at("table").append(make("caption", {}, make("span", { id: "table-caption" })), make("thead", {}, head), make("tbody", {}, ...body));
   if (columns.length * longestName() > 90 || rows.length > 12) startOverview();
   cells[0].setAttribute("tabindex", "0");
   roving(at("table"), ".cell", nextCell);
@@ -62,7 +61,7 @@ function showCell(place) {
   const [element, button] = [entries[place], cells[place]];
   const lower = shownRound > 0 && lowered.has(place);
   const pair = `${rows[button.dataset.row]}, ${columns[button.dataset.column]}`;
-  button.className = `cell h${lattice.height[element]}${lower ? " lower" : ""}`;
+  button.className = `cell ${coloured(element)}${lower ? " lower" : ""}`;
   button.textContent = lattice.names[element];
   button.setAttribute("aria-label", `${pair}: ${lattice.names[element]}${lower ? ", lower than before" : ""}`);
 }
@@ -78,8 +77,15 @@ function startOverview() {
     const q1 = part(event.clientY, box.top, box.height, rows.length);
     const q2 = part(event.clientX, box.left, box.width, columns.length);
     choose(q1, q2);
-    cells[q1 * columns.length + q2].scrollIntoView({ block: "nearest", inline: "nearest" });
+    toCell();
   });
+}
+
+// A frame around the chosen pair on the overview.
+function markOverview() {
+  if (at("overview").hidden || chosen === null) return;
+  const part = (number, of) => `${(100 * (number + 0.5)) / of}%`;
+  Object.assign(at("overview").querySelector("i").style, { left: part(chosen[1], columns.length), top: part(chosen[0], rows.length) });
 }
 
 function showOverview() {
@@ -130,8 +136,11 @@ function showStanding() {
   at("banner-text").textContent = settled
     ? `Settled at round ${T}: this is the greatest simulation.`
     : `Round ${shownRound} of ${T}: in the middle of the calculation, not a result.`;
-  at("score").replaceChildren(settled ? "Score: " : "Score of this table, not a result: ", chip(data.rounds[shownRound][0]));
+  at("score").replaceChildren(settled ? "Score: " : "Score, not a result: ", chip(data.rounds[shownRound][0]));
   at("score").dataset.score = score;
+  at("ceiling").replaceChildren(...(data.ceiling === null ? [] : [" Ceiling: ", chip(data.ceiling)]));
+  at("why-score").hidden = !settled || data.why.score.length === 0;
+  at("ceiling").title = "what the course's model scores against itself";
   at("banner").querySelector("svg").replaceChildren(...shape(settled));
   at("table-caption").textContent = settled ? `Round ${T}, settled` : `Round ${shownRound} of ${T}, not a result`;
   at("round").value = shownRound;
@@ -141,9 +150,9 @@ function showStanding() {
   at("next").disabled = at("settled").disabled = settled;
 }
 
-// A ring with a tick, or a triangle with an exclamation mark.
+// A ring with a bar, as nothing moves any more, or a triangle with an exclamation mark. Settled is not passed: no tick.
 function shape(settled) {
-  if (settled) return [draw("path", { d: "M20 4 A16 16 0 1 1 19.9 4 Z M12 21 L18 27 L29 14" })];
+  if (settled) return [draw("path", { d: "M20 4 A16 16 0 1 1 19.9 4 Z M12 16 L28 16 M12 24 L28 24" })];
   return [draw("path", { d: "M20 4 L37 35 L3 35 Z" }), draw("text", { x: 20, y: 31 }, "!")];
 }
 
@@ -174,9 +183,26 @@ function startControls() {
   control("next", () => shownRound + 1);
   control("settled", () => T);
   at("play").addEventListener("click", playOrPause);
+  window.addEventListener("keydown", pageKey);
+  at("why-score").addEventListener("click", () => {
+    choose(...firstPair());
+    toCell();
+  });
   at("round").max = T;
   at("round").addEventListener("input", () => {
     stopPlaying();
     goTo(Number(at("round").value));
   });
+}
+
+// Space, PageDown and PageUp, which a presenter's remote sends, go from round to round, Space not where it presses something.
+function pageKey(event) {
+  if (event.altKey || event.ctrlKey || event.metaKey) return;
+  const presses = event.target.closest?.("button, input, summary, a, [role=button]");
+  const space = event.key === " " && !presses;
+  const step = space ? (event.shiftKey ? -1 : 1) : { PageDown: 1, PageUp: -1 }[event.key];
+  if (!step) return;
+  event.preventDefault();
+  stopPlaying();
+  goTo(Math.max(0, Math.min(T, shownRound + step)));
 }

@@ -68,11 +68,15 @@ fn texts() -> Vec<(String, String)> {
 fn page(text: &str) -> (String, Json) {
     let (status, html) = tool(&["page", "-"], text);
     assert_eq!(status, 0);
-    let (_, rest) = html
-        .split_once("<script type=\"application/json\" id=\"case\">")
-        .expect("the case");
-    let data = read(rest.split_once("</script>").expect("its end").0);
+    let data = embedded(&html, "case");
     (html, data)
+}
+
+/// The JSON of a page in the script element with this id.
+fn embedded(html: &str, id: &str) -> Json {
+    let start = format!("<script type=\"application/json\" id=\"{id}\">");
+    let (_, rest) = html.split_once(&start).expect(id);
+    read(rest.split_once("</script>").expect("its end").0)
 }
 
 /// The table of every round, from the page's changes.
@@ -123,6 +127,111 @@ fn rounds_are_the_librarys() {
             }
         }
         assert!(tables(data) == expected, "{name}");
+    }
+}
+
+/// The reasons of a pair's settled entry: whose view each is, and the number of its cause.
+fn reasons(data: &Json, place: usize) -> &[Json] {
+    let settled = tables(data).last().expect("a round").1[place];
+    let entry = data.get("why").get("entries").items()[place].items();
+    let entry = entry.iter().find(|e| e.items()[0].number() == settled);
+    entry.map_or(&[][..], |e| e.items()[1].items())
+}
+
+/// The causes of a pair's settled entry.
+fn causes(data: &Json, place: usize) -> Vec<&[Json]> {
+    let causes = data.get("why").get("causes").items();
+    let cause = |r: &Json| causes[r.items()[1].number()].items();
+    reasons(data, place).iter().map(cause).collect()
+}
+
+#[test]
+fn sentences_are_those_of_why() {
+    let mut compared = 0;
+    for Example {
+        name, text, data, ..
+    } in examples()
+    {
+        let states = |m: usize| data.get("models").items()[m].get("states").items();
+        let (rows, columns) = (states(0), states(1));
+        if rows.len() * columns.len() > 36 {
+            continue;
+        }
+        for place in 0..rows.len() * columns.len() {
+            let (q1, q2) = (place / columns.len(), place % columns.len());
+            let pair = [rows[q1].text(), columns[q2].text()];
+            let (_, said) = tool(&["why", "-", pair[0], pair[1]], text);
+            let short: Vec<&str> = said
+                .lines()
+                .filter_map(|l| l.strip_prefix("In short: "))
+                .collect();
+            let causes = causes(data, place);
+            let sentences: Vec<&str> = causes.iter().map(|c| c[7].text()).collect();
+            assert_eq!(sentences, short, "{name}: {pair:?}");
+            let views: Vec<&str> = said.lines().filter(|l| l.starts_with("For ")).collect();
+            let labels = reasons(data, place).iter().map(|r| r.items()[0].text());
+            let labels: Vec<&str> = labels.filter(|l| !l.is_empty()).collect();
+            assert_eq!(labels, views, "{name}: {pair:?}");
+            assert!(causes
+                .iter()
+                .all(|c| (c[0].number(), c[1].number()) == (q1, q2)));
+            compared += short.len();
+        }
+    }
+    assert!(compared > 30, "{compared} sentences");
+}
+
+#[test]
+fn a_cause_names_the_arrow_and_the_best_answer() {
+    let label = |e: &&Example| e.name.contains("label-one-field");
+    let data = &examples().iter().find(label).expect("the label").data;
+    let [first] = causes(data, 0)[..] else {
+        panic!("one cause at (old, old)");
+    };
+    // Student old -> half, fell in round 2; the course's old -> old; then (half, old), which differs in two propositions.
+    let numbers: Vec<usize> = first[..5].iter().map(Json::number).collect();
+    assert_eq!(numbers, [0, 0, 2, 1, 0]);
+    let next = data.get("why").get("causes").items()[first[5].number()].items();
+    assert_eq!((next[0].number(), next[1].number()), (1, 0));
+    assert_eq!(next[3..6], [Json::Null, Json::Null, Json::Null]);
+    assert_eq!(next[6].numbers(), [0, 2]);
+}
+
+#[test]
+fn the_exchanged_case_is_worked_by_the_library() {
+    let label = |e: &&Example| e.name.contains("label-one-field");
+    let Example { text, html, .. } = examples().iter().find(label).expect("the label");
+    let other = embedded(html, "exchanged");
+    let swapped = text
+        .replace("model 1", "model 3")
+        .replace("model 2", "model 1")
+        .replace("model 3", "model 2");
+    let mut desk = Desk::open(&bytes(&swapped)).expect("accepted");
+    let mut expected = vec![shown(&desk)];
+    while !matches!(desk.finish_round(), StepAnswer::Settled(_)) {
+        expected.push(shown(&desk));
+    }
+    expected.push(shown(&desk));
+    assert!(tables(&other) == expected);
+    assert_eq!(other.get("owners").items()[0].text(), "course");
+}
+
+#[test]
+fn the_ceiling_is_the_courses_score_against_itself() {
+    for Example {
+        name, text, data, ..
+    } in examples()
+    {
+        let (_, said) = tool(&["why", "-"], text);
+        let ceiling = data.get("lattice").get("names").items()[data.get("ceiling").number()].text();
+        let found = [
+            "itself, is {}.",
+            "itself, is {}; the score",
+            "itself scores {} too",
+        ]
+        .iter()
+        .any(|words| said.contains(&words.replace("{}", ceiling)));
+        assert!(found, "{name}: {ceiling}: {said}");
     }
 }
 
@@ -272,8 +381,8 @@ fn names_cannot_break_out() {
     let (html, data) = page(&text);
     assert_eq!(data.get("title").text(), odd);
     assert_eq!(data.get("models").items()[0].get("title").text(), odd);
-    assert_eq!(html.matches("<script").count(), 2);
-    assert_eq!(html.matches("</script").count(), 2);
+    assert_eq!(html.matches("<script").count(), 3);
+    assert_eq!(html.matches("</script").count(), 3);
     assert!(!html.contains("<!--"));
     let (_, rest) = html.split_once("<script").expect("the case");
     assert!(!rest.contains('\u{2028}') && !rest.contains('\u{7}'));
@@ -307,7 +416,7 @@ fn pages_ask_for_nothing_elsewhere() {
 fn the_greatest_page_is_small_enough() {
     let longest = examples().iter().map(|e| e.html.len()).max();
     assert!(
-        longest.is_some_and(|length| length < 3_000_000),
+        longest.is_some_and(|length| length < 4_000_000),
         "{longest:?}"
     );
 }

@@ -25,7 +25,7 @@ pub fn write(class: &Class, folder: &str) -> Result<(), Failure> {
                 student: Some(&student.name),
                 warnings: &marked.warnings,
             };
-            let html = page::html(&mut marked.again()?, &surroundings)?;
+            let html = page::html(&marked.again()?, &surroundings)?;
             put(&student.page(), html)?;
         }
     }

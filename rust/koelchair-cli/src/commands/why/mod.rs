@@ -3,6 +3,8 @@
 mod json;
 mod words;
 
+pub use words::{Words, OWNERS};
+
 use super::explain::state;
 use super::{count, document, open, read_text, Arguments, Failure, Opened, Outcome, Printed};
 use crate::case::Case;
@@ -88,16 +90,26 @@ impl Answer {
         let operations = Operations::of(&opened.case.lattice)
             .ok_or_else(|| Failure::Other(no_lattice.to_string()))?;
         let history = History::of(&mut opened.desk);
-        let case = &opened.case;
         let reasoning = Reasoning {
-            case,
+            case: &opened.case,
             operations: &operations,
             history: &history,
         };
-        let element = match pair {
-            Some(pair) => reasoning.settled(pair),
-            None => opened.desk.score().0,
-        };
+        Answer::by(&reasoning, pair, opened.desk.score().0)
+    }
+
+    /// The same where the rounds are worked already; the score is the settled table's.
+    pub fn by(
+        reasoning: &Reasoning,
+        pair: Option<(usize, usize)>,
+        score: u8,
+    ) -> Result<Answer, Failure> {
+        let Reasoning {
+            case,
+            operations,
+            history,
+        } = reasoning;
+        let element = pair.map_or(score, |pair| reasoning.settled(pair));
         Ok(Answer {
             pair,
             element,
@@ -108,7 +120,7 @@ impl Answer {
                 .initial
                 .iter()
                 .all(|v| *v == operations.bottom),
-            reasons: reasons(&reasoning, pair, element).map_err(Failure::Other)?,
+            reasons: reasons(reasoning, pair, element).map_err(Failure::Other)?,
         })
     }
 }
@@ -121,9 +133,14 @@ pub fn ceiling(case: &Case) -> Option<u8> {
     listing::of(&bytes).map(|listing| listing.score)
 }
 
+/// The same with other owners of the two models.
+pub fn in_short_of(case: &Case, answer: &Answer, owners: [&str; 2]) -> Vec<String> {
+    words::in_short(case, answer, owners)
+}
+
 /// Why the score is not higher, in a sentence for each view.
 pub fn in_short(case: &Case, answer: &Answer) -> Vec<String> {
-    words::in_short(case, answer)
+    words::in_short(case, answer, OWNERS)
 }
 
 /// A reason for each view, the same ones put together.

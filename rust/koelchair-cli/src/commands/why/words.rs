@@ -18,7 +18,7 @@ pub fn text(case: &Case, answer: &Answer, all: bool) -> String {
     let mut text = heading(case, answer);
     for reason in &answer.reasons {
         let view = reason.view();
-        let words = Words { case, view: &view };
+        let words = Words::of(case, &view);
         text.push('\n');
         text.push_str(&words.reason(answer, reason, all));
     }
@@ -26,11 +26,11 @@ pub fn text(case: &Case, answer: &Answer, all: bool) -> String {
 }
 
 /// A sentence for each reason: whose view it is, and the cause.
-pub fn in_short(case: &Case, answer: &Answer) -> Vec<String> {
+pub fn in_short(case: &Case, answer: &Answer, owners: [&str; 2]) -> Vec<String> {
     let sentence = |reason: &Reason| {
-        let view = reason.view();
-        let words = Words { case, view: &view };
-        let label = match words.label(answer, reason) {
+        let view = &reason.view();
+        let words = Words { case, view, owners };
+        let label = match words.whose(&reason.views, answer.element) {
             Some((who, Of::Has(element))) => format!("For {who} ({element}): "),
             Some((who, Of::Lacks(element))) => format!("For {who}, which {element} lacks: "),
             None => String::new(),
@@ -97,13 +97,25 @@ enum Of {
     Lacks(String),
 }
 
+/// Whose the models are.
+pub const OWNERS: [&str; 2] = ["student", "course"];
+
 /// The words of one view.
-struct Words<'a> {
-    case: &'a Case,
-    view: &'a View,
+pub struct Words<'a> {
+    /// The case.
+    pub case: &'a Case,
+    /// The view.
+    pub view: &'a View,
+    /// Whose model is followed, and whose follows.
+    pub owners: [&'a str; 2],
 }
 
-impl Words<'_> {
+impl<'a> Words<'a> {
+    fn of(case: &'a Case, view: &'a View) -> Words<'a> {
+        let owners = OWNERS;
+        Words { case, view, owners }
+    }
+
     fn state(&self, model: usize, state: usize) -> &str {
         &self.case.models[model].states[state]
     }
@@ -122,10 +134,9 @@ impl Words<'_> {
     }
 
     fn reason(&self, answer: &Answer, reason: &Reason, all: bool) -> String {
-        let mut text = match self.label(answer, reason) {
-            Some((who, Of::Has(element))) => format!("For {who}: {element}\n"),
-            Some((who, Of::Lacks(element))) => format!("For {who}, which {element} lacks\n"),
-            None => String::new(),
+        let mut text = match self.label(&reason.views, answer.element) {
+            label if label.is_empty() => label,
+            label => label + "\n",
         };
         if let Some(initial) = &reason.initial {
             text.push_str(&self.initial(initial));
@@ -147,12 +158,12 @@ impl Words<'_> {
     }
 
     /// Whose view it is, and what the entry or the score is in it.
-    fn label(&self, answer: &Answer, reason: &Reason) -> Option<(String, Of)> {
-        let labels: Vec<&str> = reason.views.iter().map(|v| v.label.as_str()).collect();
+    fn whose(&self, views: &[View], element: u8) -> Option<(String, Of)> {
+        let labels: Vec<&str> = views.iter().map(|v| v.label.as_str()).collect();
         if labels == [""] {
             return None;
         }
-        let element = self.element(answer.element);
+        let element = self.element(element);
         let of = match self.case.lattice {
             Lattice::Power(_) => Of::Lacks(element),
             _ => Of::Has(element),
@@ -160,21 +171,33 @@ impl Words<'_> {
         Some((labels.join(" and "), of))
     }
 
+    /// The same as a line before the reason; nothing where there is one view alone.
+    pub fn label(&self, views: &[View], element: u8) -> String {
+        match self.whose(views, element) {
+            Some((who, Of::Has(element))) => format!("For {who}: {element}"),
+            Some((who, Of::Lacks(element))) => format!("For {who}, which {element} lacks"),
+            None => String::new(),
+        }
+    }
+
     fn initial(&self, initial: &Initial) -> String {
+        let [one, other] = self.owners;
         let state = self.state(0, initial.state);
         let value = self.unless_top(initial.value);
-        let mut text = format!("The student begins at {state}{value}. ");
+        let mut text = format!("The {one} begins at {state}{value}. ");
         match &initial.answers[..] {
-            [] => text.push_str("The course has no initial state.\n"),
+            [] => {
+                let _ = writeln!(text, "The {other} has no initial state.");
+            }
             [best, others @ ..] => {
                 let to = self.state(1, best.to);
                 let _ = match best.low {
                     true => writeln!(
                         text,
-                        "The course begins at {to} only with {}.",
+                        "The {other} begins at {to} only with {}.",
                         self.element(best.value)
                     ),
-                    false => writeln!(text, "The course begins at {to}; see 1."),
+                    false => writeln!(text, "The {other} begins at {to}; see 1."),
                 };
                 text.push_str(&self.others(initial.state, None, others, ""));
             }
@@ -251,6 +274,7 @@ impl Words<'_> {
     }
 
     fn proposition(&self, difference: &Difference) -> String {
+        let [one, other] = self.owners;
         let name = format!("`{}`", self.case.propositions[difference.proposition]);
         let [student, course] = difference.values.map(|v| self.element(v));
         match student == course {
@@ -258,7 +282,7 @@ impl Words<'_> {
                 let gives = self.element(difference.gives);
                 format!("{name} is {student} for both, and compared with itself that gives {gives}")
             }
-            false => format!("{name} is {student} for the student and {course} for the course"),
+            false => format!("{name} is {student} for the {one} and {course} for the {other}"),
         }
     }
 
@@ -270,19 +294,20 @@ impl Words<'_> {
     }
 
     /// The way of the student's to the cause, and the cause, in one sentence.
-    fn sentence(&self, way: &[Step]) -> String {
+    pub fn sentence(&self, way: &[Step]) -> String {
         let Some(last) = way.last() else {
             return String::new();
         };
+        let [one, other] = self.owners;
         let (path, course) = (self.path(way), self.state(1, last.pair.1));
         match &last.cause {
             Cause::Propositions(list) => {
                 let said: Vec<String> = list.iter().map(|d| self.proposition(d)).collect();
                 let said = said.join(", ");
                 match way.len() {
-                    1 => format!("at {path} (the course at {course}) {said}."),
+                    1 => format!("at {path} (the {other} at {course}) {said}."),
                     _ => {
-                        format!("the student can go {path}; there (the course at {course}) {said}.")
+                        format!("the {one} can go {path}; there (the {other} at {course}) {said}.")
                     }
                 }
             }
@@ -296,7 +321,7 @@ impl Words<'_> {
                     }
                 };
                 format!(
-                    "the student can go {path} -> {target}, and the course at {course} {goes_on}."
+                    "the {one} can go {path} -> {target}, and the {other} at {course} {goes_on}."
                 )
             }
         }
