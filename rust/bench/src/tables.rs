@@ -121,7 +121,7 @@ fn print_checks(checks: &[Check]) {
         return;
     }
     println!(
-        "Every call but open begins with the check of its desk: the store is read as a case and its lattice's tables are worked out anew, then \
+        "Every call but open begins with the check of its desk: the store is read as a case and its lattice's codes are worked out anew, then \
          the standing and both tables are looked at. show does this and nothing else (the second one's show also copies the table), so its time is taken for the check's, and \
          the rest of a step is the row.\n"
     );
