@@ -66,8 +66,8 @@ function readAddress() {
 
 // The pair that the settled score is held down by, else that of the first states with the highest initial values.
 function firstPair() {
-  const cause = causeOf(data.why.score[0]?.[1][1] ?? null);
-  if (cause !== null) return cause.pair;
+  const held = data.why.score.find(([, [, cause]]) => cause !== null);
+  if (held) return causeOf(held[1][1]).pair;
   return data.models.map((model) => {
     const heights = model.initial.map((value) => lattice.height[value]);
     return heights.indexOf(Math.max(...heights));

@@ -128,6 +128,9 @@ function goTo(round) {
   writeAddress();
 }
 
+// The reasons of the settled score that lie in the initial values alone, so that no pair shows them.
+const initialReasons = data.why.score.filter(([, [, cause]]) => cause === null).map(([sentence]) => sentence);
+
 // The banner, the score and the controls.
 function showStanding() {
   const settled = shownRound === T;
@@ -139,7 +142,9 @@ function showStanding() {
   at("score").replaceChildren(settled ? "Score: " : "Score, not a result: ", chip(data.rounds[shownRound][0]));
   at("score").dataset.score = score;
   at("ceiling").replaceChildren(...(data.ceiling === null ? [] : [" Ceiling: ", chip(data.ceiling)]));
-  at("why-score").hidden = !settled || data.why.score.length === 0;
+  at("why-score").hidden = !settled || data.why.score.length === initialReasons.length;
+  at("score-reason").hidden = !settled || initialReasons.length === 0;
+  at("score-reason").textContent = initialReasons.join(" ");
   at("ceiling").title = "what the course's model scores against itself";
   at("banner").querySelector("svg").replaceChildren(...shape(settled));
   at("table-caption").textContent = settled ? `Round ${T}, settled` : `Round ${shownRound} of ${T}, not a result`;

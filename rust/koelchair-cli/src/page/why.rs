@@ -9,8 +9,8 @@ use crate::views::{views, View};
 use std::collections::HashMap;
 
 /// The JSON: `causes`, a list; `entries`, for each place the elements of its rounds that are not top with their reasons;
-/// `score`, the reasons of the settled score. A reason is whose view it is and the number of a cause, or
-/// `null`.
+/// `score`, for each reason of the settled score its sentence and the reason. A reason is whose view it is and the number of a
+/// cause, or `null` where the initial values alone hold the score down.
 pub fn of(reasoning: &Reasoning, score: u8, owners: [&str; 2]) -> Result<String, Failure> {
     let mut ways = Ways {
         reasoning,

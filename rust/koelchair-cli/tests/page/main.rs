@@ -198,6 +198,37 @@ fn a_cause_names_the_arrow_and_the_best_answer() {
 }
 
 #[test]
+fn the_page_says_where_initial_values_hold_the_score_down() {
+    let text =
+        "lattice chain no unsure yes\npropositions p\nmodel 1\n states a\n initial a\n a -> a\n\
+                model 2\n states c d\n initial c: unsure\n initial d\n d: p\n c -> c\n d -> d\n";
+    let (html, data) = page(text);
+    let said = |data: &Json| {
+        let score = data.get("why").get("score").items();
+        let [reason] = score else {
+            panic!("one reason: {score:?}");
+        };
+        assert_eq!(reason.items()[1].items()[1], Json::Null);
+        reason.items()[0].text().to_string()
+    };
+    let sentence = "The student begins at a. The course begins at c only with unsure.\n\
+                    No better: d (student a, course d fell in round 1).";
+    assert_eq!(said(&data), sentence);
+    assert!(tool(&["why", "-"], text).1.contains(sentence));
+    let swapped = text
+        .replace("model 1", "model 3")
+        .replace("model 2", "model 1")
+        .replace("model 3", "model 2");
+    assert_eq!(
+        said(&embedded(&page(&swapped).0, "exchanged")),
+        "The course begins at a. The student begins at c only with unsure.\n\
+         No better: d (course a, student d fell in round 1)."
+    );
+    assert_eq!(html.matches("id=\"score-reason\"").count(), 1);
+    assert!(html.contains("at(\"score-reason\").textContent = initialReasons.join(\" \");"));
+}
+
+#[test]
 fn the_exchanged_case_is_worked_by_the_library() {
     let label = |e: &&Example| e.name.contains("label-one-field");
     let Example { text, html, .. } = examples().iter().find(label).expect("the label");

@@ -251,13 +251,14 @@ impl<'a> Words<'a> {
 
     /// The answers that are no better than the best, from a state of the course's or as its initial states.
     fn others(&self, to: usize, from: Option<usize>, others: &[Tried], margin: &str) -> String {
+        let [one, other] = self.owners;
         let said = |t: &Tried| {
             let (target, state) = (self.state(0, to), self.state(1, t.to));
             let arrow = from.map_or(String::new(), |q| format!("{} -> ", self.state(1, q)));
             match t.fell {
                 Some(round) if !t.low => {
                     format!(
-                        "{arrow}{state} (student {target}, course {state} fell in round {round})"
+                        "{arrow}{state} ({one} {target}, {other} {state} fell in round {round})"
                     )
                 }
                 _ => format!("{arrow}{state} (only {})", self.element(t.value)),
