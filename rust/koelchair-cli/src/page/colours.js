@@ -24,7 +24,7 @@ function luminance(colour) {
   return 0.2126 * linear[0] + 0.7152 * linear[1] + 0.0722 * linear[2];
 }
 
-// Sets the theme and the colours of all heights; text on them is black or white, whichever stands out more.
+// Sets the theme and the colours of all levels; text on them is black or white, whichever stands out more.
 function showTheme() {
   const theme = chosenTheme ?? (systemDark.matches ? "dark" : "light");
   const root = document.documentElement;

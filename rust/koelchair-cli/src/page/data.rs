@@ -98,7 +98,7 @@ fn rounds(desk: &mut Desk) -> Vec<String> {
     }
 }
 
-/// Names, complements, heights, a panel's letters, covering pairs, (not a) joined with b at a·n + b, and whether a is at or below b.
+/// Names, complements, levels, a panel's letters, covering pairs, (not a) joined with b at a·n + b, and whether a is at or below b.
 fn lattice(lattice: &Lattice, operations: &Operations) -> String {
     let n = lattice.size();
     let pairs = || (0..n * n).map(move |i| (i / n, i % n));
@@ -132,7 +132,7 @@ fn letters(lattice: &Lattice) -> Vec<String> {
     }
 }
 
-/// Each element's height: the length of the longest way up to it from bottom.
+/// Each element's level: the length of the longest way up to it from bottom.
 fn heights(lattice: &Lattice) -> Vec<usize> {
     let n = lattice.size();
     let below = |a: usize| (0..n).filter(move |b| *b != a && lattice.at_most(*b, a));
