@@ -1,4 +1,4 @@
--- What the exports' numbers tell, and how they follow from what the calls do. Rests on Numbers, moving's and desk_questions's Answer, desk's RefusedLaws, casefile's Content and desk_check's Answer.
+-- What the exports' numbers tell, and how they follow from what the calls do. Rests on Numbers, desk_moves's and desk_questions's Answer, desk's RefusedLaws, casefile's Content and desk_check's Answer.
 --   isShown, replyOf: whether a reply is show's; the reply that numbers tell
 --   numbers-back: the numbers lose nothing of a reply that is not show's
 --   refused-zero, accepted-some: what show's export names on a refused desk, and on any other

@@ -1,6 +1,6 @@
 -- What a lattice part has to be, a statement beside each test of Reading, and which refusal it is given exactly when: 4 to 8 of document 01's
 -- table 'What a refused call gives'. Rests on theory's Part, lattice_order's DeMorgan and Ordered, Reading.
---   ExplicitForm, HasForm: refusal 4; Ordered: refusal 5, order's; MeetsAndJoins: refusal 6; Distributive: refusal 7; ComplementRules: refusal 8
+--   ExplicitForm, HasForm: refusal 4; Ordered: refusal 5, lattice_order's; MeetsAndJoins: refusal 6; Distributive: refusal 7; ComplementRules: refusal 8
 --   Breaks4, Breaks5, Breaks6, Breaks7, Breaks8: a part breaks what refusal 4, 5, .. asks, and nothing that an earlier one asks
 --   LatticeRefused: each is given exactly when the part breaks what it asks and nothing earlier, and no other is given
 use Prim.Native.Nat.{ℕ, _+_, _*_, _≤_, _<_}

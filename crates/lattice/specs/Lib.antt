@@ -3,7 +3,7 @@
 pub mod Panel  -- the panel lattice
 pub mod Reading  -- the first of the refusals 4 to 8 that applies, or the part accepted
 pub mod Answer  -- what the check of a part answers, and leaves in the codes
-pub mod DeMorgan  -- what a distributive De Morgan lattice is: order's definition, passed on
+pub mod DeMorgan  -- what a distributive De Morgan lattice is: lattice_order's definition, passed on
 pub mod Conditions  -- what a part has to be, and which refusal is given exactly when
 -- ---- theorems
 pub mod Numbered  -- the refusals 4 to 8 are given so

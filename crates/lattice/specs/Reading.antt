@@ -2,7 +2,7 @@
 -- Panel.
 --   isPanel, latticeOf: what the bytes say; explicitForm, latticeForm: refusal 4
 --   LatticeReading, require, partReading, latticeReading: the refusal, or the part accepted
---   reflexive, antisymmetric, transitive, partialOrder, meetsAndJoins, distributive, complementRules: order's tests, passed on
+--   reflexive, antisymmetric, transitive, partialOrder, meetsAndJoins, distributive, complementRules: lattice_order's tests, passed on
 use Prim.Native.Nat.{ℕ, _+_, _*_}
 use mathlib.Core.Bool.{Bool, true, false, cond, _&&_, _||_}
 use mathlib.Core.List.{List}
