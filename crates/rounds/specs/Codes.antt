@@ -1,13 +1,14 @@
--- The codes that the loops of a row and a round compute, and that they are those of F's entries. w is a lattice's codes; tables of words have
--- 64 to a row. Rests on Table, theory's Loop, Lists, Part and Simulation, elements' Words and Folds, model's Reading.
+-- The codes that the loops of a row and a round compute, and that they are those of F's entries. w is a lattice's codes.
+-- Rests on Table, Rows, theory's Loop, Lists, Part and Simulation, elements' Words, Folds and Laws, model's Reading.
 --   ModelPair, model-pair: two model parts over the same propositions
---   tableCode, iffCode, propositionsCode, joinCode, innerCode, meetCode, entryCode: the codes
---   entryFrom, rowFrom: an entry's code from inner joins that stand in a list
---   Rows, rows-none, rows-more, rows-all: the rows so far are as a rule says
---   Left, left-is, inner-from, entry-from, row-from-is, row-from-code: the codes as the loops get them
+--   tableCode, iffCode, propositionsCode, joinCode, meetCode, innerCode, successorCode, entryCode: the codes
+--   byRow, byColumn: an entry of a table of words; rowFrom: an entry's code from inner joins that stand in such a table
+--   TableIn, EntryCodes, Prepared: a table's codes, a row's, and the inner joins of a table
+--   low-at: a word that was written from place 0 on
+--   Left, left-is, inner-from, leftCode, met-is, left-code, row-from-code: the codes as the loops get them; WithinTop, row-within, top-same: they are within the top's
 --   scorePart, score-join, score-decoded: score
 --   entry-code: the code of an entry is that of F's entry; entry-decoded: so it is turned back into it
-use Prim.Native.Nat.{ℕ, _+_, _*_, _≤_, _<_}
+use Prim.Native.Nat.{ℕ, zero, suc, _+_, _*_, _≤_, _<_}
 use mathlib.Core.Path.{_≡_, refl, sym, ap, ap₂, _∙_}
 use mathlib.Core.Bool.{true, false}
 use mathlib.Core.Logic.{⊎-elim}
@@ -28,7 +29,9 @@ use Rattle.elements.specs.Words.{codeIn, negatedCodeIn, decodeIn, opsIn, Coded}
 use Rattle.elements.specs.Coded.{meet-lt}
 use Rattle.elements.specs.Folds.{CodeOf, decode-in, code-of, negated-of, meet-of, join-of, bigMeet-lt, fold-meets, fold-joins}
 use Rattle.model.specs.Reading.{leavingCode}
+use Rattle.elements.specs.Laws.{Within, within-refl, within-trans, and-left, or-left, and-assoc}
 use Rattle.rounds.specs.Table.{tableOf, Shaped, entryIn, scoreIn}
+use Rattle.rounds.specs.Rows.{Rows, Folds}
 
 -- two model parts over the same propositions
 pub record ModelPair (m₁ m₂ : List ℕ) : Type 0 where
@@ -53,33 +56,36 @@ joinCode row table at n = fold bitOr 0 (λ i. bitAnd (getD row i 0) (getD table 
 abbrev pub meetCode : ℕ → List ℕ → List ℕ → ℕ → ℕ → ℕ
 meetCode top left joins at n = fold bitAnd top (λ i. bitOr (getD left i 0) (getD joins (at + i) 0)) n
 
--- p1 ↔ p2, of the proposition p at q₁ and q₂
-abbrev pub iffCode : List ℕ → List ℕ → List ℕ → ℕ → ℕ → ℕ → ℕ
-iffCode w m₁ m₂ q₁ q₂ p =
-    bitAnd (bitOr (negatedCodeIn w (modelOf m₁ .label q₁ p)) (codeIn w (modelOf m₂ .label q₂ p)))
-    (bitOr (negatedCodeIn w (modelOf m₂ .label q₂ p)) (codeIn w (modelOf m₁ .label q₁ p)))
+-- a ↔ b
+abbrev pub iffCode : List ℕ → ℕ → ℕ → ℕ
+iffCode w a b = bitAnd (bitOr (negatedCodeIn w a) (codeIn w b)) (bitOr (negatedCodeIn w b) (codeIn w a))
 
--- its meet over all propositions
+-- the meet over all propositions of p1 ↔ p2
 abbrev pub propositionsCode : List ℕ → ℕ → List ℕ → List ℕ → ℕ → ℕ → ℕ
-propositionsCode w top m₁ m₂ q₁ q₂ = fold bitAnd top (iffCode w m₁ m₂ q₁ q₂) (getD m₁ 1 0)
+propositionsCode w top m₁ m₂ q₁ q₂ = fold bitAnd top (λ p. iffCode w (modelOf m₁ .label q₁ p) (modelOf m₂ .label q₂ p)) (getD m₁ 1 0)
 
--- the join over q2' of R2(q₂, q2') met with entry (q, q2') of the table
-abbrev pub innerCode : List ℕ → List ℕ → List ℕ → ℕ → ℕ → ℕ
-innerCode w m₂ table q₂ q = fold bitOr 0 (λ i. bitAnd (leavingCode false w m₂ q₂ i) (getD table (q * 64 + i) 0)) (getD m₂ 0 0)
+-- entry (q1, q2) of a table of codes that has 64 to a row, and of one that has 64 to a column
+abbrev pub byRow : List ℕ → ℕ → ℕ → ℕ
+byRow table q₁ q₂ = getD table (q₁ * 64 + q₂) 0
 
--- entry (q₁, q₂) of F of the table
-abbrev pub entryCode : List ℕ → ℕ → List ℕ → List ℕ → List ℕ → ℕ → ℕ → ℕ
-entryCode w top m₁ m₂ table q₁ q₂ =
-    bitAnd (propositionsCode w top m₁ m₂ q₁ q₂) (fold bitAnd top (λ i. bitOr (leavingCode true w m₁ q₁ i) (innerCode w m₂ table q₂ i)) (getD m₁ 0 0))
+abbrev pub byColumn : List ℕ → ℕ → ℕ → ℕ
+byColumn table q₁ q₂ = getD table (q₂ * 64 + q₁) 0
 
--- the same from words of the complements of the transitions that leave q₁, and inner joins from `at` on
-abbrev pub entryFrom : List ℕ → ℕ → List ℕ → List ℕ → List ℕ → List ℕ → ℕ → ℕ → ℕ → ℕ
-entryFrom w top m₁ m₂ left joins at q₁ q₂ = bitAnd (propositionsCode w top m₁ m₂ q₁ q₂) (meetCode top left joins at (getD m₁ 0 0))
+-- the join over q2' of R2(q₂, q2') met with entry (q, q2') of the table of codes S
+abbrev pub innerCode : List ℕ → List ℕ → (ℕ → ℕ → ℕ) → ℕ → ℕ → ℕ
+innerCode w m₂ S q₂ q = fold bitOr 0 (λ i. bitAnd (leavingCode false w m₂ q₂ i) (S q i)) (getD m₂ 0 0)
 
--- and from the inner joins of all q₂
-abbrev pub rowFrom : List ℕ → ℕ → List ℕ → List ℕ → List ℕ → ℕ → ℕ → ℕ
-rowFrom w top m₁ m₂ joins q₁ q₂ =
-    bitAnd (propositionsCode w top m₁ m₂ q₁ q₂) (fold bitAnd top (λ i. bitOr (leavingCode true w m₁ q₁ i) (getD joins (q₂ * 64 + i) 0)) (getD m₁ 0 0))
+-- the meet over q1' of R1(q₁, q1') → the join of q1' and q₂
+abbrev pub successorCode : List ℕ → ℕ → List ℕ → List ℕ → (ℕ → ℕ → ℕ) → ℕ → ℕ → ℕ
+successorCode w top m₁ m₂ S q₁ q₂ = fold bitAnd top (λ i. bitOr (leavingCode true w m₁ q₁ i) (innerCode w m₂ S q₂ i)) (getD m₁ 0 0)
+
+-- entry (q₁, q₂) of F of the table of codes S
+abbrev pub entryCode : List ℕ → ℕ → List ℕ → List ℕ → (ℕ → ℕ → ℕ) → ℕ → ℕ → ℕ
+entryCode w top m₁ m₂ S q₁ q₂ = bitAnd (propositionsCode w top m₁ m₂ q₁ q₂) (successorCode w top m₁ m₂ S q₁ q₂)
+
+-- the same from the inner joins of all q₂, which are met with the propositions one q1' after another, the first n of them
+abbrev pub rowFrom : List ℕ → ℕ → List ℕ → List ℕ → List ℕ → ℕ → ℕ → ℕ → ℕ
+rowFrom w top m₁ m₂ joins q₁ n q₂ = fold bitAnd (propositionsCode w top m₁ m₂ q₁ q₂) (λ i. bitOr (leavingCode true w m₁ q₁ i) (byRow joins i q₂)) n
 
 -- the initial value of a state
 abbrev pub initialCode : List ℕ → List ℕ → ℕ → ℕ
@@ -90,45 +96,26 @@ abbrev pub scorePart : List ℕ → List ℕ → List ℕ → List ℕ → ℕ �
 scorePart w m₁ m₂ s q₁ =
     bitOr (negatedCodeIn w (modelOf m₁ .initial q₁)) (fold bitOr 0 (λ i. bitAnd (initialCode w m₂ i) (tableCode w s (getD m₂ 0 0) q₁ i)) (getD m₂ 0 0))
 
--- ---- tables of words
+-- ---- tables of codes
 
--- row q of n₁ rows of n₂ words is as the rule says
-pub record Rows (f : ℕ → ℕ → ℕ) (n₁ n₂ : ℕ) (xs : List ℕ) : Type 0 where
-  pub at : (q r : ℕ) → q < n₁ → r < n₂ → getD xs (q * 64 + r) 0 ≡ f q r
+-- S has the codes of the table s
+pub record TableIn (w m₁ m₂ s : List ℕ) (S : ℕ → ℕ → ℕ) : Type 0 where
+  pub at : (q r : ℕ) → q < getD m₁ 0 0 → r < getD m₂ 0 0 → S q r ≡ tableCode w s (getD m₂ 0 0) q r
 
-pub rows-none : {f : ℕ → ℕ → ℕ} {n₂ : ℕ} {xs : List ℕ} → Rows f 0 n₂ xs
-rows-none = record { at = λ q r l m. absurd (not-suc-le-zero l) }
+-- the codes of row q₁ of F of the table of codes S, as the loops get it; a record, so that a goal shows its arguments
+pub record EntryCodes (w : List ℕ) (top : ℕ) (m₁ m₂ : List ℕ) (S : ℕ → ℕ → ℕ) (q₁ : ℕ) (codes : List ℕ) : Type 0 where
+  pub filled : Filled (entryCode w top m₁ m₂ S q₁) (getD m₂ 0 0) codes
 
--- one row more, written
-pub rows-more : {f : ℕ → ℕ → ℕ} {n₁ n₂ : ℕ} {xs ys : List ℕ} (g : ℕ → ℕ) → Rows f n₁ n₂ xs → n₂ ≤ 64 → n₁ * 64 + 64 ≤ length xs → ys ≡ written (n₁ * 64) (tab g n₂ 0) xs → ((r : ℕ) → r < n₂ → g r ≡ f n₁ r) → Rows f (n₁ + 1) n₂ ys
-rows-more {f} {n₁} {n₂} {xs} {ys} g h m fits e same =
-    let n = tab-length g n₂ 0 in
-    let room : n₁ * 64 + length (tab g n₂ 0) ≤ length xs = omega (arith, n) in
-    record {
-      at = λ q r i j.
-          ⊎-elim
-          (λ (p : q ≡ n₁). rw p (slice-at (n₁ * 64) g n₂ xs e (omega arith) r j ∙ same r j))
-          (λ (p : q < n₁). rw e (written-before (n₁ * 64) (tab g n₂ 0) xs room (q * 64 + r) (omega arith) ∙ h .at q r p j))
-          (eq-or-lt-of-le (omega arith));
-    }
-
-pub rows-all : {f : ℕ → ℕ → ℕ} {n i n₂ : ℕ} {xs : List ℕ} → Rows f i n₂ xs → i ≤ n → n ≤ i → Rows f n n₂ xs
-rows-all {n = n} {i = i} u p q = let e : i ≡ n = omega arith in rw e at u
-
--- the codes of row q₁ of F of the table, as the loops get it; a record, so that a goal shows its arguments
-pub record EntryCodes (w : List ℕ) (top : ℕ) (m₁ m₂ table : List ℕ) (q₁ : ℕ) (codes : List ℕ) : Type 0 where
-  pub filled : Filled (entryCode w top m₁ m₂ table q₁) (getD m₂ 0 0) codes
-
--- the inner joins of the table s, 64 to a row
+-- the inner joins of the table s, 64 to a row: those of q1 stand in row q1, that of q2 in column q2
 pub record Prepared (w m₁ m₂ s joins : List ℕ) : Type 0 where
   pub table : List ℕ
-  pub table-is : Rows (tableCode w s (getD m₂ 0 0)) (getD m₁ 0 0) (getD m₂ 0 0) table
-  pub joins-are : Rows (innerCode w m₂ table) (getD m₂ 0 0) (getD m₁ 0 0) joins
+  pub table-is : TableIn w m₁ m₂ s (byColumn table)
+  pub joins-are : Rows (λ q₁ q₂. innerCode w m₂ (byColumn table) q₂ q₁) (getD m₁ 0 0) (getD m₂ 0 0) joins
 
 -- ---- the codes as the loops get them
 
 -- a word that was written from place 0 on
-low-at : (f : ℕ → ℕ) (n : ℕ) (before : List ℕ) {out : List ℕ} → out ≡ written 0 (tab f n 0) before → n ≤ length before → (i : ℕ) → i < n → getD out i 0 ≡ f i
+pub low-at : (f : ℕ → ℕ) (n : ℕ) (before : List ℕ) {out : List ℕ} → out ≡ written 0 (tab f n 0) before → n ≤ length before → (i : ℕ) → i < n → getD out i 0 ≡ f i
 low-at f n before {out} e fits i l =
     let z : 0 + i ≡ i = omega arith in
     ap (λ (j : ℕ). getD out j 0) (sym z) ∙ slice-at 0 f n before e (omega arith) i l
@@ -141,37 +128,66 @@ pub left-is : (w m₁ : List ℕ) (q₁ : ℕ) (before : List ℕ) {left : List 
 left-is w m₁ q₁ before e fits = record { at = low-at (leavingCode true w m₁ q₁) (getD m₁ 0 0) before e fits }
 
 -- the inner joins of q₂, from the codes of the transitions that leave it
-pub inner-from : (w m₂ table : List ℕ) (q₂ n : ℕ) (before : List ℕ) {row : List ℕ} → row ≡ written 0 (tab (leavingCode false w m₂ q₂) (getD m₂ 0 0) 0) before → getD m₂ 0 0 ≤ length before → n ≡ getD m₂ 0 0 → (λ (q : ℕ). joinCode row table (q * 64) n) ≡ innerCode w m₂ table q₂
+pub inner-from : (w m₂ table : List ℕ) (q₂ n : ℕ) (before : List ℕ) {row : List ℕ} → row ≡ written 0 (tab (leavingCode false w m₂ q₂) (getD m₂ 0 0) 0) before → getD m₂ 0 0 ≤ length before → n ≡ getD m₂ 0 0 → (λ (q : ℕ). joinCode row table (q * 64) n) ≡ innerCode w m₂ (byRow table) q₂
 inner-from w m₂ table q₂ n before {row} e fits s = λ i q. at q i
   where
-    at : (q : ℕ) → joinCode row table (q * 64) n ≡ innerCode w m₂ table q₂ q
+    at : (q : ℕ) → joinCode row table (q * 64) n ≡ innerCode w m₂ (byRow table) q₂ q
     at q = rw s (fold-cong bitOr 0 _ _ (getD m₂ 0 0) (λ i k. ap (λ (x : ℕ). bitAnd x (getD table (q * 64 + i) 0)) (low-at _ _ before e fits i k)))
 
-module _ (w : List ℕ) (top : ℕ) (m₁ m₂ : List ℕ) (q₁ q₂ : ℕ) {left : List ℕ} (e : Left w m₁ q₁ left) where
-  -- an entry, from the inner joins of q₂ that were written from `at` on
-  pub entry-from : (table : List ℕ) (at n₁ : ℕ) (prior : List ℕ) {joins : List ℕ} → joins ≡ written at (tab (innerCode w m₂ table q₂) n₁ 0) prior → n₁ ≡ getD m₁ 0 0 → at + n₁ ≤ length prior → entryFrom w top m₁ m₂ left joins at q₁ q₂ ≡ entryCode w top m₁ m₂ table q₁ q₂
-  entry-from table at n₁ prior {joins} f s room =
-      ap (bitAnd (propositionsCode w top m₁ m₂ q₁ q₂))
-      (fold-cong bitAnd top _ _ (getD m₁ 0 0) (λ i k. ap₂ bitOr (e .at i k) (slice-at at (innerCode w m₂ table q₂) n₁ prior f room i (omega (arith, s)))))
+-- what the successors give to an entry, from words for the complements of the transitions that leave q₁
+abbrev pub leftCode : List ℕ → ℕ → List ℕ → (ℕ → ℕ → ℕ) → List ℕ → ℕ → ℕ → ℕ
+leftCode w top m₂ S left n₁ q₂ = fold bitAnd top (λ i. bitOr (getD left i 0) (innerCode w m₂ S q₂ i)) n₁
 
-  -- the same from all inner joins
-  pub row-from-is : (joins : List ℕ) → entryFrom w top m₁ m₂ left joins (q₂ * 64) q₁ q₂ ≡ rowFrom w top m₁ m₂ joins q₁ q₂
-  row-from-is joins =
-      ap (bitAnd (propositionsCode w top m₁ m₂ q₁ q₂))
-      (fold-cong bitAnd top _ _ (getD m₁ 0 0) (λ i k. ap (λ (x : ℕ). bitOr x (getD joins (q₂ * 64 + i) 0)) (e .at i k)))
+-- that is the meet over the inner joins of q₂ that were written
+pub met-is : (w : List ℕ) (top : ℕ) (m₂ : List ℕ) (S : ℕ → ℕ → ℕ) (left : List ℕ) (n₁ q₂ : ℕ) (prior : List ℕ) {joins : List ℕ} → joins ≡ written 0 (tab (innerCode w m₂ S q₂) n₁ 0) prior → n₁ ≤ length prior → meetCode top left joins 0 n₁ ≡ leftCode w top m₂ S left n₁ q₂
+met-is w top m₂ S left n₁ q₂ prior f room =
+    fold-cong bitAnd top _ _ n₁ (λ i k. ap (bitOr (getD left i 0)) (slice-at 0 (innerCode w m₂ S q₂) n₁ prior f (omega arith) i k))
 
-pub row-from-code : (w : List ℕ) (top : ℕ) (m₁ m₂ table : List ℕ) (q₁ q₂ : ℕ) {joins : List ℕ} → Rows (innerCode w m₂ table) (getD m₂ 0 0) (getD m₁ 0 0) joins → q₂ < getD m₂ 0 0 → rowFrom w top m₁ m₂ joins q₁ q₂ ≡ entryCode w top m₁ m₂ table q₁ q₂
-row-from-code w top m₁ m₂ table q₁ q₂ r l =
-    ap (bitAnd (propositionsCode w top m₁ m₂ q₁ q₂))
-    (fold-cong bitAnd top _ _ (getD m₁ 0 0) (λ i k. ap (bitOr (leavingCode true w m₁ q₁ i)) (r .at q₂ i l k)))
+pub left-code : (w : List ℕ) (top : ℕ) (m₁ m₂ : List ℕ) (S : ℕ → ℕ → ℕ) (q₁ n₁ q₂ : ℕ) {left : List ℕ} → Left w m₁ q₁ left → n₁ ≡ getD m₁ 0 0 → leftCode w top m₂ S left n₁ q₂ ≡ successorCode w top m₁ m₂ S q₁ q₂
+left-code w top m₁ m₂ S q₁ n₁ q₂ {left} e s =
+    ap (λ (n : ℕ). leftCode w top m₂ S left n q₂) s
+    ∙ fold-cong bitAnd top _ _ (getD m₁ 0 0) (λ i k. ap (λ (x : ℕ). bitOr x (innerCode w m₂ S q₂ i)) (e .at i k))
+
+-- ---- an entry that starts at its propositions
+
+-- what is met with a word stays within whatever the word is within
+fold-within : {x top : ℕ} → Within x top → (f : ℕ → ℕ) (n : ℕ) → Within (fold bitAnd x f n) top
+unfolding fold
+fold-within h f zero = h
+fold-within {x} h f (suc n) = within-trans (and-left (fold bitAnd x f n) (f n)) (fold-within h f n)
+
+fold-from : {x top : ℕ} → Within x top → (f : ℕ → ℕ) (n : ℕ) → fold bitAnd x f n ≡ bitAnd x (fold bitAnd top f n)
+unfolding fold
+fold-from h f zero = sym (h .eq)
+fold-from {x} {top} h f (suc n) = ap (λ (y : ℕ). bitAnd y (f n)) (fold-from h f n) ∙ and-assoc x (fold bitAnd top f n) (f n)
+
+-- the first n words of a row are within the top's
+pub record WithinTop (top n : ℕ) (row : List ℕ) : Type 0 where
+  pub at : (i : ℕ) → i < n → Within (getD row i 0) top
+
+propositions-within : (w : List ℕ) (top : ℕ) (m₁ m₂ : List ℕ) (q₁ q₂ : ℕ) → Within (propositionsCode w top m₁ m₂ q₁ q₂) top
+propositions-within w top m₁ m₂ q₁ q₂ = fold-within (within-refl top) _ (getD m₁ 1 0)
+
+pub row-within : (w : List ℕ) (top : ℕ) (m₁ m₂ : List ℕ) (q₁ k n : ℕ) {f : ℕ → ℕ → ℕ} {row : List ℕ} → Folds bitAnd (propositionsCode w top m₁ m₂ q₁) f k n row → WithinTop top n row
+row-within w top m₁ m₂ q₁ k n h = record { at = λ i l. rw (h .at i l) (fold-within (propositions-within w top m₁ m₂ q₁ i) _ k) }
+
+-- a word within the top's is not changed by what is at or above the top
+pub top-same : {x top : ℕ} → Within x top → (y : ℕ) → x ≡ bitAnd x (bitOr top y)
+top-same {top = top} h y = sym (within-trans h (or-left top y) .eq)
+
+pub row-from-code : (w : List ℕ) (top : ℕ) (m₁ m₂ : List ℕ) (S : ℕ → ℕ → ℕ) (q₁ q₂ : ℕ) {joins : List ℕ} → Rows (λ q₁ q₂. innerCode w m₂ S q₂ q₁) (getD m₁ 0 0) (getD m₂ 0 0) joins → q₂ < getD m₂ 0 0 → rowFrom w top m₁ m₂ joins q₁ (getD m₁ 0 0) q₂ ≡ entryCode w top m₁ m₂ S q₁ q₂
+row-from-code w top m₁ m₂ S q₁ q₂ r l =
+    fold-from (propositions-within w top m₁ m₂ q₁ q₂) _ (getD m₁ 0 0)
+    ∙ ap (bitAnd (propositionsCode w top m₁ m₂ q₁ q₂))
+    (fold-cong bitAnd top _ _ (getD m₁ 0 0) (λ i k. ap (bitOr (leavingCode true w m₁ q₁ i)) (r .at i q₂ k l)))
 
 -- ---- they are the codes of F's entries
 
-module _ {w : List ℕ} {l : Lattice} (c : Coded w l) {m₁ m₂ s table : List ℕ} (h : Shaped m₁ m₂ s) (t : Rows (tableCode w s (getD m₂ 0 0)) (getD m₁ 0 0) (getD m₂ 0 0) table) where
+module _ {w : List ℕ} {l : Lattice} (c : Coded w l) {m₁ m₂ s : List ℕ} {S : ℕ → ℕ → ℕ} (h : Shaped m₁ m₂ s) (t : TableIn w m₁ m₂ s S) where
   abbrev top : ℕ
   top = codeIn w (l .top .0)
 
-  iff-of : (q₁ q₂ p : ℕ) → CodeOf w (iffCode w m₁ m₂ q₁ q₂ p) (iff (opsIn w l) (modelOf m₁ .label q₁ p) (modelOf m₂ .label q₂ p))
+  iff-of : (q₁ q₂ p : ℕ) → CodeOf w (iffCode w (modelOf m₁ .label q₁ p) (modelOf m₂ .label q₂ p)) (iff (opsIn w l) (modelOf m₁ .label q₁ p) (modelOf m₂ .label q₂ p))
   unfolding iff imp
   iff-of q₁ q₂ p =
       let a = modelOf m₁ .label q₁ p in
@@ -183,18 +199,18 @@ module _ {w : List ℕ} {l : Lattice} (c : Coded w l) {m₁ m₂ s table : List 
   unfolding propositionPart
   propositions-of q₁ q₂ = fold-meets c (getD m₁ 1 0) _ _ (code-of c (l .top .0)) (λ p k. iff-of q₁ q₂ p)
 
-  successors-of : (q₁ q₂ : ℕ) → CodeOf w (fold bitAnd top (λ i. bitOr (leavingCode true w m₁ q₁ i) (innerCode w m₂ table q₂ i)) (getD m₁ 0 0)) (successorPart (opsIn w l) (modelOf m₁) (modelOf m₂) (tableOf s (getD m₂ 0 0)) q₁ q₂)
+  successors-of : (q₁ q₂ : ℕ) → CodeOf w (successorCode w top m₁ m₂ S q₁ q₂) (successorPart (opsIn w l) (modelOf m₁) (modelOf m₂) (tableOf s (getD m₂ 0 0)) q₁ q₂)
   unfolding successorPart allNext someNext imp
   successors-of q₁ q₂ =
       fold-meets c (getD m₁ 0 0) _ _ (code-of c (l .top .0))
       (λ i k. join-of c (negated-of c (modelOf m₁ .transition q₁ i))
       (fold-joins c (getD m₂ 0 0) _ _ (λ j m. meet-of c (code-of c (modelOf m₂ .transition q₂ j)) (record { eq = t .at i j k m }))))
 
-  pub entry-code : (q₁ q₂ : ℕ) → CodeOf w (entryCode w top m₁ m₂ table q₁ q₂) (entryIn w l m₁ m₂ s q₁ q₂)
+  pub entry-code : (q₁ q₂ : ℕ) → CodeOf w (entryCode w top m₁ m₂ S q₁ q₂) (entryIn w l m₁ m₂ s q₁ q₂)
   unfolding F
   entry-code q₁ q₂ = meet-of c (propositions-of q₁ q₂) (successors-of q₁ q₂)
 
-  pub entry-decoded : (q₁ q₂ : ℕ) → decodeIn w (entryCode w top m₁ m₂ table q₁ q₂) ≡ entryIn w l m₁ m₂ s q₁ q₂
+  pub entry-decoded : (q₁ q₂ : ℕ) → decodeIn w (entryCode w top m₁ m₂ S q₁ q₂) ≡ entryIn w l m₁ m₂ s q₁ q₂
   unfolding F
   entry-decoded q₁ q₂ = decode-in c (entry-code q₁ q₂) (meet-lt c (propositionPart (opsIn w l) (modelOf m₁) (modelOf m₂) q₁ q₂) (successorPart (opsIn w l) (modelOf m₁) (modelOf m₂) (tableOf s (getD m₂ 0 0)) q₁ q₂))
 

@@ -18,28 +18,34 @@ use Rattle.elements.specs.declared.Lattice.{Lattice}
 use Rattle.elements.specs.Words.{codeIn, decodeIn, Coded}
 use Rattle.rounds.specs.Table.{tableOf, Shaped, rowSame, entryIn, RowIn, rowSameIn}
 use Rattle.rounds.specs.Row.{RowAt, RowSoFar, RowOut, rowSameAs, row-written}
-use Rattle.rounds.specs.Codes.{tableCode, innerCode, entryCode, rowFrom, Rows, EntryCodes, Prepared, row-from-code, entry-decoded}
+use Rattle.rounds.specs.Rows.{Rows}
+use Rattle.rounds.specs.Codes.{tableCode, byRow, byColumn, innerCode, entryCode, rowFrom, TableIn, EntryCodes, Prepared, row-from-code, entry-decoded}
 
 tab-cong : (f g : ℕ → ℕ) (n : ℕ) → ((i : ℕ) → i < n → f i ≡ g i) → tab f n 0 ≡ tab g n 0
 tab-cong f g n h = sym (filled-all {f = f} (record { at = λ i l. tab-at g n i l ∙ sym (h i l) }) (tab-length g n 0) (le-refl n))
 
--- the codes of a table, by the models' sizes
-pub table-rows : (w m₁ m₂ s : List ℕ) (n₁ n₂ : ℕ) {table : List ℕ} → Rows (tableCode w s n₂) n₁ n₂ table → n₁ ≡ getD m₁ 0 0 → n₂ ≡ getD m₂ 0 0 → Rows (tableCode w s (getD m₂ 0 0)) (getD m₁ 0 0) (getD m₂ 0 0) table
-table-rows w m₁ m₂ s n₁ n₂ t e₁ e₂ = rw (e₁, e₂) at t
+-- the codes of a table by rows, by the models' sizes
+pub table-rows : (w m₁ m₂ s : List ℕ) (n₁ n₂ : ℕ) {table : List ℕ} → Rows (tableCode w s n₂) n₁ n₂ table → n₁ ≡ getD m₁ 0 0 → n₂ ≡ getD m₂ 0 0 → TableIn w m₁ m₂ s (byRow table)
+table-rows w m₁ m₂ s n₁ n₂ t e₁ e₂ = record { at = λ q r l m. rw (← e₂) (t .at q r (omega (arith, e₁)) (omega (arith, e₂))) }
 
 -- the codes of a row, by the code of the top
-pub row-top : {w m₁ m₂ table codes : List ℕ} {q₁ top : ℕ} (e : ℕ) → top ≡ codeIn w e → EntryCodes w top m₁ m₂ table q₁ codes → EntryCodes w (codeIn w e) m₁ m₂ table q₁ codes
+pub row-top : {w m₁ m₂ codes : List ℕ} {S : ℕ → ℕ → ℕ} {q₁ top : ℕ} (e : ℕ) → top ≡ codeIn w e → EntryCodes w top m₁ m₂ S q₁ codes → EntryCodes w (codeIn w e) m₁ m₂ S q₁ codes
 row-top e z f = rw z at f
 
--- the inner joins, from the codes of the table
-pub prepared-is : (w m₁ m₂ s : List ℕ) (n₁ n₂ : ℕ) (table : List ℕ) {joins : List ℕ} → Rows (tableCode w s n₂) n₁ n₂ table → Rows (innerCode w m₂ table) (getD m₂ 0 0) n₁ joins → n₁ ≡ getD m₁ 0 0 → n₂ ≡ getD m₂ 0 0 → Prepared w m₁ m₂ s joins
-prepared-is w m₁ m₂ s n₁ n₂ table t j e₁ e₂ = record { table = table; table-is = table-rows w m₁ m₂ s n₁ n₂ t e₁ e₂; joins-are = rw e₁ at j }
+-- the inner joins, from the codes of the table by columns
+pub prepared-is : (w m₁ m₂ s : List ℕ) (n₁ n₂ : ℕ) (table : List ℕ) {joins : List ℕ} → Rows (λ q₂ q₁. tableCode w s n₂ q₁ q₂) n₂ n₁ table → Rows (λ q₁ q₂. innerCode w m₂ (byColumn table) q₂ q₁) n₁ (getD m₂ 0 0) joins → n₁ ≡ getD m₁ 0 0 → n₂ ≡ getD m₂ 0 0 → Prepared w m₁ m₂ s joins
+prepared-is w m₁ m₂ s n₁ n₂ table t j e₁ e₂ =
+    record {
+      table = table;
+      table-is = record { at = λ q r l m. rw (← e₂) (t .at r q (omega (arith, e₂)) (omega (arith, e₁))) };
+      joins-are = rw e₁ at j;
+    }
 
-pub prepared-codes : (w : List ℕ) (top : ℕ) (m₁ m₂ s : List ℕ) (q₁ : ℕ) {joins codes : List ℕ} (p : Prepared w m₁ m₂ s joins) → Filled (rowFrom w top m₁ m₂ joins q₁) (getD m₂ 0 0) codes → EntryCodes w top m₁ m₂ (p .table) q₁ codes
-prepared-codes w top m₁ m₂ s q₁ p f = record { filled = filled-as f (le-refl _) (λ q₂ l. row-from-code w top m₁ m₂ (p .table) q₁ q₂ (p .joins-are) l) }
+pub prepared-codes : (w : List ℕ) (top : ℕ) (m₁ m₂ s : List ℕ) (q₁ : ℕ) {joins codes : List ℕ} (p : Prepared w m₁ m₂ s joins) → Filled (rowFrom w top m₁ m₂ joins q₁ (getD m₁ 0 0)) (getD m₂ 0 0) codes → EntryCodes w top m₁ m₂ (byColumn (p .table)) q₁ codes
+prepared-codes w top m₁ m₂ s q₁ p f = record { filled = filled-as f (le-refl _) (λ q₂ l. row-from-code w top m₁ m₂ (byColumn (p .table)) q₁ q₂ (p .joins-are) l) }
 
-module _ {w : List ℕ} {l : Lattice} (c : Coded w l) {m₁ m₂ s table codes : List ℕ} (h : Shaped m₁ m₂ s) (t : Rows (tableCode w s (getD m₂ 0 0)) (getD m₁ 0 0) (getD m₂ 0 0) table)
-    (q₁ : ℕ) {n₂ at : ℕ} (a : RowAt m₁ m₂ q₁ n₂ at) (e : n₂ ≡ getD m₂ 0 0) (f : EntryCodes w (codeIn w (l .top .0)) m₁ m₂ table q₁ codes) where
+module _ {w : List ℕ} {l : Lattice} (c : Coded w l) {m₁ m₂ s codes : List ℕ} {S : ℕ → ℕ → ℕ} (h : Shaped m₁ m₂ s) (t : TableIn w m₁ m₂ s S)
+    (q₁ : ℕ) {n₂ at : ℕ} (a : RowAt m₁ m₂ q₁ n₂ at) (e : n₂ ≡ getD m₂ 0 0) (f : EntryCodes w (codeIn w (l .top .0)) m₁ m₂ S q₁ codes) where
   -- a code is turned back into F's entry
   decoded : (q : ℕ) → q < n₂ → decodeIn w (getD codes q 0) ≡ entryIn w l m₁ m₂ s q₁ q
   decoded q k = ap (decodeIn w) (f .filled .at q (omega (arith, e))) ∙ entry-decoded c h t q₁ q

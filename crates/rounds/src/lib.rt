@@ -1,18 +1,21 @@
 // The simulation operator on tables that are held as bytes: a row, a round, whether a table is a simulation, score and share. Everything is worked
 // on the codes of elements (crate `elements`), and an entry is turned back into its element once.
-//   words: the codes of a row's entries
+//   words: the codes of one row's entries
+//   columns: those of all rows of a round
+mod columns;
 mod words;
 
+use columns::all_joins;
+use columns::encode_columns;
+use columns::row_from;
 use elements::Codes;
 use elements::Element;
 use elements::Lattice;
 use model::State;
 use words::TableCodes;
-use words::all_joins;
 use words::encode_table;
 use words::joined;
 use words::row_codes;
-use words::row_from;
 ghost use mathlib.Core.Path.{_≡_};
 ghost use Prim.Native.Nat.{_+_, _*_, _≤_, _<_};
 ghost use lib.ListN.{length, getD};
@@ -92,7 +95,7 @@ fn prepare(w: &Codes, m1: &[u8], m2: &[u8], s: &[u8], joins: &mut TableCodes)
 {
     let n1 = model::states(m1);
     let mut table = [0u64; 4096];
-    encode_table(w, s, n1, model::states(m2), &mut table);
+    encode_columns(w, s, n1, model::states(m2), &mut table);
     all_joins(w, m2, &table, n1, joins);
 }
 
@@ -104,9 +107,9 @@ fn row_same(w: &Codes, l: Lattice, codes: &[u64; 64], s: &[u8], at: usize, n: us
     ensures { λ r. ⌜ r ≡ rowSameAs (now (w .entry)) (now (codes .entry)) (now (s .entry)) at n ⌝ }
 {
     for q in 0..n {
-        let old = s[at + q];
-        let e = elements::decode(w, l, codes[q], Element(old));
-        if old != e.0 {
+        let byte = s[at + q];
+        let e = elements::decode(w, l, codes[q], Element(byte));
+        if byte != e.0 {
             return false;
         }
     }

@@ -1,14 +1,16 @@
 // The codes of a row's entries of F: what is read is turned into codes once, and worked by & and | alone.
 use elements::Codes;
+use elements::Element;
 use model::Proposition;
 use model::State;
 ghost use mathlib.Core.Path.{_≡_};
 ghost use Prim.Native.Nat.{_+_, _*_, _≤_, _<_};
+ghost use lib.Bits.{bitAnd};
 ghost use lib.ListN.{length, getD};
-ghost use Rattle.theory.specs.Part.{ModelShape};
+ghost use Rattle.theory.specs.Part.{modelOf, ModelShape};
 ghost use Rattle.theory.specs.Lists.{Filled, tab, written};
-ghost use Rattle.model.specs.Reading.{leavingCode};
-ghost use Rattle.rounds.specs.Codes.{ModelPair, tableCode, joinCode, innerCode, meetCode, iffCode, propositionsCode, entryFrom, rowFrom, Rows, EntryCodes};
+ghost use Rattle.rounds.specs.Rows.{Rows, Replaced};
+ghost use Rattle.rounds.specs.Codes.{ModelPair, tableCode, byRow, joinCode, innerCode, meetCode, iffCode, propositionsCode, EntryCodes};
 
 // The codes of a table, or of the inner joins of one, 64 to a row.
 pub(crate) type TableCodes = [u64; 4096];
@@ -27,29 +29,40 @@ pub(crate) fn encode_table(w: &Codes, s: &[u8], n1: usize, n2: usize, out: &mut 
 
 // ---- propositions
 
-// The code of p1 ↔ p2.
-fn equivalent(w: &Codes, m1: &[u8], m2: &[u8], q1: State, q2: State, p: Proposition) -> u64
-    requires { ⌜ ModelPair (now m1) (now m2) × (q1 .0 < getD (now m1) 0 0) × (q2 .0 < getD (now m2) 0 0) × (p .0 < getD (now m1) 1 0) ⌝ }
-    ensures { λ r. ⌜ r ≡ iffCode (now (w .entry)) (now (m1 .entry)) (now (m2 .entry)) (q1 .0) (q2 .0) (p .0) ⌝ }
+// Meets each word of a row, of q2 for each q2, with the code of p1 ↔ p2, where a is the value of p1.
+fn meet_equivalent(w: &Codes, a: Element, m2: &[u8], p: Proposition, out: &mut [u64])
+    requires { ⌜ ModelShape (now m2) × (p .0 < getD (now m2) 1 0) × (length (now out) ≡ 64) ⌝ }
+    ensures { λ _. ⌜ Replaced (λ q x. bitAnd x (iffCode (now (w .entry)) (a .0) (modelOf (now (m2 .entry)) .label q (p .0)))) (getD (now (m2 .entry)) 0 0)
+        (now (out .entry)) (now (out .exit)) ⌝ }
 {
-    let a = model::label(m1, q1, p);
-    let b = model::label(m2, q2, p);
-    let x = elements::negated_code(w, a) | elements::code(w, b);
-    let y = elements::negated_code(w, b) | elements::code(w, a);
-    x & y
+    let n = model::states(m2);
+    let x = elements::negated_code(w, a);
+    let y = elements::code(w, a);
+    for q in 0..n {
+        let b = model::label(m2, State(q as u8), p);
+        out[q] = out[q] & ((x | elements::code(w, b)) & (elements::negated_code(w, b) | y));
+    }
 }
 
-// The code of the meet over all propositions of p1 ↔ p2; `top` is that of the top.
-fn propositions(w: &Codes, top: u64, m1: &[u8], m2: &[u8], q1: State, q2: State) -> u64
-    requires { ⌜ ModelPair (now m1) (now m2) × (q1 .0 < getD (now m1) 0 0) × (q2 .0 < getD (now m2) 0 0) ⌝ }
-    ensures { λ r. ⌜ r ≡ propositionsCode (now (w .entry)) top (now (m1 .entry)) (now (m2 .entry)) (q1 .0) (q2 .0) ⌝ }
+// The codes of the meet over all propositions of p1 ↔ p2, for each q2; `top` is the code of the top.
+pub(crate) fn propositions(
+    w: &Codes,
+    top: u64,
+    m1: &[u8],
+    m2: &[u8],
+    q1: State,
+    out: &mut [u64; 64],
+)
+    requires { ⌜ ModelPair (now m1) (now m2) × (q1 .0 < getD (now m1) 0 0) ⌝ }
+    ensures { λ _. ⌜ (length (now (out .exit)) ≡ 64)
+        × Filled (propositionsCode (now (w .entry)) top (now (m1 .entry)) (now (m2 .entry)) (q1 .0)) (getD (now (m2 .entry)) 0 0) (now (out .exit)) ⌝ }
 {
     let k = model::propositions(m1);
-    let mut x = top;
+    *out = [top; 64];
     for p in 0..k {
-        x = x & equivalent(w, m1, m2, q1, q2, Proposition(p as u8));
+        let a = model::label(m1, q1, Proposition(p as u8));
+        meet_equivalent(w, a, m2, Proposition(p as u8), out);
     }
-    x
 }
 
 // ---- successors
@@ -123,23 +136,12 @@ fn inner_joins(
     at: usize,
 )
     requires { ⌜ ModelShape (now m2) × (q2 .0 < getD (now m2) 0 0) × (n1 ≤ 64) × (at + n1 ≤ length (now joins)) ⌝ }
-    ensures { λ _. ⌜ now (joins .exit) ≡ written at (tab (innerCode (now (w .entry)) (now (m2 .entry)) (now (table .entry)) (q2 .0)) n1 0)
+    ensures { λ _. ⌜ now (joins .exit) ≡ written at (tab (innerCode (now (w .entry)) (now (m2 .entry)) (byRow (now (table .entry))) (q2 .0)) n1 0)
         (now (joins .entry)) ⌝ }
 {
     let mut row = [0u64; 64];
     model::transition_codes(w, m2, q2, false, &mut row, 0);
     join_rows(&row, table, n1, model::states(m2), joins, at);
-}
-
-// The inner joins of every q2, 64 to a row: one filling serves all rows of a round.
-pub(crate) fn all_joins(w: &Codes, m2: &[u8], table: &TableCodes, n1: usize, joins: &mut [u64])
-    requires { ⌜ ModelShape (now m2) × (n1 ≤ 64) × (length (now joins) ≡ 4096) ⌝ }
-    ensures { λ _. ⌜ Rows (innerCode (now (w .entry)) (now (m2 .entry)) (now (table .entry))) (getD (now (m2 .entry)) 0 0) n1 (now (joins .exit)) ⌝ }
-{
-    let n2 = model::states(m2);
-    for q2 in 0..n2 {
-        inner_joins(w, m2, State(q2 as u8), table, n1, joins, q2 * 64);
-    }
 }
 
 // The meet of the first n words of `left`, each joined with that at its place from `at` on.
@@ -154,28 +156,7 @@ fn met(top: u64, left: &[u64; 64], joins: &[u64], at: usize, n: usize) -> u64
     x
 }
 
-// ---- entries and rows
-
-// The code of entry (q1, q2) of F: `left` has the codes of the complements of the transitions that leave q1, `joins` the inner joins of q2
-// from `at` on.
-fn entry(
-    w: &Codes,
-    top: u64,
-    m1: &[u8],
-    m2: &[u8],
-    left: &[u64; 64],
-    joins: &[u64],
-    at: usize,
-    q1: State,
-    q2: State,
-) -> u64
-    requires { ⌜ ModelPair (now m1) (now m2) × (q1 .0 < getD (now m1) 0 0) × (q2 .0 < getD (now m2) 0 0) × (at + getD (now m1) 0 0 ≤ length (now joins)) ⌝ }
-    ensures { λ r. ⌜ r ≡ entryFrom (now (w .entry)) top (now (m1 .entry)) (now (m2 .entry)) (now (left .entry)) (now (joins .entry)) at (q1 .0) (q2 .0) ⌝ }
-{
-    let p = propositions(w, top, m1, m2, q1, q2);
-    let n = met(top, left, joins, at, model::states(m1));
-    p & n
-}
+// ---- rows
 
 // The codes of row q1 of F of a table that is given as codes.
 pub(crate) fn row_codes(
@@ -185,41 +166,19 @@ pub(crate) fn row_codes(
     m2: &[u8],
     table: &TableCodes,
     q1: State,
-    out: &mut [u64],
+    out: &mut [u64; 64],
 )
-    requires { ⌜ ModelPair (now m1) (now m2) × (q1 .0 < getD (now m1) 0 0) × (length (now out) ≡ 64) ⌝ }
-    ensures { λ _. ⌜ EntryCodes (now (w .entry)) top (now (m1 .entry)) (now (m2 .entry)) (now (table .entry)) (q1 .0) (now (out .exit)) ⌝ }
+    requires { ⌜ ModelPair (now m1) (now m2) × (q1 .0 < getD (now m1) 0 0) ⌝ }
+    ensures { λ _. ⌜ EntryCodes (now (w .entry)) top (now (m1 .entry)) (now (m2 .entry)) (byRow (now (table .entry))) (q1 .0) (now (out .exit)) ⌝ }
 {
     let n1 = model::states(m1);
     let n2 = model::states(m2);
+    propositions(w, top, m1, m2, q1, out);
     let mut left = [0u64; 64];
     model::transition_codes(w, m1, q1, true, &mut left, 0);
     let mut joins = [0u64; 64];
     for q2 in 0..n2 {
-        let q = State(q2 as u8);
-        inner_joins(w, m2, q, table, n1, &mut joins, 0);
-        out[q2] = entry(w, top, m1, m2, &left, &joins, 0, q1, q);
-    }
-}
-
-// The same from the inner joins of every q2.
-pub(crate) fn row_from(
-    w: &Codes,
-    top: u64,
-    m1: &[u8],
-    m2: &[u8],
-    joins: &TableCodes,
-    q1: State,
-    out: &mut [u64],
-)
-    requires { ⌜ ModelPair (now m1) (now m2) × (q1 .0 < getD (now m1) 0 0) × (length (now out) ≡ 64) ⌝ }
-    ensures { λ _. ⌜ Filled (rowFrom (now (w .entry)) top (now (m1 .entry)) (now (m2 .entry)) (now (joins .entry)) (q1 .0))
-        (getD (now (m2 .entry)) 0 0) (now (out .exit)) ⌝ }
-{
-    let n2 = model::states(m2);
-    let mut left = [0u64; 64];
-    model::transition_codes(w, m1, q1, true, &mut left, 0);
-    for q2 in 0..n2 {
-        out[q2] = entry(w, top, m1, m2, &left, joins, q2 * 64, q1, State(q2 as u8));
+        inner_joins(w, m2, State(q2 as u8), table, n1, &mut joins, 0);
+        out[q2] = out[q2] & met(top, &left, &joins, 0, n1);
     }
 }

@@ -15,54 +15,54 @@ use Rattle.rounds.proofs.is_simulation.Statement.{statement}
 use Rattle.rounds.proofs.is_simulation.Tie as tie
 
 abbrev Inv-loop : tie.InvT-loop
-Inv-loop w l m1 m2 s n1 n2 joins top codes₀ q1₀ codes q1 = (q1 ≤ n1) × (length codes ≡ 64) × Passed (rowSameIn w l m1 m2 s) q1
+Inv-loop w l m1 m2 s n1 n2 joins top codes₀ q1₀ codes q1 = (q1 ≤ n1) × Passed (rowSameIn w l m1 m2 s) q1
 
 abbrev μ-loop : tie.MeasureT-loop
 μ-loop w l m1 m2 s n1 n2 joins top codes₀ q1₀ codes q1 = n1 - q1
 
 loop-holds : tie.Need-loop-holds Inv-loop μ-loop
-loop-holds c = (omega arith, refl, passed-none)
+loop-holds c = (omega arith, passed-none)
 
 row-from-requires : tie.Need-row-from-requires Inv-loop μ-loop
-row-from-requires c κs = (model-pair (c .before .before .before .before .before .before .before .before .before .before .before .before .pre .1), omega (arith, c .before .before .before .before .before .before .before .before .states .ensures), search needs)
+row-from-requires c κs = (model-pair (c .before .before .before .before .before .before .before .before .before .before .before .before .pre .1), omega (arith, c .before .before .before .before .before .before .before .before .states .ensures))
 
 mul-row-same : tie.Need-mul-row-same Inv-loop μ-loop
-mul-row-same c = omega (arith, prod-le (c .before .before .before .before .before .before .loop .q1) (c .before .before .before .before .before .before .before .before .before .before .states2 .result) 64 64 (omega arith) (omega arith))
+mul-row-same c = omega (arith, prod-le (c .before .before .before .before .before .loop .q1) (c .before .before .before .before .before .before .before .before .before .states2 .result) 64 64 (omega arith) (omega arith))
 
 row-same-requires : tie.Need-row-same-requires Inv-loop μ-loop
 row-same-requires c κs =
-    let b = c .before .before .before .before .before .before .before .before .before .before .before .before .before .before .before in
-    let r = row-at (b .args .m1 .now) (b .args .m2 .now) (b .args .s .now) (c .before .before .before .before .before .before .loop .q1) _ _ (b .pre .1) (omega (arith, c .before .before .before .before .before .before .before .before .before .before .before .states .ensures)) (c .before .before .before .before .before .before .before .before .before .before .states2 .ensures) refl in
+    let b = c .before .before .before .before .before .before .before .before .before .before .before .before .before .before in
+    let r = row-at (b .args .m1 .now) (b .args .m2 .now) (b .args .s .now) (c .before .before .before .before .before .loop .q1) _ _ (b .pre .1) (omega (arith, c .before .before .before .before .before .before .before .before .before .before .states .ensures)) (c .before .before .before .before .before .before .before .before .before .states2 .ensures) refl in
     (b .pre .0, r .few, omega (arith, r .within, b .pre .1 .held))
 
 returns : tie.Need-returns Inv-loop μ-loop
 unfolding simulationTest
 returns c =
-    let b = c .before .before .before .before .before .before .before .before .before .before .before .before .before .before .before .before .before in
+    let b = c .before .before .before .before .before .before .before .before .before .before .before .before .before .before .before .before in
     let a = b .args in
-    let q = c .before .before .before .before .before .before .before .before .loop .q1 in
-    let p = c .before .before .before .before .before .before .before .before .before .before .prepare .ensures in
-    let l : q < getD (a .m1 .now) 0 0 = omega (arith, c .before .before .before .before .before .before .before .before .before .before .before .before .before .states .ensures) in
-    let r = row-at (a .m1 .now) (a .m2 .now) (a .s .now) q _ _ (b .pre .1) l (c .before .before .before .before .before .before .before .before .before .before .before .before .states2 .ensures) refl in
-    let f = row-top (a .l .top .0) (c .before .before .before .before .before .before .before .before .before .code .ensures) (prepared-codes (a .w .now) _ (a .m1 .now) (a .m2 .now) (a .s .now) q p (c .before .before .before .before .row-from .ensures)) in
-    passed-stop (c .before .before .before .before .before .before .before .before .loop .inv .2) l (sym (row-same-in (b .pre .0) (b .pre .1) (p .table-is) q r (c .before .before .before .before .before .before .before .before .before .before .before .before .states2 .ensures) f) ∙ sym (c .before .row-same .ensures) ∙ not-true _ (c .if1 .taken))
+    let q = c .before .before .before .before .before .before .before .loop .q1 in
+    let p = c .before .before .before .before .before .before .before .before .before .prepare .ensures in
+    let l : q < getD (a .m1 .now) 0 0 = omega (arith, c .before .before .before .before .before .before .before .before .before .before .before .before .states .ensures) in
+    let r = row-at (a .m1 .now) (a .m2 .now) (a .s .now) q _ _ (b .pre .1) l (c .before .before .before .before .before .before .before .before .before .before .before .states2 .ensures) refl in
+    let f = row-top (a .l .top .0) (c .before .before .before .before .before .before .before .before .code .ensures) (prepared-codes (a .w .now) _ (a .m1 .now) (a .m2 .now) (a .s .now) q p (c .before .before .before .row-from .ensures)) in
+    passed-stop (c .before .before .before .before .before .before .before .loop .inv .1) l (sym (row-same-in (b .pre .0) (b .pre .1) (p .table-is) q r (c .before .before .before .before .before .before .before .before .before .before .before .states2 .ensures) f) ∙ sym (c .before .row-same .ensures) ∙ not-true _ (c .if1 .taken))
 
 loop-again : tie.Need-loop-again Inv-loop μ-loop
 loop-again c =
-    let b = c .before .before .before .before .before .before .before .before .before .before .before .before .before .before .before .before .before in
+    let b = c .before .before .before .before .before .before .before .before .before .before .before .before .before .before .before .before in
     let a = b .args in
-    let q = c .before .before .before .before .before .before .before .before .loop .q1 in
-    let p = c .before .before .before .before .before .before .before .before .before .before .prepare .ensures in
-    let l : q < getD (a .m1 .now) 0 0 = omega (arith, c .before .before .before .before .before .before .before .before .before .before .before .before .before .states .ensures) in
-    let r = row-at (a .m1 .now) (a .m2 .now) (a .s .now) q _ _ (b .pre .1) l (c .before .before .before .before .before .before .before .before .before .before .before .before .states2 .ensures) refl in
-    let f = row-top (a .l .top .0) (c .before .before .before .before .before .before .before .before .before .code .ensures) (prepared-codes (a .w .now) _ (a .m1 .now) (a .m2 .now) (a .s .now) q p (c .before .before .before .before .row-from .ensures)) in
-    (omega arith, search needs, passed-more (c .before .before .before .before .before .before .before .before .loop .inv .2) (sym (row-same-in (b .pre .0) (b .pre .1) (p .table-is) q r (c .before .before .before .before .before .before .before .before .before .before .before .before .states2 .ensures) f) ∙ sym (c .before .row-same .ensures) ∙ not-false _ (c .if1 .left)))
+    let q = c .before .before .before .before .before .before .before .loop .q1 in
+    let p = c .before .before .before .before .before .before .before .before .before .prepare .ensures in
+    let l : q < getD (a .m1 .now) 0 0 = omega (arith, c .before .before .before .before .before .before .before .before .before .before .before .before .states .ensures) in
+    let r = row-at (a .m1 .now) (a .m2 .now) (a .s .now) q _ _ (b .pre .1) l (c .before .before .before .before .before .before .before .before .before .before .before .states2 .ensures) refl in
+    let f = row-top (a .l .top .0) (c .before .before .before .before .before .before .before .before .code .ensures) (prepared-codes (a .w .now) _ (a .m1 .now) (a .m2 .now) (a .s .now) q p (c .before .before .before .row-from .ensures)) in
+    (omega arith, passed-more (c .before .before .before .before .before .before .before .loop .inv .1) (sym (row-same-in (b .pre .0) (b .pre .1) (p .table-is) q r (c .before .before .before .before .before .before .before .before .before .before .before .states2 .ensures) f) ∙ sym (c .before .row-same .ensures) ∙ not-false _ (c .if1 .left)))
 
 returns-2 : tie.Need-returns-2 Inv-loop μ-loop
 unfolding simulationTest
-returns-2 c = let e = c .before .before .before .before .before .before .states .ensures in passed-all (c .before .loop .inv .2) (omega arith) (omega arith)
+returns-2 c = let e = c .before .before .before .before .before .before .states .ensures in passed-all (c .before .loop .inv .1) (omega arith) (omega arith)
 
 pub is-simulation-spec : {M : Type 1} → statement M
 is-simulation-spec =
     tie.close (tie.spec Inv-loop μ-loop (λ c κs. search needs) (λ c κs. search needs) (λ c κs. search needs) (λ c κs. search needs) loop-holds
-    (λ c. search needs) (λ c. search needs) row-from-requires mul-row-same row-same-requires returns (λ c. search needs) (λ c. search needs) loop-again returns-2)
+    (λ c. search needs) row-from-requires mul-row-same row-same-requires returns (λ c. search needs) (λ c. search needs) loop-again returns-2)

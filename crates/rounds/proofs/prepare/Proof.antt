@@ -6,16 +6,16 @@ use native.Mathlib.Omega.{arith}
 use Rattle.rounds.proofs.prepare.Statement.{statement}
 use Rattle.rounds.proofs.prepare.Tie as tie
 
-encode-table-requires : tie.Need-encode-table-requires
-encode-table-requires c κs =
+encode-columns-requires : tie.Need-encode-columns-requires
+encode-columns-requires c κs =
     let b = c .before .before .before .before .before .before in
     (omega (arith, c .before .before .states .ensures, b .pre .first .states-most), omega (arith, c .before .states2 .ensures, b .pre .second .states-most), held-by (b .args .m1 .now) (b .args .m2 .now) (b .args .s .now) _ _ (b .pre) (c .before .before .states .ensures) (c .before .states2 .ensures), search needs)
 
 returns : tie.Need-returns
 returns c =
     let a = c .before .before .before .before .before .before .before .before .before .before .before .args in
-    prepared-is (a .w .now) (a .m1 .now) (a .m2 .now) (a .s .now) _ _ _ (c .before .before .before .before .encode-table .ensures) (c .all-joins .ensures) (c .before .before .before .before .before .before .before .states .ensures) (c .before .before .before .before .before .before .states2 .ensures)
+    prepared-is (a .w .now) (a .m1 .now) (a .m2 .now) (a .s .now) _ _ _ (c .before .before .before .before .encode-columns .ensures) (c .all-joins .ensures) (c .before .before .before .before .before .before .before .states .ensures) (c .before .before .before .before .before .before .states2 .ensures)
 
 pub prepare-spec : {M : Type 1} → statement M
 prepare-spec =
-    tie.close (tie.spec (λ c κs. search needs) (λ c κs. search needs) (λ c. search needs) encode-table-requires (λ c κs. search needs) returns)
+    tie.close (tie.spec (λ c κs. search needs) (λ c κs. search needs) (λ c. search needs) encode-columns-requires (λ c κs. search needs) returns)

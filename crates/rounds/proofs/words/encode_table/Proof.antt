@@ -4,7 +4,8 @@ use Prim.Native.Nat.{_+_, _*_, _≤_, _-_}
 use lib.ListN.{length, getD}
 use Rattle.elements.specs.Words.{codeIn}
 use Rattle.model.specs.Places.{row-le}
-use Rattle.rounds.specs.Codes.{tableCode, Rows, rows-none, rows-more, rows-all}
+use Rattle.rounds.specs.Rows.{Rows, rows-none, rows-more, rows-all}
+use Rattle.rounds.specs.Codes.{tableCode}
 use borrow.Author.Needs.{needs}
 use native.Mathlib.Omega.{arith}
 use Rattle.rounds.proofs.words.encode_table.Statement.{statement}

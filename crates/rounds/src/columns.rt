@@ -1,0 +1,117 @@
+// The codes of a whole round: the inner joins are worked once and serve all rows. Each is worked for a row of states at a time, and a
+// transition that is bottom is passed over: it adds nothing to a join, and takes nothing from a meet.
+use crate::words::TableCodes;
+use crate::words::propositions;
+use elements::Codes;
+use model::State;
+ghost use mathlib.Core.Path.{_≡_};
+ghost use Prim.Native.Nat.{ℕ, _+_, _*_, _≤_, _<_};
+ghost use lib.Bits.{bitAnd, bitOr};
+ghost use lib.ListN.{length, getD};
+ghost use Rattle.theory.specs.Lists.{Filled};
+ghost use Rattle.theory.specs.Part.{ModelShape};
+ghost use Rattle.rounds.specs.Rows.{Rows, Spread, Replaced};
+ghost use Rattle.rounds.specs.Codes.{ModelPair, tableCode, byColumn, innerCode, rowFrom, WithinTop};
+
+// Writes the first n words of `row` into a column of `out`, which has 64 words to a row.
+fn spread(row: &[u64; 64], n: usize, out: &mut [u64], column: usize)
+    requires { ⌜ (n ≤ 64) × (column < 64) × (length (now out) ≡ 4096) ⌝ }
+    ensures { λ _. ⌜ Spread (λ i. getD (now (row .entry)) i 0) n column (now (out .entry)) (now (out .exit)) ⌝ }
+{
+    for i in 0..n {
+        out[i * 64 + column] = row[i];
+    }
+}
+
+// The codes of a table of n1 by n2 entries, by columns: that of entry (q1, q2) stands at q2·64 + q1.
+pub(crate) fn encode_columns(w: &Codes, s: &[u8], n1: usize, n2: usize, out: &mut [u64])
+    requires { ⌜ (n1 ≤ 64) × (n2 ≤ 64) × (n1 * n2 ≤ length (now s)) × (length (now out) ≡ 4096) ⌝ }
+    ensures { λ _. ⌜ Rows (λ q₂ q₁. tableCode (now (w .entry)) (now (s .entry)) n2 q₁ q₂) n2 n1 (now (out .exit)) ⌝ }
+{
+    let mut row = [0u64; 64];
+    for q in 0..n1 {
+        elements::encode(w, s, q * n2, n2, &mut row, 0);
+        spread(&row, n2, out, q);
+    }
+}
+
+// ---- the inner joins
+
+// Joins to each of the first n words of `row` that of the table at its place from `at` on, met with c.
+fn join_with(row: &mut [u64], c: u64, table: &TableCodes, at: usize, n: usize)
+    requires { ⌜ (n ≤ 64) × (at + n ≤ 4096) × (length (now row) ≡ 64) ⌝ }
+    ensures { λ _. ⌜ Replaced (λ i x. bitOr x (bitAnd c (getD (now (table .entry)) (at + i) 0))) n (now (row .entry)) (now (row .exit)) ⌝ }
+{
+    if c == 0 {
+        return;
+    }
+    for i in 0..n {
+        row[i] = row[i] | (c & table[at + i]);
+    }
+}
+
+// The inner joins of q2, written into its column of `joins`: in row q1', the code of the join over q2' of R2(q2, q2') met with entry (q1', q2')
+// of the table.
+fn put_joins(w: &Codes, m2: &[u8], q2: State, table: &TableCodes, n1: usize, joins: &mut [u64])
+    requires { ⌜ ModelShape (now m2) × (q2 .0 < getD (now m2) 0 0) × (n1 ≤ 64) × (length (now joins) ≡ 4096) ⌝ }
+    ensures { λ _. ⌜ Spread (innerCode (now (w .entry)) (now (m2 .entry)) (byColumn (now (table .entry))) (q2 .0)) n1 (q2 .0)
+        (now (joins .entry)) (now (joins .exit)) ⌝ }
+{
+    let n2 = model::states(m2);
+    let mut row = [0u64; 64];
+    for r in 0..n2 {
+        let c = elements::code(w, model::transition(m2, q2, State(r as u8)));
+        join_with(&mut row, c, table, r * 64, n1);
+    }
+    spread(&row, n1, joins, elements::index(q2.0));
+}
+
+// The inner joins of every q2.
+pub(crate) fn all_joins(w: &Codes, m2: &[u8], table: &TableCodes, n1: usize, joins: &mut [u64])
+    requires { ⌜ ModelShape (now m2) × (n1 ≤ 64) × (length (now joins) ≡ 4096) ⌝ }
+    ensures { λ _. ⌜ Rows (λ q₁ q₂. innerCode (now (w .entry)) (now (m2 .entry)) (byColumn (now (table .entry))) q₂ q₁) n1
+        (getD (now (m2 .entry)) 0 0) (now (joins .exit)) ⌝ }
+{
+    let n2 = model::states(m2);
+    for q2 in 0..n2 {
+        put_joins(w, m2, State(q2 as u8), table, n1, joins);
+    }
+}
+
+// ---- rows
+
+// Meets each of the first n words of `row`, which are within `top`, with the join of c and that of the inner joins at its place from `at` on.
+fn meet_with(row: &mut [u64], top: u64, c: u64, joins: &TableCodes, at: usize, n: usize)
+    requires { ⌜ (n ≤ 64) × (at + n ≤ 4096) × (length (now row) ≡ 64) × WithinTop top n (now row) ⌝ }
+    ensures { λ _. ⌜ Replaced (λ i x. bitAnd x (bitOr c (getD (now (joins .entry)) (at + i) 0))) n (now (row .entry)) (now (row .exit)) ⌝ }
+{
+    if c == top {
+        return;
+    }
+    for i in 0..n {
+        row[i] = row[i] & (c | joins[at + i]);
+    }
+}
+
+// The codes of row q1 of F, from the inner joins of every q2: its propositions, then one q1' after another.
+pub(crate) fn row_from(
+    w: &Codes,
+    top: u64,
+    m1: &[u8],
+    m2: &[u8],
+    joins: &TableCodes,
+    q1: State,
+    out: &mut [u64; 64],
+)
+    requires { ⌜ ModelPair (now m1) (now m2) × (q1 .0 < getD (now m1) 0 0) ⌝ }
+    ensures { λ _. ⌜ Filled (rowFrom (now (w .entry)) top (now (m1 .entry)) (now (m2 .entry)) (now (joins .entry)) (q1 .0) (getD (now (m1 .entry)) 0 0))
+        (getD (now (m2 .entry)) 0 0) (now (out .exit)) ⌝ }
+{
+    let n1 = model::states(m1);
+    let n2 = model::states(m2);
+    propositions(w, top, m1, m2, q1, out);
+    for q in 0..n1 {
+        let c = elements::negated_code(w, model::transition(m1, q1, State(q as u8)));
+        meet_with(out, top, c, joins, q * 64, n2);
+    }
+}
