@@ -3,6 +3,7 @@
 --   code-of, negated-of, bottom-of: the codes of an element, of its complement, of the bottom; meet-of, join-of: & and | of two codes
 --   bigJoin-lt, bigMeet-lt: the results are elements
 --   fold-meets, fold-joins: a fold of codes is the code of the finite meet or join
+--   fold-within: what is met with a word stays within whatever the word is within; top-same: a word within the top's, met with what is above the top
 use Prim.Native.Nat.{ℕ, zero, suc, _+_, _%_, _≤_, _<_}
 use mathlib.Core.Path.{_≡_, refl, sym, ap, ap₂, _∙_}
 use mathlib.Core.List.{List}
@@ -14,6 +15,7 @@ use Rattle.theory.specs.Lattice.{bigMeet, bigJoin}
 use Rattle.theory.specs.Loop.{fold}
 use Rattle.elements.specs.declared.Lattice.{Lattice}
 use Rattle.elements.specs.Words.{codeIn, negatedCodeIn, decodeIn, opsIn, Coded}
+use Rattle.elements.specs.Laws.{Within, within-trans, and-left, or-left}
 use Rattle.elements.specs.Coded.{guess-is, meet-lt, join-lt, meet-code, join-code, complement-code}
 
 -- x is the code of e. A record, so that a goal shows w, x and e
@@ -66,3 +68,13 @@ module _ {w : List ℕ} {l : Lattice} (c : Coded w l) where
   unfolding fold bigJoin
   fold-joins zero f u h = bottom-of
   fold-joins (suc n) f u h = join-of {a = bigJoin (opsIn w l) n u} {b = u n} (fold-joins n f u (λ i m. h i (omega arith))) (h n (le-refl _))
+
+-- ---- words within another
+
+pub fold-within : {x top : ℕ} → Within x top → (f : ℕ → ℕ) (n : ℕ) → Within (fold bitAnd x f n) top
+unfolding fold
+fold-within h f zero = h
+fold-within {x} h f (suc n) = within-trans (and-left (fold bitAnd x f n) (f n)) (fold-within h f n)
+
+pub top-same : {x top : ℕ} → Within x top → (y : ℕ) → x ≡ bitAnd x (bitOr top y)
+top-same {top = top} h y = sym (within-trans h (or-left top y) .eq)

@@ -4,6 +4,7 @@ ghost use Prim.Native.Nat.{_+_, _<_, _≤_};
 ghost use lib.Dec.{ltb};
 ghost use lib.ListN.{length, getD};
 ghost use Rattle.theory.specs.Lists.{tab, written};
+ghost use Rattle.theory.specs.Simulation.{indicator};
 ghost use Rattle.theory.specs.Test.{allBelow};
 ghost use Rattle.elements.specs.Words.{codeIn, negatedCodeIn, valueCode, decodeIn, atMostIn, Coded};
 
@@ -25,6 +26,16 @@ pub fn index(x: u8) -> usize
     ensures { λ r. ⌜ (r ≡ x) × (r < 256) ⌝ }
 {
     x as usize
+}
+
+// 1 or 0, by a test.
+pub fn one_if(b: bool) -> usize
+    ensures { λ r. ⌜ r ≡ indicator b ⌝ }
+{
+    if b {
+        return 1;
+    }
+    0
 }
 
 // Each of `count` bytes from `from` on is below a limit: with n for the limit, each is an element.

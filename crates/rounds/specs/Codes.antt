@@ -1,11 +1,11 @@
 -- The codes that the loops of a row and a round compute, and that they are those of F's entries. w is a lattice's codes.
 -- Rests on Table, Rows, theory's Loop, Lists, Part and Simulation, elements' Words, Folds and Laws, model's Reading.
 --   ModelPair, model-pair: two model parts over the same propositions
---   tableCode, iffCode, propositionsCode, joinCode, meetCode, innerCode, successorCode, entryCode: the codes
+--   tableCode, tableIn, iffCode, propositionsCode, joinCode, innerCode, successorCode, entryCode: the codes
 --   byRow, byColumn: an entry of a table of words; rowFrom: an entry's code from inner joins that stand in such a table
 --   TableIn, EntryCodes, Prepared: a table's codes, a row's, and the inner joins of a table
 --   low-at: a word that was written from place 0 on
---   Left, left-is, inner-from, leftCode, met-is, left-code, row-from-code: the codes as the loops get them; WithinTop, row-within, top-same: they are within the top's
+--   joinedCode, joined-is, inner-from, row-from-code: the codes as the loops get them; WithinTop, row-within: they are within the top's
 --   scorePart, score-join, score-decoded: score
 --   entry-code: the code of an entry is that of F's entry; entry-decoded: so it is turned back into it
 use Prim.Native.Nat.{ℕ, zero, suc, _+_, _*_, _≤_, _<_}
@@ -27,9 +27,9 @@ use Rattle.theory.specs.Written.{written-before, slice-at}
 use Rattle.elements.specs.declared.Lattice.{Lattice}
 use Rattle.elements.specs.Words.{codeIn, negatedCodeIn, decodeIn, opsIn, Coded}
 use Rattle.elements.specs.Coded.{meet-lt}
-use Rattle.elements.specs.Folds.{CodeOf, decode-in, code-of, negated-of, meet-of, join-of, bigMeet-lt, fold-meets, fold-joins}
+use Rattle.elements.specs.Folds.{CodeOf, decode-in, code-of, negated-of, meet-of, join-of, bigMeet-lt, fold-meets, fold-joins, fold-within}
 use Rattle.model.specs.Reading.{leavingCode}
-use Rattle.elements.specs.Laws.{Within, within-refl, within-trans, and-left, or-left, and-assoc}
+use Rattle.elements.specs.Laws.{Within, within-refl, and-assoc}
 use Rattle.rounds.specs.Table.{tableOf, Shaped, entryIn, scoreIn}
 use Rattle.rounds.specs.Rows.{Rows, Folds}
 
@@ -48,13 +48,13 @@ model-pair h = record { first = h .first; second = h .second; same-propositions 
 abbrev pub tableCode : List ℕ → List ℕ → ℕ → ℕ → ℕ → ℕ
 tableCode w s n₂ q r = codeIn w (tableOf s n₂ q r)
 
--- the join of the first n words of `row`, each met with that at its place from `at` on
-abbrev pub joinCode : List ℕ → List ℕ → ℕ → ℕ → ℕ
-joinCode row table at n = fold bitOr 0 (λ i. bitAnd (getD row i 0) (getD table (at + i) 0)) n
+-- that of an entry, with the N2 of the part m₂
+abbrev pub tableIn : List ℕ → List ℕ → List ℕ → ℕ → ℕ → ℕ
+tableIn w m₂ s = tableCode w s (getD m₂ 0 0)
 
--- the meet of the first n words of `left`, each joined with that at its place from `at` on
-abbrev pub meetCode : ℕ → List ℕ → List ℕ → ℕ → ℕ → ℕ
-meetCode top left joins at n = fold bitAnd top (λ i. bitOr (getD left i 0) (getD joins (at + i) 0)) n
+-- the join of the first n words of two lists, each met with that at its place in the other
+abbrev pub joinCode : List ℕ → List ℕ → ℕ → ℕ
+joinCode row entries n = fold bitOr 0 (λ i. bitAnd (getD row i 0) (getD entries i 0)) n
 
 -- a ↔ b
 abbrev pub iffCode : List ℕ → ℕ → ℕ → ℕ
@@ -83,9 +83,9 @@ successorCode w top m₁ m₂ S q₁ q₂ = fold bitAnd top (λ i. bitOr (leavin
 abbrev pub entryCode : List ℕ → ℕ → List ℕ → List ℕ → (ℕ → ℕ → ℕ) → ℕ → ℕ → ℕ
 entryCode w top m₁ m₂ S q₁ q₂ = bitAnd (propositionsCode w top m₁ m₂ q₁ q₂) (successorCode w top m₁ m₂ S q₁ q₂)
 
--- the same from the inner joins of all q₂, which are met with the propositions one q1' after another, the first n of them
-abbrev pub rowFrom : List ℕ → ℕ → List ℕ → List ℕ → List ℕ → ℕ → ℕ → ℕ → ℕ
-rowFrom w top m₁ m₂ joins q₁ n q₂ = fold bitAnd (propositionsCode w top m₁ m₂ q₁ q₂) (λ i. bitOr (leavingCode true w m₁ q₁ i) (byRow joins i q₂)) n
+-- the same from inner joins J, which are met with the propositions one q1' after another
+abbrev pub rowFrom : List ℕ → ℕ → List ℕ → List ℕ → (ℕ → ℕ → ℕ) → ℕ → ℕ → ℕ
+rowFrom w top m₁ m₂ J q₁ q₂ = fold bitAnd (propositionsCode w top m₁ m₂ q₁ q₂) (λ i. bitOr (leavingCode true w m₁ q₁ i) (J i q₂)) (getD m₁ 0 0)
 
 -- the initial value of a state
 abbrev pub initialCode : List ℕ → List ℕ → ℕ → ℕ
@@ -100,7 +100,7 @@ scorePart w m₁ m₂ s q₁ =
 
 -- S has the codes of the table s
 pub record TableIn (w m₁ m₂ s : List ℕ) (S : ℕ → ℕ → ℕ) : Type 0 where
-  pub at : (q r : ℕ) → q < getD m₁ 0 0 → r < getD m₂ 0 0 → S q r ≡ tableCode w s (getD m₂ 0 0) q r
+  pub at : (q r : ℕ) → q < getD m₁ 0 0 → r < getD m₂ 0 0 → S q r ≡ tableIn w m₂ s q r
 
 -- the codes of row q₁ of F of the table of codes S, as the loops get it; a record, so that a goal shows its arguments
 pub record EntryCodes (w : List ℕ) (top : ℕ) (m₁ m₂ : List ℕ) (S : ℕ → ℕ → ℕ) (q₁ : ℕ) (codes : List ℕ) : Type 0 where
@@ -120,41 +120,23 @@ low-at f n before {out} e fits i l =
     let z : 0 + i ≡ i = omega arith in
     ap (λ (j : ℕ). getD out j 0) (sym z) ∙ slice-at 0 f n before e (omega arith) i l
 
--- the codes of the complements of the transitions that leave q₁
-pub record Left (w m₁ : List ℕ) (q₁ : ℕ) (left : List ℕ) : Type 0 where
-  pub at : (i : ℕ) → i < getD m₁ 0 0 → getD left i 0 ≡ leavingCode true w m₁ q₁ i
+-- the inner join of q₂ and a row of entries that are given as words
+abbrev pub joinedCode : List ℕ → List ℕ → List ℕ → ℕ → ℕ
+joinedCode w m₂ entries q₂ = fold bitOr 0 (λ i. bitAnd (leavingCode false w m₂ q₂ i) (getD entries i 0)) (getD m₂ 0 0)
 
-pub left-is : (w m₁ : List ℕ) (q₁ : ℕ) (before : List ℕ) {left : List ℕ} → left ≡ written 0 (tab (leavingCode true w m₁ q₁) (getD m₁ 0 0) 0) before → getD m₁ 0 0 ≤ length before → Left w m₁ q₁ left
-left-is w m₁ q₁ before e fits = record { at = low-at (leavingCode true w m₁ q₁) (getD m₁ 0 0) before e fits }
+-- from the codes of the transitions that leave q₂
+pub joined-is : (w m₂ entries : List ℕ) (q₂ n : ℕ) (before : List ℕ) {row : List ℕ} → row ≡ written 0 (tab (leavingCode false w m₂ q₂) (getD m₂ 0 0) 0) before → getD m₂ 0 0 ≤ length before → n ≡ getD m₂ 0 0 → joinCode row entries n ≡ joinedCode w m₂ entries q₂
+joined-is w m₂ entries q₂ n before {row} e fits same =
+    ap (joinCode row entries) same
+    ∙ fold-cong bitOr 0 _ _ (getD m₂ 0 0) (λ i k. ap (λ (x : ℕ). bitAnd x (getD entries i 0)) (low-at _ _ before e fits i k))
 
--- the inner joins of q₂, from the codes of the transitions that leave it
-pub inner-from : (w m₂ table : List ℕ) (q₂ n : ℕ) (before : List ℕ) {row : List ℕ} → row ≡ written 0 (tab (leavingCode false w m₂ q₂) (getD m₂ 0 0) 0) before → getD m₂ 0 0 ≤ length before → n ≡ getD m₂ 0 0 → (λ (q : ℕ). joinCode row table (q * 64) n) ≡ innerCode w m₂ (byRow table) q₂
-inner-from w m₂ table q₂ n before {row} e fits s = λ i q. at q i
-  where
-    at : (q : ℕ) → joinCode row table (q * 64) n ≡ innerCode w m₂ (byRow table) q₂ q
-    at q = rw s (fold-cong bitOr 0 _ _ (getD m₂ 0 0) (λ i k. ap (λ (x : ℕ). bitAnd x (getD table (q * 64 + i) 0)) (low-at _ _ before e fits i k)))
-
--- what the successors give to an entry, from words for the complements of the transitions that leave q₁
-abbrev pub leftCode : List ℕ → ℕ → List ℕ → (ℕ → ℕ → ℕ) → List ℕ → ℕ → ℕ → ℕ
-leftCode w top m₂ S left n₁ q₂ = fold bitAnd top (λ i. bitOr (getD left i 0) (innerCode w m₂ S q₂ i)) n₁
-
--- that is the meet over the inner joins of q₂ that were written
-pub met-is : (w : List ℕ) (top : ℕ) (m₂ : List ℕ) (S : ℕ → ℕ → ℕ) (left : List ℕ) (n₁ q₂ : ℕ) (prior : List ℕ) {joins : List ℕ} → joins ≡ written 0 (tab (innerCode w m₂ S q₂) n₁ 0) prior → n₁ ≤ length prior → meetCode top left joins 0 n₁ ≡ leftCode w top m₂ S left n₁ q₂
-met-is w top m₂ S left n₁ q₂ prior f room =
-    fold-cong bitAnd top _ _ n₁ (λ i k. ap (bitOr (getD left i 0)) (slice-at 0 (innerCode w m₂ S q₂) n₁ prior f (omega arith) i k))
-
-pub left-code : (w : List ℕ) (top : ℕ) (m₁ m₂ : List ℕ) (S : ℕ → ℕ → ℕ) (q₁ n₁ q₂ : ℕ) {left : List ℕ} → Left w m₁ q₁ left → n₁ ≡ getD m₁ 0 0 → leftCode w top m₂ S left n₁ q₂ ≡ successorCode w top m₁ m₂ S q₁ q₂
-left-code w top m₁ m₂ S q₁ n₁ q₂ {left} e s =
-    ap (λ (n : ℕ). leftCode w top m₂ S left n q₂) s
-    ∙ fold-cong bitAnd top _ _ (getD m₁ 0 0) (λ i k. ap (λ (x : ℕ). bitOr x (innerCode w m₂ S q₂ i)) (e .at i k))
+-- where the entries are those of row q of the table s
+pub inner-from : (w m₂ s : List ℕ) (q₂ q n a : ℕ) (before : List ℕ) {entries : List ℕ} → entries ≡ written 0 (tab (λ i. codeIn w (getD s (a * n + i) 0)) n 0) before → n ≤ length before → n ≡ getD m₂ 0 0 → a ≡ q → joinedCode w m₂ entries q₂ ≡ innerCode w m₂ (tableIn w m₂ s) q₂ q
+inner-from w m₂ s q₂ q n a before f room same z =
+    fold-cong bitOr 0 _ _ (getD m₂ 0 0)
+    (λ i k. ap (bitAnd (leavingCode false w m₂ q₂ i)) (low-at (λ i. codeIn w (getD s (a * n + i) 0)) n before f room i (omega (arith, same)) ∙ ap₂ (λ (x y : ℕ). codeIn w (getD s (x * y + i) 0)) z same))
 
 -- ---- an entry that starts at its propositions
-
--- what is met with a word stays within whatever the word is within
-fold-within : {x top : ℕ} → Within x top → (f : ℕ → ℕ) (n : ℕ) → Within (fold bitAnd x f n) top
-unfolding fold
-fold-within h f zero = h
-fold-within {x} h f (suc n) = within-trans (and-left (fold bitAnd x f n) (f n)) (fold-within h f n)
 
 fold-from : {x top : ℕ} → Within x top → (f : ℕ → ℕ) (n : ℕ) → fold bitAnd x f n ≡ bitAnd x (fold bitAnd top f n)
 unfolding fold
@@ -171,15 +153,11 @@ propositions-within w top m₁ m₂ q₁ q₂ = fold-within (within-refl top) _ 
 pub row-within : (w : List ℕ) (top : ℕ) (m₁ m₂ : List ℕ) (q₁ k n : ℕ) {f : ℕ → ℕ → ℕ} {row : List ℕ} → Folds bitAnd (propositionsCode w top m₁ m₂ q₁) f k n row → WithinTop top n row
 row-within w top m₁ m₂ q₁ k n h = record { at = λ i l. rw (h .at i l) (fold-within (propositions-within w top m₁ m₂ q₁ i) _ k) }
 
--- a word within the top's is not changed by what is at or above the top
-pub top-same : {x top : ℕ} → Within x top → (y : ℕ) → x ≡ bitAnd x (bitOr top y)
-top-same {top = top} h y = sym (within-trans h (or-left top y) .eq)
-
-pub row-from-code : (w : List ℕ) (top : ℕ) (m₁ m₂ : List ℕ) (S : ℕ → ℕ → ℕ) (q₁ q₂ : ℕ) {joins : List ℕ} → Rows (λ q₁ q₂. innerCode w m₂ S q₂ q₁) (getD m₁ 0 0) (getD m₂ 0 0) joins → q₂ < getD m₂ 0 0 → rowFrom w top m₁ m₂ joins q₁ (getD m₁ 0 0) q₂ ≡ entryCode w top m₁ m₂ S q₁ q₂
-row-from-code w top m₁ m₂ S q₁ q₂ r l =
+pub row-from-code : (w : List ℕ) (top : ℕ) (m₁ m₂ : List ℕ) (S J : ℕ → ℕ → ℕ) (q₁ q₂ : ℕ) → ((i : ℕ) → i < getD m₁ 0 0 → J i q₂ ≡ innerCode w m₂ S q₂ i) → rowFrom w top m₁ m₂ J q₁ q₂ ≡ entryCode w top m₁ m₂ S q₁ q₂
+row-from-code w top m₁ m₂ S J q₁ q₂ h =
     fold-from (propositions-within w top m₁ m₂ q₁ q₂) _ (getD m₁ 0 0)
     ∙ ap (bitAnd (propositionsCode w top m₁ m₂ q₁ q₂))
-    (fold-cong bitAnd top _ _ (getD m₁ 0 0) (λ i k. ap (bitOr (leavingCode true w m₁ q₁ i)) (r .at i q₂ k l)))
+    (fold-cong bitAnd top _ _ (getD m₁ 0 0) (λ i k. ap (bitOr (leavingCode true w m₁ q₁ i)) (h i k)))
 
 -- ---- they are the codes of F's entries
 
@@ -217,11 +195,11 @@ module _ {w : List ℕ} {l : Lattice} (c : Coded w l) {m₁ m₂ s : List ℕ} {
 -- ---- score
 
 -- the join of one turn, from the codes of the initial values and those of a row of entries
-pub score-join : (w m₂ s : List ℕ) (q n₂ : ℕ) (before : List ℕ) {right entries : List ℕ} → Filled (initialCode w m₂) (getD m₂ 0 0) right → entries ≡ written 0 (tab (λ i. codeIn w (getD s (q * n₂ + i) 0)) n₂ 0) before → n₂ ≤ length before → n₂ ≡ getD m₂ 0 0 → joinCode right entries 0 n₂ ≡ fold bitOr 0 (λ i. bitAnd (initialCode w m₂ i) (tableCode w s (getD m₂ 0 0) q i)) (getD m₂ 0 0)
+pub score-join : (w m₂ s : List ℕ) (q n₂ : ℕ) (before : List ℕ) {right entries : List ℕ} → Filled (initialCode w m₂) (getD m₂ 0 0) right → entries ≡ written 0 (tab (λ i. codeIn w (getD s (q * n₂ + i) 0)) n₂ 0) before → n₂ ≤ length before → n₂ ≡ getD m₂ 0 0 → joinCode right entries n₂ ≡ fold bitOr 0 (λ i. bitAnd (initialCode w m₂ i) (tableCode w s (getD m₂ 0 0) q i)) (getD m₂ 0 0)
 score-join w m₂ s q n₂ before f e fits g =
     rw (← g)
     (fold-cong bitOr 0 _ _ n₂
-    (λ i k. ap₂ bitAnd (f .at i (omega (arith, g))) (slice-at 0 (λ i. codeIn w (getD s (q * n₂ + i) 0)) n₂ before e (omega arith) i k)))
+    (λ i k. ap₂ bitAnd (f .at i (omega (arith, g))) (low-at (λ i. codeIn w (getD s (q * n₂ + i) 0)) n₂ before e fits i k)))
 
 module _ {w : List ℕ} {l : Lattice} (c : Coded w l) (m₁ m₂ s : List ℕ) where
   pub score-decoded : decodeIn w (fold bitAnd (codeIn w (l .top .0)) (scorePart w m₁ m₂ s) (getD m₁ 0 0)) ≡ scoreIn w l m₁ m₂ s

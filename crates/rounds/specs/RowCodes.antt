@@ -1,5 +1,5 @@
 -- A row of F from the codes of its entries. Rests on Table, Row and Codes.
---   tab-cong: a list by its rule; table-rows, row-top: what the code found, by the models' sizes and the lattice's top; prepared-is, prepared-codes: a row's codes from the inner joins of all q2
+--   tab-cong: a list by its rule; table-itself, row-top: what the code found, by the models' sizes and the lattice's top; prepared-is, prepared-codes: a row's codes from the inner joins of all q2
 --   row-in: the row that is written, and whether it differs; row-same-in: whether it is the same
 use Prim.Native.Nat.{ℕ, _+_, _*_, _≤_, _<_}
 use mathlib.Core.Path.{_≡_, refl, sym, ap, _∙_}
@@ -19,14 +19,14 @@ use Rattle.elements.specs.Words.{codeIn, decodeIn, Coded}
 use Rattle.rounds.specs.Table.{tableOf, Shaped, rowSame, entryIn, RowIn, rowSameIn}
 use Rattle.rounds.specs.Row.{RowAt, RowSoFar, RowOut, rowSameAs, row-written}
 use Rattle.rounds.specs.Rows.{Rows}
-use Rattle.rounds.specs.Codes.{tableCode, byRow, byColumn, innerCode, entryCode, rowFrom, TableIn, EntryCodes, Prepared, row-from-code, entry-decoded}
+use Rattle.rounds.specs.Codes.{tableCode, tableIn, byRow, byColumn, innerCode, entryCode, rowFrom, TableIn, EntryCodes, Prepared, row-from-code, entry-decoded}
 
 tab-cong : (f g : ℕ → ℕ) (n : ℕ) → ((i : ℕ) → i < n → f i ≡ g i) → tab f n 0 ≡ tab g n 0
 tab-cong f g n h = sym (filled-all {f = f} (record { at = λ i l. tab-at g n i l ∙ sym (h i l) }) (tab-length g n 0) (le-refl n))
 
--- the codes of a table by rows, by the models' sizes
-pub table-rows : (w m₁ m₂ s : List ℕ) (n₁ n₂ : ℕ) {table : List ℕ} → Rows (tableCode w s n₂) n₁ n₂ table → n₁ ≡ getD m₁ 0 0 → n₂ ≡ getD m₂ 0 0 → TableIn w m₁ m₂ s (byRow table)
-table-rows w m₁ m₂ s n₁ n₂ t e₁ e₂ = record { at = λ q r l m. rw (← e₂) (t .at q r (omega (arith, e₁)) (omega (arith, e₂))) }
+-- the table itself
+pub table-itself : {w m₁ m₂ s : List ℕ} → TableIn w m₁ m₂ s (tableIn w m₂ s)
+table-itself = record { at = λ q r l m. refl }
 
 -- the codes of a row, by the code of the top
 pub row-top : {w m₁ m₂ codes : List ℕ} {S : ℕ → ℕ → ℕ} {q₁ top : ℕ} (e : ℕ) → top ≡ codeIn w e → EntryCodes w top m₁ m₂ S q₁ codes → EntryCodes w (codeIn w e) m₁ m₂ S q₁ codes
@@ -41,8 +41,8 @@ prepared-is w m₁ m₂ s n₁ n₂ table t j e₁ e₂ =
       joins-are = rw e₁ at j;
     }
 
-pub prepared-codes : (w : List ℕ) (top : ℕ) (m₁ m₂ s : List ℕ) (q₁ : ℕ) {joins codes : List ℕ} (p : Prepared w m₁ m₂ s joins) → Filled (rowFrom w top m₁ m₂ joins q₁ (getD m₁ 0 0)) (getD m₂ 0 0) codes → EntryCodes w top m₁ m₂ (byColumn (p .table)) q₁ codes
-prepared-codes w top m₁ m₂ s q₁ p f = record { filled = filled-as f (le-refl _) (λ q₂ l. row-from-code w top m₁ m₂ (byColumn (p .table)) q₁ q₂ (p .joins-are) l) }
+pub prepared-codes : (w : List ℕ) (top : ℕ) (m₁ m₂ s : List ℕ) (q₁ : ℕ) {joins codes : List ℕ} (p : Prepared w m₁ m₂ s joins) → Filled (rowFrom w top m₁ m₂ (byRow joins) q₁) (getD m₂ 0 0) codes → EntryCodes w top m₁ m₂ (byColumn (p .table)) q₁ codes
+prepared-codes w top m₁ m₂ s q₁ {joins} p f = record { filled = filled-as f (le-refl _) (λ q₂ l. row-from-code w top m₁ m₂ (byColumn (p .table)) (byRow joins) q₁ q₂ (λ i k. p .joins-are .at i q₂ k l)) }
 
 module _ {w : List ℕ} {l : Lattice} (c : Coded w l) {m₁ m₂ s codes : List ℕ} {S : ℕ → ℕ → ℕ} (h : Shaped m₁ m₂ s) (t : TableIn w m₁ m₂ s S)
     (q₁ : ℕ) {n₂ at : ℕ} (a : RowAt m₁ m₂ q₁ n₂ at) (e : n₂ ≡ getD m₂ 0 0) (f : EntryCodes w (codeIn w (l .top .0)) m₁ m₂ S q₁ codes) where

@@ -1,6 +1,5 @@
 // The codes of a whole round: the inner joins are worked once and serve all rows. Each is worked for a row of states at a time, and a
 // transition that is bottom is passed over: it adds nothing to a join, and takes nothing from a meet.
-use crate::words::TableCodes;
 use crate::words::propositions;
 use elements::Codes;
 use model::State;
@@ -11,7 +10,10 @@ ghost use lib.ListN.{length, getD};
 ghost use Rattle.theory.specs.Lists.{Filled};
 ghost use Rattle.theory.specs.Part.{ModelShape};
 ghost use Rattle.rounds.specs.Rows.{Rows, Spread, Replaced};
-ghost use Rattle.rounds.specs.Codes.{ModelPair, tableCode, byColumn, innerCode, rowFrom, WithinTop};
+ghost use Rattle.rounds.specs.Codes.{ModelPair, tableCode, byRow, byColumn, innerCode, rowFrom, WithinTop};
+
+// The codes of a table, or of the inner joins of one, 64 to a row.
+pub(crate) type TableCodes = [u64; 4096];
 
 // Writes the first n words of `row` into a column of `out`, which has 64 words to a row.
 fn spread(row: &[u64; 64], n: usize, out: &mut [u64], column: usize)
@@ -104,7 +106,7 @@ pub(crate) fn row_from(
     out: &mut [u64; 64],
 )
     requires { ⌜ ModelPair (now m1) (now m2) × (q1 .0 < getD (now m1) 0 0) ⌝ }
-    ensures { λ _. ⌜ Filled (rowFrom (now (w .entry)) top (now (m1 .entry)) (now (m2 .entry)) (now (joins .entry)) (q1 .0) (getD (now (m1 .entry)) 0 0))
+    ensures { λ _. ⌜ Filled (rowFrom (now (w .entry)) top (now (m1 .entry)) (now (m2 .entry)) (byRow (now (joins .entry))) (q1 .0))
         (getD (now (m2 .entry)) 0 0) (now (out .exit)) ⌝ }
 {
     let n1 = model::states(m1);

@@ -5,6 +5,7 @@
 mod columns;
 mod words;
 
+use columns::TableCodes;
 use columns::all_joins;
 use columns::encode_columns;
 use columns::row_from;
@@ -12,14 +13,11 @@ use elements::Codes;
 use elements::Element;
 use elements::Lattice;
 use model::State;
-use words::TableCodes;
-use words::encode_table;
 use words::joined;
 use words::row_codes;
 ghost use mathlib.Core.Path.{_≡_};
 ghost use Prim.Native.Nat.{_+_, _*_, _≤_, _<_};
 ghost use lib.ListN.{length, getD};
-ghost use Rattle.theory.specs.Simulation.{indicator};
 ghost use Rattle.theory.specs.Lists.{Filled};
 ghost use Rattle.theory.specs.Loop.{Counted};
 ghost use Rattle.theory.specs.Part.{ModelShape};
@@ -60,10 +58,8 @@ pub fn row(w: &Codes, l: Lattice, m1: &[u8], m2: &[u8], s: &[u8], out: &mut [u8]
     ensures { λ r. ⌜ RowIn (now (w .entry)) l (now (m1 .entry)) (now (m2 .entry)) (now (s .entry)) (q1 .0) (now (out .entry)) (now (out .exit)) r ⌝ }
 {
     let n2 = model::states(m2);
-    let mut table = [0u64; 4096];
-    encode_table(w, s, model::states(m1), n2, &mut table);
     let mut codes = [0u64; 64];
-    row_codes(w, elements::code(w, l.top), m1, m2, &table, q1, &mut codes);
+    row_codes(w, elements::code(w, l.top), m1, m2, s, q1, &mut codes);
     write_row(w, l, &codes, s, out, elements::index(q1.0) * n2, n2)
 }
 
@@ -162,7 +158,7 @@ pub fn score(w: &Codes, l: Lattice, m1: &[u8], m2: &[u8], s: &[u8]) -> Element
     let mut x = elements::code(w, l.top);
     for q in 0..n1 {
         elements::encode(w, s, q * n2, n2, &mut entries, 0);
-        let y = joined(&right, &entries, 0, n2);
+        let y = joined(&right, &entries, n2);
         let z = elements::negated_code(w, model::initial(m1, State(q as u8)));
         x = x & (z | y);
     }
@@ -171,15 +167,6 @@ pub fn score(w: &Codes, l: Lattice, m1: &[u8], m2: &[u8], s: &[u8]) -> Element
 
 // ---- share
 
-fn one_if(b: bool) -> usize
-    ensures { λ r. ⌜ r ≡ indicator b ⌝ }
-{
-    if b {
-        return 1;
-    }
-    0
-}
-
 // How many of the first n entries of s are at or above e.
 fn count_from(w: &Codes, e: Element, s: &[u8], n: usize) -> usize
     requires { ⌜ n ≤ length (now s) ⌝ }
@@ -187,7 +174,7 @@ fn count_from(w: &Codes, e: Element, s: &[u8], n: usize) -> usize
 {
     let mut c: usize = 0;
     for i in 0..n {
-        c += one_if(elements::at_most(w, e, Element(s[i])));
+        c += elements::one_if(elements::at_most(w, e, Element(s[i])));
     }
     c
 }

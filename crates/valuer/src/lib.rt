@@ -9,9 +9,11 @@ use formula_tokens::Token;
 use formula_tokens::size;
 use formula_tokens::token_at;
 use model::State;
+use valuer_maps::Successors;
 use valuer_maps::all_step;
 use valuer_maps::combined;
 use valuer_maps::constant;
+use valuer_maps::list;
 use valuer_maps::literals;
 use valuer_maps::next_values;
 use valuer_maps::same;
@@ -21,6 +23,7 @@ ghost use mathlib.Core.Path.{_≡_};
 ghost use Prim.Native.Nat.{_<_};
 ghost use lib.ListN.{getD};
 ghost use Rattle.theory.specs.Part.{ModelShape};
+ghost use Rattle.valuer_maps.specs.Successors.{ListsOf};
 ghost use Rattle.valuer.specs.Values.{ModelOver, Reads, ValueAt, WholeValue};
 ghost use Rattle.valuer.specs.Node.{SomeFormulaAt, roundLimit, Node, Both, Iterated, CodedValues, initialCode};
 
@@ -38,20 +41,21 @@ fn round_limit(l: Lattice, m: &[u8]) -> usize
 }
 
 // The formula at place `at`, where near, mid and far are the maps of the variables, the nearest binder's first. Its values are written into
-// out; the answer is the place after it. `spare` is room for a map, lent since an array here would be one more for each level of nesting.
+// out; the answer is the place after it. s has the successors of each state. `spare` is room for a map, lent since an array here would be one more for each level of nesting.
 fn value_node(
     w: &Codes,
     l: Lattice,
     m: &[u8],
     f: &[u8],
     at: usize,
+    s: &Successors,
     near: &[u64; 64],
     mid: &[u64; 64],
     far: &[u64; 64],
     spare: &mut [u64; 64],
     out: &mut [u64; 64],
 ) -> usize
-    requires { ⌜ ModelOver (now w) l (now m) × SomeFormulaAt (now f) at (getD (now m) 1 0) ⌝ }
+    requires { ⌜ ModelOver (now w) l (now m) × SomeFormulaAt (now f) at (getD (now m) 1 0) × ListsOf (now w) l (now m) (now s) ⌝ }
     ensures { λ r. ⌜ Node (now (w .entry)) l (now (m .entry)) (now (f .entry)) at
         (now (near .entry)) (now (mid .entry)) (now (far .entry)) (now (out .exit)) r ⌝ }
 {
@@ -63,18 +67,18 @@ fn value_node(
         Token::Literal { p, negated } => literals(w, m, negated, p, here, out),
         Token::Variable(v) => variable(near, mid, far, v, here, out),
         Token::Two { or } => {
-            let after = value_node(w, l, m, f, here, near, mid, far, spare, out);
-            second(w, l, m, f, after, or, near, mid, far, spare, out)
+            let after = value_node(w, l, m, f, here, s, near, mid, far, spare, out);
+            second(w, l, m, f, after, s, or, near, mid, far, spare, out)
         }
         Token::Next { all } => {
-            let next = value_node(w, l, m, f, here, near, mid, far, spare, out);
+            let next = value_node(w, l, m, f, here, s, near, mid, far, spare, out);
             *spare = *out;
-            next_values(w, l, m, all, spare, out);
+            next_values(w, l, m, s, all, spare, out);
             next
         }
         Token::Fixpoint { least } => {
             let start = start_of(w, l, least);
-            iterate(w, l, m, f, here, near, mid, start, spare, out)
+            iterate(w, l, m, f, here, s, near, mid, start, spare, out)
         }
         Token::End => here,
         Token::Broken => here,
@@ -90,6 +94,7 @@ fn second(
     m: &[u8],
     f: &[u8],
     at: usize,
+    s: &Successors,
     or: bool,
     near: &[u64; 64],
     mid: &[u64; 64],
@@ -97,12 +102,12 @@ fn second(
     spare: &mut [u64; 64],
     out: &mut [u64; 64],
 ) -> usize
-    requires { ⌜ ModelOver (now w) l (now m) × SomeFormulaAt (now f) at (getD (now m) 1 0) ⌝ }
+    requires { ⌜ ModelOver (now w) l (now m) × SomeFormulaAt (now f) at (getD (now m) 1 0) × ListsOf (now w) l (now m) (now s) ⌝ }
     ensures { λ r. ⌜ Both (now (w .entry)) l (now (m .entry)) (now (f .entry)) at or
         (now (near .entry)) (now (mid .entry)) (now (far .entry)) (now (out .entry)) (now (out .exit)) r ⌝ }
 {
     let mut y = [0u64; 64];
-    let next = value_node(w, l, m, f, at, near, mid, far, spare, &mut y);
+    let next = value_node(w, l, m, f, at, s, near, mid, far, spare, &mut y);
     *spare = *out;
     combined(or, model::states(m), spare, &y, out);
     next
@@ -115,13 +120,14 @@ fn iterate(
     m: &[u8],
     f: &[u8],
     body: usize,
+    s: &Successors,
     near: &[u64; 64],
     mid: &[u64; 64],
     start: u64,
     spare: &mut [u64; 64],
     out: &mut [u64; 64],
 ) -> usize
-    requires { ⌜ ModelOver (now w) l (now m) × SomeFormulaAt (now f) body (getD (now m) 1 0) ⌝ }
+    requires { ⌜ ModelOver (now w) l (now m) × SomeFormulaAt (now f) body (getD (now m) 1 0) × ListsOf (now w) l (now m) (now s) ⌝ }
     ensures { λ r. ⌜ Iterated (now (w .entry)) l (now (m .entry)) (now (f .entry)) body
         (now (near .entry)) (now (mid .entry)) start (now (out .exit)) r ⌝ }
 {
@@ -129,7 +135,7 @@ fn iterate(
     let mut current = [start; 64];
     let mut left = round_limit(l, m);
     loop {
-        let next = value_node(w, l, m, f, body, &current, near, mid, spare, out);
+        let next = value_node(w, l, m, f, body, s, &current, near, mid, spare, out);
         if left == 0 {
             *out = current;
             return next;
@@ -147,10 +153,12 @@ fn valued(w: &Codes, l: Lattice, m: &[u8], f: &[u8]) -> [u64; 64]
     requires { ⌜ ModelOver (now w) l (now m) × Reads (now m) (now f) ⌝ }
     ensures { λ r. ⌜ CodedValues (now (w .entry)) l (now (m .entry)) (now (f .entry)) r ⌝ }
 {
+    let mut s = [0u8; 4160];
+    list(w, l, m, &mut s);
     let none = [0u64; 64];
     let mut spare = [0u64; 64];
     let mut out = [0u64; 64];
-    let _ = value_node(w, l, m, f, 0, &none, &none, &none, &mut spare, &mut out);
+    let _ = value_node(w, l, m, f, 0, &s, &none, &none, &none, &mut spare, &mut out);
     out
 }
 

@@ -1,10 +1,15 @@
 // The maps of single nodes of a formula. A map from states to elements is 64 words, of which the first N count: the codes of its values
 // (elements). w and l are a lattice's codes and numbers, m is a model part (model). A map is written into the lent array `out`.
+//   successors: the states that AX and EX look at
+mod successors;
+
 use elements::Codes;
 use elements::Element;
 use elements::Lattice;
 use model::Proposition;
 use model::State;
+pub use successors::Successors;
+pub use successors::list;
 ghost use mathlib.Core.Path.{_≡_};
 ghost use Prim.Native.Nat.{_≤_, _<_};
 ghost use lib.Bits.{bitAnd, bitOr};
@@ -13,6 +18,7 @@ ghost use lib.ListN.{length, getD, replicate};
 ghost use Rattle.theory.specs.Part.{ModelShape};
 ghost use Rattle.theory.specs.Test.{allBelow};
 ghost use Rattle.elements.specs.Words.{codeIn, negatedCodeIn};
+ghost use Rattle.valuer_maps.specs.Successors.{Lists, ListsOf};
 ghost use Rattle.valuer_maps.specs.Code.{joinOrMeetCode, startCode, slotOf, allNextCode, someNextCode, nextCode, Literals, Combined, NextMap};
 
 // Where a least fixpoint starts, the bottom's code, or a greatest one, the top's.
@@ -127,53 +133,65 @@ fn some_step(w: &Codes, r: Element, x: u64) -> u64
     elements::code(w, r) & x
 }
 
-// AX of a map at q; `top` is the code of the top.
-fn all_next(w: &Codes, top: u64, m: &[u8], x: &[u64; 64], q: State) -> u64
-    requires { ⌜ ModelShape (now m) × (q .0 < getD (now m) 0 0) ⌝ }
+// AX of a map at q, over the successors of q; `top` is the code of the top.
+fn all_next(w: &Codes, top: u64, m: &[u8], s: &Successors, x: &[u64; 64], q: State) -> u64
+    requires { ⌜ ModelShape (now m) × (q .0 < getD (now m) 0 0) × Lists (now w) top (now m) (getD (now m) 0 0) (now s) ⌝ }
     ensures { λ r. ⌜ r ≡ allNextCode (now (w .entry)) top (now (m .entry)) (now (x .entry)) (q .0) ⌝ }
 {
-    let n = model::states(m);
+    let at = elements::index(q.0) * 65;
+    let n = elements::index(s[at]);
     let mut y = top;
-    for r in 0..n {
-        let e = model::transition(m, q, State(r as u8));
-        y = y & all_step(w, e, x[r]);
+    for i in 0..n {
+        let r = s[at + 1 + i];
+        let e = model::transition(m, q, State(r));
+        y = y & all_step(w, e, x[elements::index(r)]);
     }
     y
 }
 
 // EX of a map at q.
-fn some_next(w: &Codes, m: &[u8], x: &[u64; 64], q: State) -> u64
-    requires { ⌜ ModelShape (now m) × (q .0 < getD (now m) 0 0) ⌝ }
+fn some_next(w: &Codes, top: u64, m: &[u8], s: &Successors, x: &[u64; 64], q: State) -> u64
+    requires { ⌜ ModelShape (now m) × (q .0 < getD (now m) 0 0) × Lists (now w) top (now m) (getD (now m) 0 0) (now s) ⌝ }
     ensures { λ r. ⌜ r ≡ someNextCode (now (w .entry)) (now (m .entry)) (now (x .entry)) (q .0) ⌝ }
 {
-    let n = model::states(m);
+    let at = elements::index(q.0) * 65;
+    let n = elements::index(s[at]);
     let mut y: u64 = 0;
-    for r in 0..n {
-        let e = model::transition(m, q, State(r as u8));
-        y = y | some_step(w, e, x[r]);
+    for i in 0..n {
+        let r = s[at + 1 + i];
+        let e = model::transition(m, q, State(r));
+        y = y | some_step(w, e, x[elements::index(r)]);
     }
     y
 }
 
 // The one (all) or the other.
-fn next_at(w: &Codes, top: u64, m: &[u8], all: bool, x: &[u64; 64], q: State) -> u64
-    requires { ⌜ ModelShape (now m) × (q .0 < getD (now m) 0 0) ⌝ }
+fn next_at(w: &Codes, top: u64, m: &[u8], s: &Successors, all: bool, x: &[u64; 64], q: State) -> u64
+    requires { ⌜ ModelShape (now m) × (q .0 < getD (now m) 0 0) × Lists (now w) top (now m) (getD (now m) 0 0) (now s) ⌝ }
     ensures { λ r. ⌜ r ≡ nextCode (now (w .entry)) top (now (m .entry)) all (now (x .entry)) (q .0) ⌝ }
 {
     if all {
-        return all_next(w, top, m, x, q);
+        return all_next(w, top, m, s, x, q);
     }
-    some_next(w, m, x, q)
+    some_next(w, top, m, s, x, q)
 }
 
 // AX (all) or EX of a map.
-pub fn next_values(w: &Codes, l: Lattice, m: &[u8], all: bool, x: &[u64; 64], out: &mut [u64])
-    requires { ⌜ ModelShape (now m) × (length (now out) ≡ 64) ⌝ }
+pub fn next_values(
+    w: &Codes,
+    l: Lattice,
+    m: &[u8],
+    s: &Successors,
+    all: bool,
+    x: &[u64; 64],
+    out: &mut [u64],
+)
+    requires { ⌜ ModelShape (now m) × ListsOf (now w) l (now m) (now s) × (length (now out) ≡ 64) ⌝ }
     ensures { λ _. ⌜ NextMap (now (w .entry)) l (now (m .entry)) all (now (x .entry)) (now (out .exit)) ⌝ }
 {
     let n = model::states(m);
     let top = elements::code(w, l.top);
     for q in 0..n {
-        out[q] = next_at(w, top, m, all, x, State(q as u8));
+        out[q] = next_at(w, top, m, s, all, x, State(q as u8));
     }
 }

@@ -54,5 +54,5 @@ returns c =
 pub score-spec : {M : Type 1} → statement M
 score-spec =
     tie.close (tie.spec Inv-loop μ-loop (λ c κs. search needs) (λ c κs. search needs) (λ c. search needs) (λ c κs. search needs) (λ c κs. search needs)
-    loop-holds mul-encode (λ c. search needs) encode-requires (λ c. search needs) (λ c κs. search needs) (λ c. search needs) (λ c κs. search needs)
+    loop-holds mul-encode (λ c. search needs) encode-requires (λ c κs. search needs) (λ c. search needs) (λ c κs. search needs)
     (λ c κs. search needs) (λ c. search needs) (λ c. search needs) loop-again (λ c κs. search needs) returns)

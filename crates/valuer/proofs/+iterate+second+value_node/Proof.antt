@@ -36,32 +36,32 @@ use Rattle.valuer_maps.proofs.variable.Reads as variable-reads
 use Rattle.valuer.proofs.+iterate+second+value_node.{statement}
 use Rattle.valuer.proofs.+iterate+second+value_node.Tie.{close}
 
-abbrev μ-iterate : Measures 7 iterate-kinds.ps ℕ
+abbrev μ-iterate : Measures 8 iterate-kinds.ps ℕ
 μ-iterate κs a = (length (a .1 .1 .1 .0 .now) - a .1 .1 .1 .1 .0) * 2 + 1
 
-abbrev μ-second : Measures 8 second-kinds.ps ℕ
+abbrev μ-second : Measures 9 second-kinds.ps ℕ
 μ-second κs a = (length (a .1 .1 .1 .0 .now) - a .1 .1 .1 .1 .0) * 2 + 1
 
-abbrev μ-value-node : Measures 8 value-node-kinds.ps ℕ
+abbrev μ-value-node : Measures 9 value-node-kinds.ps ℕ
 μ-value-node κs a = (length (a .1 .1 .1 .0 .now) - a .1 .1 .1 .1 .0) * 2
 
-abbrev iterate-at : ℕ → In 7 iterate-kinds.ps
-iterate-at t = and 7 iterate-kinds.ps (is 7 iterate-kinds.ps μ-iterate t) iterate.Pre
+abbrev iterate-at : ℕ → In 8 iterate-kinds.ps
+iterate-at t = and 8 iterate-kinds.ps (is 8 iterate-kinds.ps μ-iterate t) iterate.Pre
 
-abbrev iterate-below : ℕ → In 7 iterate-kinds.ps
-iterate-below t = and 7 iterate-kinds.ps (falls 7 iterate-kinds.ps _<_ μ-iterate t) iterate.Pre
+abbrev iterate-below : ℕ → In 8 iterate-kinds.ps
+iterate-below t = and 8 iterate-kinds.ps (falls 8 iterate-kinds.ps _<_ μ-iterate t) iterate.Pre
 
-abbrev second-at : ℕ → In 8 second-kinds.ps
-second-at t = and 8 second-kinds.ps (is 8 second-kinds.ps μ-second t) second.Pre
+abbrev second-at : ℕ → In 9 second-kinds.ps
+second-at t = and 9 second-kinds.ps (is 9 second-kinds.ps μ-second t) second.Pre
 
-abbrev second-below : ℕ → In 8 second-kinds.ps
-second-below t = and 8 second-kinds.ps (falls 8 second-kinds.ps _<_ μ-second t) second.Pre
+abbrev second-below : ℕ → In 9 second-kinds.ps
+second-below t = and 9 second-kinds.ps (falls 9 second-kinds.ps _<_ μ-second t) second.Pre
 
-abbrev value-node-at : ℕ → In 8 value-node-kinds.ps
-value-node-at t = and 8 value-node-kinds.ps (is 8 value-node-kinds.ps μ-value-node t) value-node.Pre
+abbrev value-node-at : ℕ → In 9 value-node-kinds.ps
+value-node-at t = and 9 value-node-kinds.ps (is 9 value-node-kinds.ps μ-value-node t) value-node.Pre
 
-abbrev value-node-below : ℕ → In 8 value-node-kinds.ps
-value-node-below t = and 8 value-node-kinds.ps (falls 8 value-node-kinds.ps _<_ μ-value-node t) value-node.Pre
+abbrev value-node-below : ℕ → In 9 value-node-kinds.ps
+value-node-below t = and 9 value-node-kinds.ps (falls 9 value-node-kinds.ps _<_ μ-value-node t) value-node.Pre
 
 -- what each member's callees ask and give, at the measure t
 abbrev i-claims : ℕ → iterate-lts.Claims
@@ -74,10 +74,10 @@ abbrev v-claims : ℕ → value-node-lts.Claims
 v-claims t = (token-at-reads.Asked, token-at-reads.Learnt, size-reads.Asked, size-reads.Learnt, start-of-reads.Asked, start-of-reads.Learnt, constant-reads.Asked, constant-reads.Learnt, literals-reads.Asked, literals-reads.Learnt, variable-reads.Asked, variable-reads.Learnt, value-node-below t, value-node.Post, second-below t, second.Post, next-values-reads.Asked, next-values-reads.Learnt, iterate-below t, iterate.Post)
 
 abbrev iterate-Inv-loop : iterate-lts.InvT-loop
-iterate-Inv-loop w l m f body near mid start spare₀ out₀ n current₀ left₀ spare out current left = (left ≤ left₀) × Turned w l m f body near mid start (left₀ - left) current
+iterate-Inv-loop w l m f body s near mid start spare₀ out₀ n current₀ left₀ spare out current left = (left ≤ left₀) × Turned w l m f body near mid start (left₀ - left) current
 
 abbrev iterate-μ-loop : iterate-lts.MeasureT-loop
-iterate-μ-loop w l m f body near mid start spare₀ out₀ n current₀ left₀ spare out current left = left
+iterate-μ-loop w l m f body s near mid start spare₀ out₀ n current₀ left₀ spare out current left = left
 
 iterate-states-requires : (t : ℕ) → iterate-lts.Need-states-requires (i-claims t) (iterate-at t) iterate.Post iterate-Inv-loop iterate-μ-loop
 iterate-states-requires t c κs = c .before .before .pre .1 .0 .shape
@@ -150,7 +150,7 @@ value-node-value-node-requires t c κs =
     let p = c .before .before .before .before .before .before .before .before .before .pre .1 in
     let s = c .before .before .before .before .before in
     let e = c .before .before .before .token3 .given .1 in
-    (omega (arith, fewer t s _ e refl), (p .0, here-first _ (stood t s _ e) (p .1)))
+    (omega (arith, fewer t s _ e refl), (p .0, here-first _ (stood t s _ e) (p .1), p .2))
 
 value-node-second-requires : (t : ℕ) → value-node-lts.Need-second-requires (v-claims t) (value-node-at t) value-node.Post
 unfolding tokenSize
@@ -159,7 +159,7 @@ value-node-second-requires t c κs =
     let s = c .before .before .before .before .before .before .before .before in
     let e = c .before .before .before .before .before .before .token3 .given .1 in
     let k = here-second (c .before .before .value-node .ensures) _ (stood t s _ e) (p .1) in
-    (omega (arith, fewer t s _ e refl, k .further), (p .0, k .stands))
+    (omega (arith, fewer t s _ e refl, k .further), (p .0, k .stands, p .2))
 
 value-node-value-node-requires-2 : (t : ℕ) → value-node-lts.Need-value-node-requires-2 (v-claims t) (value-node-at t) value-node.Post
 unfolding tokenSize
@@ -167,10 +167,10 @@ value-node-value-node-requires-2 t c κs =
     let p = c .before .before .before .before .before .before .before .before .before .pre .1 in
     let s = c .before .before .before .before .before in
     let e = c .before .before .before .token4 .given .1 in
-    (omega (arith, fewer t s _ e refl), (p .0, here-inner _ (stood t s _ e) (p .1)))
+    (omega (arith, fewer t s _ e refl), (p .0, here-inner _ (stood t s _ e) (p .1), p .2))
 
 value-node-next-values-requires : (t : ℕ) → value-node-lts.Need-next-values-requires (v-claims t) (value-node-at t) value-node.Post
-value-node-next-values-requires t c κs = (c .before .before .before .before .before .before .before .before .before .before .before .before .before .pre .1 .0 .shape, search needs)
+value-node-next-values-requires t c κs = let p = c .before .before .before .before .before .before .before .before .before .before .before .before .before .pre .1 in (p .0 .shape, p .2, search needs)
 
 value-node-iterate-requires : (t : ℕ) → value-node-lts.Need-iterate-requires (v-claims t) (value-node-at t) value-node.Post
 unfolding tokenSize
@@ -178,7 +178,7 @@ value-node-iterate-requires t c κs =
     let p = c .before .before .before .before .before .before .before .before .before .before .pre .1 in
     let s = c .before .before .before .before .before .before in
     let e = c .before .before .before .before .token5 .given .1 in
-    (fewer t s _ e refl, (p .0, here-body _ (stood t s _ e) (p .1)))
+    (fewer t s _ e refl, (p .0, here-body _ (stood t s _ e) (p .1), p .2))
 
 value-node-returns : (t : ℕ) → value-node-lts.Need-returns (v-claims t) (value-node-at t) value-node.Post
 value-node-returns t c =

@@ -1,6 +1,6 @@
--- `valuer_maps::all_next` meets its contract: the meet so far.
-use mathlib.Core.Path.{refl, ap, _∙_}
-use Prim.Native.Nat.{ℕ, _≤_, _-_}
+-- `valuer_maps::all_next` meets its contract: the meet so far, over the successors.
+use mathlib.Core.Path.{refl, ap₂, _∙_}
+use Prim.Native.Nat.{ℕ, _+_, _*_, _≤_, _<_, _-_}
 use native.Mathlib.Omega.{arith}
 use lib.Bits.{bitAnd, bitOr}
 use lib.ListN.{getD}
@@ -8,28 +8,54 @@ use borrow.Author.Needs.{needs}
 use Rattle.theory.specs.Loop.{Folded, folded-none, folded-more, folded-all}
 use Rattle.theory.specs.Part.{modelOf}
 use Rattle.elements.specs.Words.{negatedCodeIn}
+use Rattle.valuer_maps.specs.Successors.{row-few, row-below, row-of, all-listed}
 use Rattle.valuer_maps.proofs.all_next.Statement.{statement}
 use Rattle.valuer_maps.proofs.all_next.Tie as tie
 
 abbrev Inv-loop : tie.InvT-loop
-Inv-loop w top m x q n y₀ r₀ y r = (r ≤ n) × Folded bitAnd top (λ s. bitOr (negatedCodeIn w (modelOf m .transition (q .0) s)) (getD x s 0)) r y
+Inv-loop w top m s x q at n y₀ i₀ y i =
+    (i ≤ n) × Folded bitAnd top (λ j. bitOr (negatedCodeIn w (modelOf m .transition (q .0) (getD s (at + 1 + j) 0))) (getD x (getD s (at + 1 + j) 0) 0)) i y
 
 abbrev μ-loop : tie.MeasureT-loop
-μ-loop w top m x q n y₀ r₀ y r = n - r
+μ-loop w top m s x q at n y₀ i₀ y i = n - i
+
+element-copy-out-index : tie.Need-element-copy-out-index Inv-loop μ-loop
+element-copy-out-index c = let p = c .before .before .pre in omega (arith, c .index .ensures .0, p .1, p .0 .states-most)
 
 loop-holds : tie.Need-loop-holds Inv-loop μ-loop
 loop-holds c = (omega arith, folded-none)
 
+element-copy-out-r : tie.Need-element-copy-out-r Inv-loop μ-loop
+element-copy-out-r c =
+    let p = c .before .before .before .before .before .before .pre in
+    let e = c .before .before .before .before .index .ensures .0 in
+    omega (arith, e, p .1, p .0 .states-most, c .before .before .index2 .ensures .0, row-few (row-of (p .2 .at _ (p .1)) e))
+
+transition-requires : tie.Need-transition-requires Inv-loop μ-loop
+transition-requires c κs =
+    let p = c .before .before .before .before .before .before .before .pre in
+    (p .0, p .1, row-below (row-of (p .2 .at _ (p .1)) (c .before .before .before .before .before .index .ensures .0)) _ (omega (arith, c .before .before .before .index2 .ensures .0)))
+
+element-copy-out-step : tie.Need-element-copy-out-all-step Inv-loop μ-loop
+element-copy-out-step c =
+    let p = c .before .before .before .before .before .before .before .before .before .pre in
+    omega (arith, p .0 .states-most, c .index3 .ensures .0, row-below (row-of (p .2 .at _ (p .1)) (c .before .before .before .before .before .before .before .index .ensures .0)) (c .before .before .before .before .loop .i) (omega (arith, c .before .before .before .before .before .index2 .ensures .0)))
+
 loop-again : tie.Need-loop-again Inv-loop μ-loop
 loop-again c =
-    let a = c .before .before .before .before .before .before .before .args in
-    let i = c .before .before .before .before .loop in
-    (omega arith, folded-more (i .inv .1) (c .all-step .ensures ∙ ap (λ (e : ℕ). bitOr (negatedCodeIn (a .w .now) e) (getD (a .x .now) (i .r) 0)) (c .before .before .transition .ensures)) refl)
+    let a = c .before .before .before .before .before .before .before .before .before .before .before .args in
+    (omega arith, folded-more (c .before .before .before .before .before .before .loop .inv .1) (c .all-step .ensures ∙ ap₂ (λ (e k : ℕ). bitOr (negatedCodeIn (a .w .now) e) (getD (a .x .now) k 0)) (c .before .before .before .transition .ensures) (c .before .before .index3 .ensures .0)) refl)
 
 returns : tie.Need-returns Inv-loop μ-loop
-returns c = let l = c .before .loop .inv in folded-all (l .1) (omega (arith, c .before .before .states .ensures)) (omega (arith, c .before .before .states .ensures))
+returns c =
+    let b = c .before .before .before .before .before .before in
+    let a = b .args in
+    let e = c .before .before .before .before .index .ensures .0 in
+    let n = c .before .before .index2 .ensures .0 in
+    folded-all (c .before .loop .inv .1) (omega (arith, n)) (omega (arith, n)) ∙ all-listed (a .w .now) (a .top) (a .m .now) (a .x .now) (a .q .0) (row-of (b .pre .2 .at _ (b .pre .1)) e)
 
 pub all-next-spec : {M : Type 1} → statement M
 all-next-spec =
-    tie.close (tie.spec Inv-loop μ-loop (λ c κs. search needs) loop-holds (λ c. search needs) (λ c κs. search needs) (λ c. search needs)
-    (λ c. search needs) (λ c κs. search needs) (λ c. search needs) (λ c. search needs) loop-again returns)
+    tie.close (tie.spec Inv-loop μ-loop (λ c κs. search needs) (λ c. search needs) element-copy-out-index (λ c κs. search needs) loop-holds
+    (λ c. search needs) (λ c. search needs) element-copy-out-r transition-requires (λ c κs. search needs) (λ c. search needs)
+    element-copy-out-step (λ c κs. search needs) (λ c. search needs) (λ c. search needs) loop-again returns)

@@ -11,13 +11,16 @@ use Rattle.valuer_maps.proofs.next_values.Statement.{statement}
 use Rattle.valuer_maps.proofs.next_values.Tie as tie
 
 abbrev Inv-loop : tie.InvT-loop
-Inv-loop w m all x out₀ n top q₀ out q = (q ≤ n) × (length out ≡ 64) × Filled (nextCode w top m all x) q out
+Inv-loop w m s all x out₀ n top q₀ out q = (q ≤ n) × (length out ≡ 64) × Filled (nextCode w top m all x) q out
 
 abbrev μ-loop : tie.MeasureT-loop
-μ-loop w m all x out₀ n top q₀ out q = n - q
+μ-loop w m s all x out₀ n top q₀ out q = n - q
 
 loop-holds : tie.Need-loop-holds Inv-loop μ-loop
-loop-holds c = (omega arith, c .before .before .before .before .pre .1, filled-none)
+loop-holds c = (omega arith, c .before .before .before .before .pre .2, filled-none)
+
+next-at-requires : tie.Need-next-at-requires Inv-loop μ-loop
+next-at-requires c κs = let p = c .before .before .before .before .before .before .pre in (p .0, omega (arith, c .before .before .before .states .ensures), rw (c .before .before .code .ensures) (p .1))
 
 loop-again : tie.Need-loop-again Inv-loop μ-loop
 loop-again c =
@@ -32,5 +35,5 @@ returns c =
 
 pub next-values-spec : {M : Type 1} → statement M
 next-values-spec =
-    tie.close (tie.spec Inv-loop μ-loop (λ c κs. search needs) (λ c κs. search needs) loop-holds (λ c. search needs) (λ c κs. search needs)
+    tie.close (tie.spec Inv-loop μ-loop (λ c κs. search needs) (λ c κs. search needs) loop-holds (λ c. search needs) next-at-requires
     (λ c. search needs) (λ c. search needs) (λ c. search needs) (λ c. search needs) loop-again (λ c. search needs) returns)

@@ -4,7 +4,7 @@ use Prim.Native.Nat.{ℕ, _+_, _≤_, _-_}
 use lib.Bits.{bitAnd, bitOr}
 use lib.ListN.{length, getD, length-set}
 use Rattle.rounds.specs.Rows.{Replaced, replaced-none, replaced-more, replaced-all, replaced-same}
-use Rattle.rounds.specs.Codes.{top-same}
+use Rattle.elements.specs.Folds.{top-same}
 use borrow.Author.Needs.{needs}
 use native.Mathlib.Omega.{arith}
 use Rattle.rounds.proofs.columns.meet_with.Statement.{statement}
