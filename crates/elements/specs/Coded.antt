@@ -3,7 +3,7 @@
 --   decode-code, decode-is: an element is found by its code
 --   meet-lt, join-lt, complement-lt: the results are elements; meet-code, join-code, complement-code: their codes
 --   guess-is: an element that has the code is the one that is found
-use Prim.Native.Nat.{ℕ, _+_, _%_, _≤_, _<_}
+use Prim.Native.Nat.{ℕ, _%_, _<_}
 use mathlib.Core.Path.{_≡_, refl, sym, ap, ap₂, _∙_}
 use mathlib.Core.Bool.{Bool, true, false, cond}
 use mathlib.Core.List.{List}
@@ -13,7 +13,6 @@ use lib.Bits.{bitAnd, bitOr}
 use lib.Dec.{ltb, eqb}
 use lib.ListN.{getD}
 use Rattle.theory.specs.Part.{element}
-use Rattle.theory.specs.Test.{firstBelow}
 use Rattle.theory.specs.TestLaws.{first-unique}
 use Rattle.elements.specs.declared.Lattice.{Lattice}
 use Rattle.elements.specs.Words.{codeIn, negatedCodeIn, decodeIn, meetIn, joinIn, complementIn, IsCode, Coded}

@@ -4,7 +4,7 @@
 --   bigJoin-lt, bigMeet-lt: the results are elements
 --   fold-meets, fold-joins: a fold of codes is the code of the finite meet or join
 --   fold-within: what is met with a word stays within whatever the word is within; top-same: a word within the top's, met with what is above the top
-use Prim.Native.Nat.{ℕ, zero, suc, _+_, _%_, _≤_, _<_}
+use Prim.Native.Nat.{ℕ, zero, suc, _%_, _<_}
 use mathlib.Core.Path.{_≡_, refl, sym, ap, ap₂, _∙_}
 use mathlib.Core.List.{List}
 use native.Mathlib.Nat.{le-refl}

@@ -5,25 +5,23 @@
 --   byRow, byColumn: an entry of a table of words; rowFrom: an entry's code from inner joins that stand in such a table
 --   TableIn, EntryCodes, Prepared: a table's codes, a row's, and the inner joins of a table
 --   low-at: a word that was written from place 0 on
---   joinedCode, joined-is, inner-from, row-from-code: the codes as the loops get them; WithinTop, row-within: they are within the top's
+--   blockCode, innerBlock, block-is, left-rows, row-from-code: the codes as the loops get them; WithinTop, propositions-within, folds-within: they are within the top's
 --   scorePart, score-join, score-decoded: score
 --   entry-code: the code of an entry is that of F's entry; entry-decoded: so it is turned back into it
 use Prim.Native.Nat.{ℕ, zero, suc, _+_, _*_, _≤_, _<_}
-use mathlib.Core.Path.{_≡_, refl, sym, ap, ap₂, _∙_}
+use mathlib.Core.Path.{_≡_, sym, ap, ap₂, _∙_}
 use mathlib.Core.Bool.{true, false}
-use mathlib.Core.Logic.{⊎-elim}
 use mathlib.Core.List.{List}
-use native.Mathlib.Nat.{not-suc-le-zero, eq-or-lt-of-le}
 use native.Mathlib.Omega.{arith}
 use lib.Bits.{bitAnd, bitOr}
 use lib.ListN.{length, getD}
 use Rattle.theory.specs.Lattice.{imp, iff}
 use Rattle.theory.specs.Lists.{Filled, tab, written}
-use Rattle.theory.specs.Loop.{fold, fold-cong, tab-length}
+use Rattle.theory.specs.Loop.{fold, fold-cong}
 use Rattle.theory.specs.Part.{modelOf, ModelShape}
 use Rattle.theory.specs.Simulation.{propositionPart, successorPart, F, score}
 use Rattle.theory.specs.Value.{allNext, someNext}
-use Rattle.theory.specs.Written.{written-before, slice-at}
+use Rattle.theory.specs.Written.{slice-at}
 use Rattle.elements.specs.declared.Lattice.{Lattice}
 use Rattle.elements.specs.Words.{codeIn, negatedCodeIn, decodeIn, opsIn, Coded}
 use Rattle.elements.specs.Coded.{meet-lt}
@@ -52,9 +50,9 @@ tableCode w s n₂ q r = codeIn w (tableOf s n₂ q r)
 abbrev pub tableIn : List ℕ → List ℕ → List ℕ → ℕ → ℕ → ℕ
 tableIn w m₂ s = tableCode w s (getD m₂ 0 0)
 
--- the join of the first n words of two lists, each met with that at its place in the other
-abbrev pub joinCode : List ℕ → List ℕ → ℕ → ℕ
-joinCode row entries n = fold bitOr 0 (λ i. bitAnd (getD row i 0) (getD entries i 0)) n
+-- the join of the first n words of `row`, each met with that at its place from `at` on
+abbrev pub joinCode : List ℕ → List ℕ → ℕ → ℕ → ℕ
+joinCode row table at n = fold bitOr 0 (λ i. bitAnd (getD row i 0) (getD table (at + i) 0)) n
 
 -- a ↔ b
 abbrev pub iffCode : List ℕ → ℕ → ℕ → ℕ
@@ -120,21 +118,26 @@ low-at f n before {out} e fits i l =
     let z : 0 + i ≡ i = omega arith in
     ap (λ (j : ℕ). getD out j 0) (sym z) ∙ slice-at 0 f n before e (omega arith) i l
 
--- the inner join of q₂ and a row of entries that are given as words
-abbrev pub joinedCode : List ℕ → List ℕ → List ℕ → ℕ → ℕ
-joinedCode w m₂ entries q₂ = fold bitOr 0 (λ i. bitAnd (leavingCode false w m₂ q₂ i) (getD entries i 0)) (getD m₂ 0 0)
+-- x met with what k states from `first` on give: `left` has the complements of the transitions to them; from the words of their rows, and as
+-- the inner joins of q₂
+abbrev pub blockCode : ℕ → List ℕ → ℕ → List ℕ → List ℕ → ℕ → ℕ → ℕ
+blockCode x left first row block n k = fold bitAnd x (λ j. bitOr (getD left (first + j) 0) (joinCode row block (j * 64) n)) k
 
--- from the codes of the transitions that leave q₂
-pub joined-is : (w m₂ entries : List ℕ) (q₂ n : ℕ) (before : List ℕ) {row : List ℕ} → row ≡ written 0 (tab (leavingCode false w m₂ q₂) (getD m₂ 0 0) 0) before → getD m₂ 0 0 ≤ length before → n ≡ getD m₂ 0 0 → joinCode row entries n ≡ joinedCode w m₂ entries q₂
-joined-is w m₂ entries q₂ n before {row} e fits same =
-    ap (joinCode row entries) same
-    ∙ fold-cong bitOr 0 _ _ (getD m₂ 0 0) (λ i k. ap (λ (x : ℕ). bitAnd x (getD entries i 0)) (low-at _ _ before e fits i k))
+abbrev pub innerBlock : ℕ → List ℕ → List ℕ → List ℕ → List ℕ → ℕ → ℕ → ℕ → ℕ
+innerBlock x w left m₂ s first k q₂ = fold bitAnd x (λ j. bitOr (getD left (first + j) 0) (innerCode w m₂ (tableIn w m₂ s) q₂ (first + j))) k
 
--- where the entries are those of row q of the table s
-pub inner-from : (w m₂ s : List ℕ) (q₂ q n a : ℕ) (before : List ℕ) {entries : List ℕ} → entries ≡ written 0 (tab (λ i. codeIn w (getD s (a * n + i) 0)) n 0) before → n ≤ length before → n ≡ getD m₂ 0 0 → a ≡ q → joinedCode w m₂ entries q₂ ≡ innerCode w m₂ (tableIn w m₂ s) q₂ q
-inner-from w m₂ s q₂ q n a before f room same z =
-    fold-cong bitOr 0 _ _ (getD m₂ 0 0)
-    (λ i k. ap (bitAnd (leavingCode false w m₂ q₂ i)) (low-at (λ i. codeIn w (getD s (a * n + i) 0)) n before f room i (omega (arith, same)) ∙ ap₂ (λ (x y : ℕ). codeIn w (getD s (x * y + i) 0)) z same))
+pub block-is : (x : ℕ) (w left m₂ s : List ℕ) (first k q₂ n : ℕ) (before : List ℕ) {row block : List ℕ} → row ≡ written 0 (tab (leavingCode false w m₂ q₂) (getD m₂ 0 0) 0) before → getD m₂ 0 0 ≤ length before → Rows (λ j. tableCode w s n (first + j)) k n block → n ≡ getD m₂ 0 0 → blockCode x left first row block n k ≡ innerBlock x w left m₂ s first k q₂
+block-is x w left m₂ s first k q₂ n before {row} {block} e fits t same =
+    fold-cong bitAnd x _ _ k
+    (λ j l. ap (bitOr (getD left (first + j) 0))
+    (ap (joinCode row block (j * 64)) same
+    ∙ fold-cong bitOr 0 _ _ (getD m₂ 0 0) (λ i h. ap₂ bitAnd (low-at _ _ before e fits i h) (t .at j i l (omega (arith, same)) ∙ ap (λ (y : ℕ). tableCode w s y (first + j) i) same))))
+
+-- what all states give, by the codes of the complements of the transitions that leave q₁
+pub left-rows : (w : List ℕ) (top : ℕ) (m₁ m₂ : List ℕ) (J : ℕ → ℕ → ℕ) (q₁ q₂ : ℕ) (before : List ℕ) {x : ℕ} {left : List ℕ} → left ≡ written 0 (tab (leavingCode true w m₁ q₁) (getD m₁ 0 0) 0) before → getD m₁ 0 0 ≤ length before → x ≡ propositionsCode w top m₁ m₂ q₁ q₂ → fold bitAnd x (λ i. bitOr (getD left i 0) (J i q₂)) (getD m₁ 0 0) ≡ rowFrom w top m₁ m₂ J q₁ q₂
+left-rows w top m₁ m₂ J q₁ q₂ before {x} {left} e fits p =
+    ap (λ (y : ℕ). fold bitAnd y (λ i. bitOr (getD left i 0) (J i q₂)) (getD m₁ 0 0)) p
+    ∙ fold-cong bitAnd (propositionsCode w top m₁ m₂ q₁ q₂) _ _ (getD m₁ 0 0) (λ i k. ap (λ (y : ℕ). bitOr y (J i q₂)) (low-at _ _ before e fits i k))
 
 -- ---- an entry that starts at its propositions
 
@@ -147,11 +150,12 @@ fold-from {x} {top} h f (suc n) = ap (λ (y : ℕ). bitAnd y (f n)) (fold-from h
 pub record WithinTop (top n : ℕ) (row : List ℕ) : Type 0 where
   pub at : (i : ℕ) → i < n → Within (getD row i 0) top
 
-propositions-within : (w : List ℕ) (top : ℕ) (m₁ m₂ : List ℕ) (q₁ q₂ : ℕ) → Within (propositionsCode w top m₁ m₂ q₁ q₂) top
+pub propositions-within : (w : List ℕ) (top : ℕ) (m₁ m₂ : List ℕ) (q₁ q₂ : ℕ) → Within (propositionsCode w top m₁ m₂ q₁ q₂) top
 propositions-within w top m₁ m₂ q₁ q₂ = fold-within (within-refl top) _ (getD m₁ 1 0)
 
-pub row-within : (w : List ℕ) (top : ℕ) (m₁ m₂ : List ℕ) (q₁ k n : ℕ) {f : ℕ → ℕ → ℕ} {row : List ℕ} → Folds bitAnd (propositionsCode w top m₁ m₂ q₁) f k n row → WithinTop top n row
-row-within w top m₁ m₂ q₁ k n h = record { at = λ i l. rw (h .at i l) (fold-within (propositions-within w top m₁ m₂ q₁ i) _ k) }
+-- so are folds that start within it
+pub folds-within : (top k n : ℕ) {start : ℕ → ℕ} {f : ℕ → ℕ → ℕ} {row : List ℕ} → ((i : ℕ) → i < n → Within (start i) top) → Folds bitAnd start f k n row → WithinTop top n row
+folds-within top k n e h = record { at = λ i l. rw (h .at i l) (fold-within (e i l) _ k) }
 
 pub row-from-code : (w : List ℕ) (top : ℕ) (m₁ m₂ : List ℕ) (S J : ℕ → ℕ → ℕ) (q₁ q₂ : ℕ) → ((i : ℕ) → i < getD m₁ 0 0 → J i q₂ ≡ innerCode w m₂ S q₂ i) → rowFrom w top m₁ m₂ J q₁ q₂ ≡ entryCode w top m₁ m₂ S q₁ q₂
 row-from-code w top m₁ m₂ S J q₁ q₂ h =
@@ -195,11 +199,11 @@ module _ {w : List ℕ} {l : Lattice} (c : Coded w l) {m₁ m₂ s : List ℕ} {
 -- ---- score
 
 -- the join of one turn, from the codes of the initial values and those of a row of entries
-pub score-join : (w m₂ s : List ℕ) (q n₂ : ℕ) (before : List ℕ) {right entries : List ℕ} → Filled (initialCode w m₂) (getD m₂ 0 0) right → entries ≡ written 0 (tab (λ i. codeIn w (getD s (q * n₂ + i) 0)) n₂ 0) before → n₂ ≤ length before → n₂ ≡ getD m₂ 0 0 → joinCode right entries n₂ ≡ fold bitOr 0 (λ i. bitAnd (initialCode w m₂ i) (tableCode w s (getD m₂ 0 0) q i)) (getD m₂ 0 0)
+pub score-join : (w m₂ s : List ℕ) (q n₂ : ℕ) (before : List ℕ) {right entries : List ℕ} → Filled (initialCode w m₂) (getD m₂ 0 0) right → entries ≡ written 0 (tab (λ i. codeIn w (getD s (q * n₂ + i) 0)) n₂ 0) before → n₂ ≤ length before → n₂ ≡ getD m₂ 0 0 → joinCode right entries 0 n₂ ≡ fold bitOr 0 (λ i. bitAnd (initialCode w m₂ i) (tableCode w s (getD m₂ 0 0) q i)) (getD m₂ 0 0)
 score-join w m₂ s q n₂ before f e fits g =
     rw (← g)
     (fold-cong bitOr 0 _ _ n₂
-    (λ i k. ap₂ bitAnd (f .at i (omega (arith, g))) (low-at (λ i. codeIn w (getD s (q * n₂ + i) 0)) n₂ before e fits i k)))
+    (λ i k. ap₂ bitAnd (f .at i (omega (arith, g))) (slice-at 0 (λ i. codeIn w (getD s (q * n₂ + i) 0)) n₂ before e (omega arith) i k)))
 
 module _ {w : List ℕ} {l : Lattice} (c : Coded w l) (m₁ m₂ s : List ℕ) where
   pub score-decoded : decodeIn w (fold bitAnd (codeIn w (l .top .0)) (scorePart w m₁ m₂ s) (getD m₁ 0 0)) ≡ scoreIn w l m₁ m₂ s

@@ -5,8 +5,8 @@
 --   round-done, RoundDone: after all rows of round r the table is round r + 1, unchanged exactly when the two are equal
 --   round-test, simulation-test: a round that changes nothing is the test for a simulation, which exactly the simulations pass
 --   top-round, byte-at, shown-bytes, cell-lt: round 0; the entries as bytes
---   Worked, worked-none, worked-more, worked-all, worked-cong, worked-round, row-elements: the rows alone
---   changed-none, changed-more, changed-cong, row-same-cong, unchanged-simulation, unchanged-round: what changed alone
+--   Worked, worked-none, worked-more, worked-round, row-elements: the rows alone
+--   changed-none, changed-more, unchanged-simulation, unchanged-round: what changed alone
 --   ReadsPairs, F-reads, share-cong: F and share read no more than the pairs of states
 use Prim.Native.Nat.{ℕ, suc, _+_, _*_, _/_, _%_, _≤_, _<_}
 use mathlib.Core.Path.{_≡_, refl, sym, ap, ap₂, _∙_}
@@ -17,7 +17,6 @@ use native.Mathlib.Nat.{suc-mul, eq-or-lt-of-le, not-suc-le-zero, div-add-mod', 
 use native.Mathlib.Numerals.{add-one}
 use native.Mathlib.Omega.{arith}
 use borrow.Author.Tests.{eq-eqb, eqb-true}
-use lib.Dec.{eqb}
 use lib.ListN.{length, getD, take}
 use lib.Seq.{ext-getD, getD-take, length-take-le}
 use Rattle.theory.specs.Lattice.{Ops, Element}
@@ -29,7 +28,7 @@ use Rattle.theory.specs.Loop.{tab-at, tab-length, count-cong}
 use Rattle.theory.specs.Lists.{tab}
 use Rattle.theory.specs.Written.{written-length, written-at, written-before, written-after, written-all}
 use Rattle.theory.specs.Test.{allBelow}
-use Rattle.theory.specs.TestLaws.{all-at, all-in, all-cong}
+use Rattle.theory.specs.TestLaws.{all-at, all-in}
 use Rattle.elements.specs.declared.Lattice.{Lattice}
 use Rattle.model.specs.Places.{row-le}
 use Rattle.rounds.specs.Table.{tableOf, rowWritten, entrySame, rowSame, rowChanged, changedBelow, simulationTest, FIn}
@@ -113,19 +112,7 @@ module _ (O : Ops ℕ) (M₁ M₂ : Model ℕ) (G : (ℕ → ℕ → ℕ) → �
 
   -- ---- a round by its rows
 
-  -- the same rows, whichever of two equal tables is read
-  pub worked-cong : ReadsPairs O M₁ M₂ G → (S U : ℕ → ℕ → ℕ) (before : List ℕ) (q : ℕ) (out : List ℕ) → SameTable O M₁ M₂ S U → Worked M₁ M₂ G S before q out → Worked M₁ M₂ G U before q out
-  worked-cong cong S U before q out h w =
-      record {
-        rows = λ q₁ k q₂ m. w .rows q₁ k q₂ m ∙ cong _ _ h q₁ q₂;
-        others-unchanged = w .others-unchanged;
-        same-length = w .same-length;
-      }
-
-  -- after all rows the table is F of the one that was read; after round r it is round r + 1
-  pub worked-all : (S : ℕ → ℕ → ℕ) (before out : List ℕ) → Worked M₁ M₂ G S before (M₁ .states) out → SameTable O M₁ M₂ (tableOf out (M₂ .states)) (G S)
-  worked-all S before out w = w .rows
-
+  -- after all rows of round r the table is round r + 1
   pub worked-round : ReadsPairs O M₁ M₂ G → (r : ℕ) (S : ℕ → ℕ → ℕ) (before out : List ℕ) → SameTable O M₁ M₂ S (roundOf O M₁ M₂ G r) → Worked M₁ M₂ G S before (M₁ .states) out → SameTable O M₁ M₂ (tableOf out (M₂ .states)) (roundOf O M₁ M₂ G (suc r))
   unfolding roundOf
   worked-round cong r S before out h w q₁ l q₂ m = w .rows q₁ l q₂ m ∙ cong _ _ h q₁ q₂
@@ -148,15 +135,6 @@ module _ (O : Ops ℕ) (M₁ M₂ : Model ℕ) (G : (ℕ → ℕ → ℕ) → �
   )
 
   -- ---- whether a round changed anything
-
-  -- F reads a table only at the pairs of states, and so do these tests
-  pub row-same-cong : ReadsPairs O M₁ M₂ G → (S U : ℕ → ℕ → ℕ) → SameTable O M₁ M₂ S U → (q₁ : ℕ) → q₁ < M₁ .states → rowSame M₁ M₂ G S q₁ ≡ rowSame M₁ M₂ G U q₁
-  unfolding rowSame
-  row-same-cong cong S U h q₁ l = all-cong _ _ _ (λ q₂ m. ap₂ eqb (h q₁ l q₂ m) (cong _ _ h q₁ q₂))
-
-  pub changed-cong : ReadsPairs O M₁ M₂ G → (S U : ℕ → ℕ → ℕ) → SameTable O M₁ M₂ S U → (q : ℕ) → q ≤ M₁ .states → changedBelow M₁ M₂ G S q ≡ changedBelow M₁ M₂ G U q
-  unfolding changedBelow
-  changed-cong cong S U h q l = ap not (all-cong _ _ _ (λ q₁ k. row-same-cong cong S U h q₁ (omega arith)))
 
   -- no row changed exactly when the table is a simulation: 'this round equals the one before'
   pub unchanged-simulation : (S : ℕ → ℕ → ℕ) → (changedBelow M₁ M₂ G S (M₁ .states) ≡ false) ↔ FixedBy O M₁ M₂ G S

@@ -1,6 +1,6 @@
 -- One row: where it stands in a table, and what a loop over a row's entries has done so far.
 -- Rests on Table, theory's Test and Written, and model's Places.
---   RowAt, row-at, row-entry: where a row stands, and its entries; few-entries, held-by: a table has at most 4,096, and is held
+--   RowAt, row-at: where a row stands; held-by: a table is held
 --   same-eqb, differ-eqb: the test of two bytes that stand for two entries
 --   RowSoFar: the entries so far are written and compared; row-none, row-more, row-all: its begin, turn and end
 --   row-written: at the row's end, what `row` says
@@ -19,12 +19,8 @@ use Rattle.theory.specs.Lists.{tab}
 use Rattle.theory.specs.Written.{written-none, written-turn}
 use Rattle.theory.specs.Lists.{written}
 use Rattle.elements.specs.Words.{decodeIn}
-use Rattle.model.specs.Places.{row-le, prod-le}
-use Rattle.rounds.specs.Table.{tableOf, Shaped}
-
--- a table has at most 64 · 64 entries
-pub few-entries : {m₁ m₂ s : List ℕ} → Shaped m₁ m₂ s → getD m₁ 0 0 * getD m₂ 0 0 ≤ 4096
-few-entries {m₁} {m₂} h = prod-le (getD m₁ 0 0) (getD m₂ 0 0) 64 64 (h .first .states-most) (h .second .states-most)
+use Rattle.model.specs.Places.{row-le}
+use Rattle.rounds.specs.Table.{Shaped}
 
 -- a table for n₁ by n₂ states is held
 pub held-by : (m₁ m₂ s : List ℕ) (n₁ n₂ : ℕ) → Shaped m₁ m₂ s → n₁ ≡ getD m₁ 0 0 → n₂ ≡ getD m₂ 0 0 → n₁ * n₂ ≤ length s
@@ -45,10 +41,6 @@ row-at m₁ m₂ s q₁ n₂ w h l e f =
       here = refl;
       within = row-le q₁ (getD m₁ 0 0) (getD m₂ 0 0) l;
     })
-
--- entry q of the row, where the code reads it
-pub row-entry : (m₁ m₂ s : List ℕ) (q₁ n₂ at q : ℕ) → RowAt m₁ m₂ q₁ n₂ at → getD s (at + q) 0 ≡ tableOf s (getD m₂ 0 0) q₁ q
-row-entry m₁ m₂ s q₁ n₂ at q h = rw (h .here)
 
 -- d and e stand for x and y: the test whether x equals y
 pub same-eqb : {d e x y : ℕ} → d ≡ x → e ≡ y → d ≡ e → eqb x y ≡ true

@@ -1,25 +1,24 @@
 -- A row of F from the codes of its entries. Rests on Table, Row and Codes.
 --   tab-cong: a list by its rule; table-itself, row-top: what the code found, by the models' sizes and the lattice's top; prepared-is, prepared-codes: a row's codes from the inner joins of all q2
 --   row-in: the row that is written, and whether it differs; row-same-in: whether it is the same
-use Prim.Native.Nat.{ℕ, _+_, _*_, _≤_, _<_}
+use Prim.Native.Nat.{ℕ, _+_, _<_}
 use mathlib.Core.Path.{_≡_, refl, sym, ap, _∙_}
 use mathlib.Core.Bool.{Bool, not}
 use mathlib.Core.List.{List}
 use native.Mathlib.Nat.{le-refl}
 use native.Mathlib.Omega.{arith}
 use lib.Dec.{eqb}
-use lib.ListN.{length, getD}
+use lib.ListN.{getD}
 use Rattle.theory.specs.Lists.{Filled, tab, written}
 use Rattle.theory.specs.Loop.{tab-at, tab-length, filled-all, filled-as}
-use Rattle.theory.specs.Part.{modelOf}
 use Rattle.theory.specs.Test.{allBelow}
 use Rattle.theory.specs.TestLaws.{all-cong}
 use Rattle.elements.specs.declared.Lattice.{Lattice}
 use Rattle.elements.specs.Words.{codeIn, decodeIn, Coded}
-use Rattle.rounds.specs.Table.{tableOf, Shaped, rowSame, entryIn, RowIn, rowSameIn}
+use Rattle.rounds.specs.Table.{Shaped, rowSame, entryIn, RowIn, rowSameIn}
 use Rattle.rounds.specs.Row.{RowAt, RowSoFar, RowOut, rowSameAs, row-written}
 use Rattle.rounds.specs.Rows.{Rows}
-use Rattle.rounds.specs.Codes.{tableCode, tableIn, byRow, byColumn, innerCode, entryCode, rowFrom, TableIn, EntryCodes, Prepared, row-from-code, entry-decoded}
+use Rattle.rounds.specs.Codes.{tableCode, tableIn, byRow, byColumn, innerCode, rowFrom, TableIn, EntryCodes, Prepared, row-from-code, entry-decoded}
 
 tab-cong : (f g : ℕ → ℕ) (n : ℕ) → ((i : ℕ) → i < n → f i ≡ g i) → tab f n 0 ≡ tab g n 0
 tab-cong f g n h = sym (filled-all {f = f} (record { at = λ i l. tab-at g n i l ∙ sym (h i l) }) (tab-length g n 0) (le-refl n))

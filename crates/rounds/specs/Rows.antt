@@ -1,22 +1,44 @@
--- Tables of words with 64 to a row, filled by columns, and words that are replaced where they stand. Rests on theory's Loop and Lists.
---   Rows: the words are as a rule says; rows-empty, rows-column, columns-all: the columns so far
+-- Tables of words with 64 to a row, filled by rows or by columns, and words that are replaced where they stand. Rests on theory's Loop, Lists and Written.
+--   Rows: the words are as a rule says; rows-none, rows-more, rows-all: the rows so far; rows-empty, rows-column, columns-all: the columns so far
 --   Spread, spread-none, spread-more, spread-all, spread-as: what is written into one column
 --   Replaced, replaced-none, replaced-more, replaced-all, replaced-same, replaced-as: each of the first words is replaced by a rule
---   Folds, folds-none, folds-more, folds-all, filled-same: a row of folds, each word of which is replaced at each turn
-use Prim.Native.Nat.{ℕ, _+_, _*_, _≤_, _<_}
+--   Folds, folds-none, folds-more, folds-block, folds-all, filled-same: a row of folds, each word of which is replaced at each turn
+use Prim.Native.Nat.{ℕ, zero, suc, _+_, _*_, _≤_, _<_}
 use mathlib.Core.Path.{_≡_, refl, sym, ap, _∙_}
 use mathlib.Core.Logic.{⊎-elim}
 use mathlib.Core.List.{List}
-use native.Mathlib.Nat.{not-suc-le-zero, eq-or-lt-of-le}
+use native.Mathlib.Nat.{add-zero, add-suc, not-suc-le-zero, eq-or-lt-of-le}
 use native.Mathlib.Omega.{arith}
 use lib.ListN.{length, getD, set, length-set, replicate, getD-replicate}
 use lib.Seq.{getD-set-same, getD-set-other}
-use Rattle.theory.specs.Lists.{Filled}
-use Rattle.theory.specs.Loop.{fold, folded-none, folded-more}
+use Rattle.theory.specs.Lists.{Filled, tab, written}
+use Rattle.theory.specs.Loop.{tab-length, fold, folded-none, folded-more}
+use Rattle.theory.specs.Written.{written-before, slice-at}
 
 -- row q of n₁ rows of n₂ words is as the rule says
 pub record Rows (f : ℕ → ℕ → ℕ) (n₁ n₂ : ℕ) (xs : List ℕ) : Type 0 where
   pub at : (q r : ℕ) → q < n₁ → r < n₂ → getD xs (q * 64 + r) 0 ≡ f q r
+
+-- ---- by rows
+
+pub rows-none : {f : ℕ → ℕ → ℕ} {n₂ : ℕ} {xs : List ℕ} → Rows f 0 n₂ xs
+rows-none = record { at = λ q r l m. absurd (not-suc-le-zero l) }
+
+-- one row more, written
+pub rows-more : {f : ℕ → ℕ → ℕ} {n₁ n₂ : ℕ} {xs ys : List ℕ} (g : ℕ → ℕ) → Rows f n₁ n₂ xs → n₂ ≤ 64 → n₁ * 64 + 64 ≤ length xs → ys ≡ written (n₁ * 64) (tab g n₂ 0) xs → ((r : ℕ) → r < n₂ → g r ≡ f n₁ r) → Rows f (n₁ + 1) n₂ ys
+rows-more {f} {n₁} {n₂} {xs} {ys} g h m fits e same =
+    let n = tab-length g n₂ 0 in
+    let room : n₁ * 64 + length (tab g n₂ 0) ≤ length xs = omega (arith, n) in
+    record {
+      at = λ q r i j.
+          ⊎-elim
+          (λ (p : q ≡ n₁). rw p (slice-at (n₁ * 64) g n₂ xs e (omega arith) r j ∙ same r j))
+          (λ (p : q < n₁). rw e (written-before (n₁ * 64) (tab g n₂ 0) xs room (q * 64 + r) (omega arith) ∙ h .at q r p j))
+          (eq-or-lt-of-le (omega arith));
+    }
+
+pub rows-all : {f : ℕ → ℕ → ℕ} {n i n₂ : ℕ} {xs : List ℕ} → Rows f i n₂ xs → i ≤ n → n ≤ i → Rows f n n₂ xs
+rows-all {n = n} {i = i} u p q = let e : i ≡ n = omega arith in rw e at u
 
 -- ---- by columns
 
@@ -119,6 +141,18 @@ module _ {g : ℕ → ℕ → ℕ} {start : ℕ → ℕ} {f : ℕ → ℕ → �
 
   pub folds-all : {i k : ℕ} {xs : List ℕ} → Folds g start f i n xs → i ≤ k → k ≤ i → Filled (λ q. fold g (start q) (f q) k) n xs
   folds-all {i} {k} h a b = let e : i ≡ k = omega arith in record { at = rw e at (h .at) }
+
+-- a fold that goes on from a fold
+fold-on : (g : ℕ → ℕ → ℕ) (start : ℕ) (f : ℕ → ℕ) (k n : ℕ) → fold g (fold g start f k) (λ j. f (k + j)) n ≡ fold g start f (k + n)
+unfolding fold
+fold-on g start f k zero = ap (fold g start f) (sym (add-zero k))
+fold-on g start f k (suc n) = ap (λ (x : ℕ). g x (f (k + n))) (fold-on g start f k n) ∙ ap (fold g start f) (sym (add-suc k n))
+
+-- n turns at once
+pub folds-block : {g : ℕ → ℕ → ℕ} {start : ℕ → ℕ} {f : ℕ → ℕ → ℕ} {k n : ℕ} {before out : List ℕ} {r : ℕ → ℕ → ℕ} (m : ℕ) → Folds g start f k n before → Replaced r n before out → ((q x : ℕ) → r q x ≡ fold g x (λ j. f q (k + j)) m) → Folds g start f (k + m) n out
+folds-block {g} {start} {f} {k} m h u e = record {
+  at = λ q l. u .at q l ∙ e q _ ∙ ap (λ (x : ℕ). fold g x (λ j. f q (k + j)) m) (h .at q l) ∙ fold-on g (start q) (f q) k m;
+}
 
 -- the same word everywhere
 pub filled-same : (x n : ℕ) → n ≤ 64 → Filled (λ q. x) n (replicate 64 x)

@@ -158,7 +158,7 @@ pub fn score(w: &Codes, l: Lattice, m1: &[u8], m2: &[u8], s: &[u8]) -> Element
     let mut x = elements::code(w, l.top);
     for q in 0..n1 {
         elements::encode(w, s, q * n2, n2, &mut entries, 0);
-        let y = joined(&right, &entries, n2);
+        let y = joined(&right, &entries, 0, n2);
         let z = elements::negated_code(w, model::initial(m1, State(q as u8)));
         x = x & (z | y);
     }

@@ -1,18 +1,19 @@
-// The codes of one row's entries of F. Of what is read, a row of values at a time is turned into codes, and worked by & and | alone. A transition of
-// model 1 that is bottom is passed over: it takes nothing from a meet.
+// The codes of one row's entries of F. Of what is read, 16 rows of a table at a time are turned into codes, and worked by & and | alone. A
+// transition of model 1 that is bottom is passed over: it takes nothing from a meet.
 use elements::Codes;
 use elements::Element;
 use model::Proposition;
 use model::State;
 ghost use mathlib.Core.Path.{_≡_};
-ghost use Prim.Native.Nat.{ℕ, _+_, _*_, _≤_, _<_};
+ghost use Prim.Native.Nat.{_+_, _*_, _≤_, _<_};
 ghost use lib.Bits.{bitAnd, bitOr};
 ghost use lib.ListN.{length, getD};
 ghost use Rattle.theory.specs.Part.{modelOf, ModelShape};
 ghost use Rattle.theory.specs.Lists.{Filled};
+ghost use Rattle.elements.specs.Laws.{Within};
 ghost use Rattle.rounds.specs.Table.{Shaped};
-ghost use Rattle.rounds.specs.Rows.{Replaced};
-ghost use Rattle.rounds.specs.Codes.{ModelPair, tableIn, joinCode, innerCode, iffCode, propositionsCode, WithinTop, EntryCodes};
+ghost use Rattle.rounds.specs.Rows.{Rows, Replaced};
+ghost use Rattle.rounds.specs.Codes.{ModelPair, tableCode, tableIn, joinCode, blockCode, innerBlock, iffCode, propositionsCode, WithinTop, EntryCodes};
 
 // ---- propositions
 
@@ -54,42 +55,103 @@ pub(crate) fn propositions(
 
 // ---- successors
 
-// The join of the first n words of `row`, each met with that of `entries` at its place.
-pub(crate) fn joined(row: &[u64; 64], entries: &[u64; 64], n: usize) -> u64
-    requires { ⌜ n ≤ 64 ⌝ }
-    ensures { λ r. ⌜ r ≡ joinCode (now (row .entry)) (now (entries .entry)) n ⌝ }
+// 16 rows of a table, in codes, 64 to a row.
+type Block = [u64; 1024];
+
+// The codes of k rows of n2 entries of the table s, from row `first` on.
+fn encode_rows(w: &Codes, s: &[u8], first: usize, k: usize, n2: usize, out: &mut [u64])
+    requires { ⌜ (first ≤ 64) × (k ≤ 16) × (n2 ≤ 64) × ((first + k) * n2 ≤ length (now s)) × (length (now out) ≡ 1024) ⌝ }
+    ensures { λ _. ⌜ Rows (λ j. tableCode (now (w .entry)) (now (s .entry)) n2 (first + j)) k n2 (now (out .exit)) ⌝ }
+{
+    for j in 0..k {
+        elements::encode(w, s, (first + j) * n2, n2, out, j * 64);
+    }
+}
+
+// The join of the first n words of `row`, each met with that at its place from `at` on.
+pub(crate) fn joined(row: &[u64; 64], table: &[u64], at: usize, n: usize) -> u64
+    requires { ⌜ (n ≤ 64) × (at + n ≤ length (now table)) ⌝ }
+    ensures { λ r. ⌜ r ≡ joinCode (now (row .entry)) (now (table .entry)) at n ⌝ }
 {
     let mut x: u64 = 0;
     for i in 0..n {
-        x = x | (row[i] & entries[i]);
+        x = x | (row[i] & table[at + i]);
     }
     x
 }
 
-// Meets each word of a row, of q2 for each q2, with the join of c and the inner join of q and q2: that over q2' of R2(q2, q2') met with
-// entry (q, q2') of the table s. Where c is the top's code, nothing changes.
-fn meet_joins(w: &Codes, top: u64, c: u64, m2: &[u8], s: &[u8], q: State, out: &mut [u64])
-    requires { ⌜ ModelShape (now m2) × (q .0 * getD (now m2) 0 0 + getD (now m2) 0 0 ≤ length (now s)) × (length (now out) ≡ 64)
-        × WithinTop top (getD (now m2) 0 0) (now out) ⌝ }
-    ensures { λ _. ⌜ Replaced (λ q₂ x. bitAnd x (bitOr c (innerCode (now (w .entry)) (now (m2 .entry)) (tableIn (now (w .entry)) (now (m2 .entry)) (now (s .entry)))
-        q₂ (q .0)))) (getD (now (m2 .entry)) 0 0) (now (out .entry)) (now (out .exit)) ⌝ }
+// An entry's word x, which is within `top`, met with the join of c and that of `row` with the words from `at` on. Where c is the top's code,
+// x stays.
+fn met_with(x: u64, top: u64, c: u64, row: &[u64; 64], block: &Block, at: usize, n: usize) -> u64
+    requires { ⌜ (n ≤ 64) × (at + n ≤ 1024) × Within x top ⌝ }
+    ensures { λ r. ⌜ r ≡ bitAnd x (bitOr c (joinCode (now (row .entry)) (now (block .entry)) at n)) ⌝ }
 {
     if c == top {
-        return;
+        return x;
     }
+    x & (c | joined(row, block, at, n))
+}
+
+// The same with each of the k rows of a block, of states from `first` on: `left` has the codes of the complements of the transitions to them.
+fn met_block(
+    x: u64,
+    top: u64,
+    left: &[u64; 64],
+    first: usize,
+    k: usize,
+    row: &[u64; 64],
+    block: &Block,
+    n: usize,
+) -> u64
+    requires { ⌜ (first + k ≤ 64) × (k ≤ 16) × (n ≤ 64) × Within x top ⌝ }
+    ensures { λ r. ⌜ r ≡ blockCode x (now (left .entry)) first (now (row .entry)) (now (block .entry)) n k ⌝ }
+{
+    let mut y = x;
+    for j in 0..k {
+        y = met_with(y, top, left[first + j], row, block, j * 64, n);
+    }
+    y
+}
+
+// Meets each word of a row, of q2 for each q2, with what k states of model 1 from `first` on give.
+fn meet_block(
+    w: &Codes,
+    top: u64,
+    left: &[u64; 64],
+    m2: &[u8],
+    s: &[u8],
+    first: usize,
+    k: usize,
+    out: &mut [u64],
+)
+    requires { ⌜ ModelShape (now m2) × (first + k ≤ 64) × (k ≤ 16) × ((first + k) * getD (now m2) 0 0 ≤ length (now s)) × (length (now out) ≡ 64)
+        × WithinTop top (getD (now m2) 0 0) (now out) ⌝ }
+    ensures { λ _. ⌜ Replaced (λ q₂ x. innerBlock x (now (w .entry)) (now (left .entry)) (now (m2 .entry)) (now (s .entry)) first k q₂)
+        (getD (now (m2 .entry)) 0 0) (now (out .entry)) (now (out .exit)) ⌝ }
+{
     let n2 = model::states(m2);
-    let mut entries = [0u64; 64];
-    elements::encode(w, s, elements::index(q.0) * n2, n2, &mut entries, 0);
+    let mut block = [0u64; 1024];
+    encode_rows(w, s, first, k, n2, &mut block);
     let mut row = [0u64; 64];
     for q2 in 0..n2 {
         model::transition_codes(w, m2, State(q2 as u8), false, &mut row, 0);
-        out[q2] = out[q2] & (c | joined(&row, &entries, n2));
+        out[q2] = met_block(out[q2], top, left, first, k, &row, &block, n2);
     }
 }
 
 // ---- rows
 
-// The codes of row q1 of F of the table s: its propositions, then one q1' after another.
+// The least of 16 and n.
+fn at_most_16(n: usize) -> usize
+    ensures { λ r. ⌜ (r ≤ 16) × (r ≤ n) × (0 < n → 0 < r) ⌝ }
+{
+    if n < 16 {
+        return n;
+    }
+    16
+}
+
+// The codes of row q1 of F of the table s: its propositions, then what the states of model 1 give, 16 at a time.
 pub(crate) fn row_codes(
     w: &Codes,
     top: u64,
@@ -104,10 +166,13 @@ pub(crate) fn row_codes(
         (now (out .exit)) ⌝ }
 {
     let n1 = model::states(m1);
+    let mut left = [0u64; 64];
+    model::transition_codes(w, m1, q1, true, &mut left, 0);
     propositions(w, top, m1, m2, q1, out);
-    for q in 0..n1 {
-        let r = State(q as u8);
-        let c = elements::negated_code(w, model::transition(m1, q1, r));
-        meet_joins(w, top, c, m2, s, r, out);
+    let mut q: usize = 0;
+    while q < n1 {
+        let k = at_most_16(n1 - q);
+        meet_block(w, top, &left, m2, s, q, k, out);
+        q += k;
     }
 }

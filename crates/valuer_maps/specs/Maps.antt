@@ -5,7 +5,7 @@
 --   implied: the meet over the values v of v → f, which AX and the value on a whole model are
 --   map-decoded: a word is turned back into the value; map-same: equal words, equal values
 use Prim.Native.Nat.{ℕ, _≤_, _<_}
-use mathlib.Core.Path.{_≡_, refl, sym, ap, _∙_}
+use mathlib.Core.Path.{_≡_, sym, ap, _∙_}
 use mathlib.Core.Bool.{Bool, true, false, cond}
 use mathlib.Core.List.{List}
 use native.Mathlib.Omega.{arith}

@@ -98,9 +98,6 @@ module _ {p : ℕ → Bool} {at : ℕ} {before : List ℕ} where
         same-length = refl;
       }
 
-  pub listed-few : {r k : ℕ} {xs : List ℕ} → ListedSoFar p at r k before xs → k ≤ r
-  listed-few {r} h = rw (h .count-is) (count-below r p)
-
   -- one state more: it is written, and stays where it passes
   pub listed-more : {r k d : ℕ} {xs : List ℕ} → ListedSoFar p at r k before xs → at + 1 + k < length xs → d ≡ indicator (p r) → ListedSoFar p at (r + 1) (k + d) before (set xs (at + 1 + k) r)
   listed-more {r} {k} {d} {xs} h fits e =

@@ -1,7 +1,7 @@
 -- `rounds::is_simulation` meets its contract: the rows below q1 are equal. Assumes nothing.
-use mathlib.Core.Path.{_≡_, refl, sym, _∙_}
+use mathlib.Core.Path.{refl, sym, _∙_}
 use Prim.Native.Nat.{_≤_, _<_, _-_}
-use lib.ListN.{length, getD}
+use lib.ListN.{getD}
 use borrow.Author.Tests.{not-true, not-false}
 use Rattle.theory.specs.Loop.{Passed, passed-none, passed-more, passed-stop, passed-all}
 use Rattle.model.specs.Places.{prod-le}

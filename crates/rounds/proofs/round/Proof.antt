@@ -1,13 +1,13 @@
 -- `rounds::round` meets its contract: the rows below q1 are worked. Assumes nothing.
-use mathlib.Core.Path.{_≡_, refl, _∙_}
+use mathlib.Core.Path.{refl}
 use Prim.Native.Nat.{_≤_, _<_, _-_}
-use lib.ListN.{length, getD}
+use lib.ListN.{getD}
 use Rattle.theory.specs.Part.{modelOf}
 use Rattle.model.specs.Places.{prod-le}
 use Rattle.rounds.specs.Table.{tableOf, FIn}
 use Rattle.rounds.specs.Row.{row-at}
 use Rattle.rounds.specs.Round.{RoundSoFar, round-none, round-more, round-reached}
-use Rattle.rounds.specs.Codes.{Prepared, model-pair}
+use Rattle.rounds.specs.Codes.{model-pair}
 use Rattle.rounds.specs.RowCodes.{prepared-codes, row-top, row-in}
 use borrow.Author.Needs.{needs}
 use native.Mathlib.Omega.{arith}

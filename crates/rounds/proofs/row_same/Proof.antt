@@ -1,5 +1,5 @@
 -- `rounds::row_same` meets its contract: the entries below q are equal. Assumes nothing.
-use mathlib.Core.Path.{_≡_, refl, sym, _∙_}
+use mathlib.Core.Path.{refl}
 use Prim.Native.Nat.{_+_, _≤_, _-_}
 use lib.Dec.{eqb}
 use lib.ListN.{getD}

@@ -3,12 +3,11 @@ use mathlib.Core.Path.{_≡_, refl, ap, ap₂, _∙_}
 use Prim.Native.Nat.{_≤_, _-_}
 use lib.Bits.{bitAnd, bitOr}
 use lib.ListN.{length, getD}
-use Rattle.theory.specs.Lists.{Filled}
 use Rattle.theory.specs.Loop.{Folded, folded-none, folded-more, folded-all}
 use Rattle.elements.specs.Words.{codeIn, negatedCodeIn, decodeIn}
 use Rattle.model.specs.Places.{row-le, prod-le}
 use Rattle.rounds.specs.Row.{held-by}
-use Rattle.rounds.specs.Codes.{initialCode, scorePart, score-join, score-decoded}
+use Rattle.rounds.specs.Codes.{scorePart, score-join, score-decoded}
 use borrow.Author.Needs.{needs}
 use native.Mathlib.Omega.{arith}
 use Rattle.rounds.proofs.score.Statement.{statement}
@@ -54,5 +53,5 @@ returns c =
 pub score-spec : {M : Type 1} → statement M
 score-spec =
     tie.close (tie.spec Inv-loop μ-loop (λ c κs. search needs) (λ c κs. search needs) (λ c. search needs) (λ c κs. search needs) (λ c κs. search needs)
-    loop-holds mul-encode (λ c. search needs) encode-requires (λ c κs. search needs) (λ c. search needs) (λ c κs. search needs)
+    loop-holds mul-encode (λ c. search needs) encode-requires (λ c. search needs) (λ c κs. search needs) (λ c. search needs) (λ c κs. search needs)
     (λ c κs. search needs) (λ c. search needs) (λ c. search needs) loop-again (λ c κs. search needs) returns)

@@ -7,7 +7,7 @@ use lib.ListN.{getD}
 use borrow.Author.Needs.{needs}
 use Rattle.theory.specs.Loop.{Folded, folded-none, folded-more, folded-all}
 use Rattle.theory.specs.Part.{modelOf}
-use Rattle.elements.specs.Words.{codeIn, negatedCodeIn}
+use Rattle.elements.specs.Words.{negatedCodeIn}
 use Rattle.valuer.proofs.from_initial.Statement.{statement}
 use Rattle.valuer.proofs.from_initial.Tie as tie
 

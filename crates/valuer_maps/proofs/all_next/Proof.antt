@@ -1,6 +1,6 @@
 -- `valuer_maps::all_next` meets its contract: the meet so far, over the successors.
 use mathlib.Core.Path.{refl, ap₂, _∙_}
-use Prim.Native.Nat.{ℕ, _+_, _*_, _≤_, _<_, _-_}
+use Prim.Native.Nat.{ℕ, _+_, _≤_, _-_}
 use native.Mathlib.Omega.{arith}
 use lib.Bits.{bitAnd, bitOr}
 use lib.ListN.{getD}

@@ -1,5 +1,5 @@
 -- `valuer_maps::next_values` meets its contract: the words so far are those of AX or EX.
-use mathlib.Core.Path.{_≡_, refl, ap}
+use mathlib.Core.Path.{_≡_, ap}
 use Prim.Native.Nat.{ℕ, _≤_, _-_}
 use native.Mathlib.Omega.{arith}
 use lib.ListN.{length, length-set}

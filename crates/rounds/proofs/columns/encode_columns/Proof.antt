@@ -1,6 +1,6 @@
 -- `rounds::encode_columns` meets its contract: the columns below q are written. Assumes nothing.
 use mathlib.Core.Path.{_≡_, refl, sym, _∙_}
-use Prim.Native.Nat.{ℕ, _+_, _*_, _≤_, _-_}
+use Prim.Native.Nat.{_+_, _*_, _≤_, _-_}
 use lib.ListN.{length, getD}
 use Rattle.elements.specs.Words.{codeIn}
 use Rattle.model.specs.Places.{row-le, prod-le}

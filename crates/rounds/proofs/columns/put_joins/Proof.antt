@@ -1,13 +1,13 @@
 -- `rounds::put_joins` meets its contract: the joins over the states below r, then their column. Assumes nothing.
-use mathlib.Core.Path.{_≡_, refl, sym, ap, ap₂, _∙_}
+use mathlib.Core.Path.{_≡_, refl, ap, _∙_}
 use mathlib.Core.Bool.{false}
-use Prim.Native.Nat.{ℕ, _+_, _*_, _≤_, _<_, _-_}
+use Prim.Native.Nat.{ℕ, _≤_, _-_}
 use lib.Bits.{bitAnd, bitOr}
 use lib.ListN.{length, getD}
 use Rattle.elements.specs.Words.{codeIn}
 use Rattle.model.specs.Reading.{leavingCode}
 use Rattle.rounds.specs.Rows.{spread-as, Folds, folds-none, folds-more, folds-all, filled-same}
-use Rattle.rounds.specs.Codes.{byColumn, innerCode}
+use Rattle.rounds.specs.Codes.{byColumn}
 use borrow.Author.Needs.{needs}
 use native.Mathlib.Omega.{arith}
 use Rattle.rounds.proofs.columns.put_joins.Statement.{statement}

@@ -1,5 +1,5 @@
 -- `rounds::row_from` meets its contract: the meets over the states below q. Assumes nothing.
-use mathlib.Core.Path.{_≡_, refl, ap, _∙_}
+use mathlib.Core.Path.{_≡_, ap, _∙_}
 use mathlib.Core.Bool.{true}
 use Prim.Native.Nat.{ℕ, _≤_, _-_}
 use lib.Bits.{bitAnd, bitOr}
@@ -7,7 +7,7 @@ use lib.ListN.{length, getD}
 use Rattle.elements.specs.Words.{negatedCodeIn}
 use Rattle.model.specs.Reading.{leavingCode}
 use Rattle.rounds.specs.Rows.{Folds, folds-none, folds-more, folds-all}
-use Rattle.rounds.specs.Codes.{byRow, propositionsCode, row-within}
+use Rattle.rounds.specs.Codes.{byRow, propositionsCode, propositions-within, folds-within}
 use borrow.Author.Needs.{needs}
 use native.Mathlib.Omega.{arith}
 use Rattle.rounds.proofs.columns.row_from.Statement.{statement}
@@ -33,7 +33,7 @@ meet-with-requires c κs =
     let e₁ = c .before .before .before .before .before .before .before .before .states .ensures in
     let e₂ = c .before .before .before .before .before .before .before .states2 .ensures in
     let p = b .pre .0 in
-    (omega (arith, e₂, p .second .states-most), omega (arith, e₁, e₂, p .first .states-most, p .second .states-most), i .1, row-within (b .args .w .now) (b .args .top) (b .args .m1 .now) (b .args .m2 .now) (b .args .q1 .0) _ _ (i .2))
+    (omega (arith, e₂, p .second .states-most), omega (arith, e₁, e₂, p .first .states-most, p .second .states-most), i .1, folds-within (b .args .top) _ _ (λ r l. propositions-within (b .args .w .now) (b .args .top) (b .args .m1 .now) (b .args .m2 .now) (b .args .q1 .0) r) (i .2))
 
 loop-again : tie.Need-loop-again Inv-loop μ-loop
 loop-again c =

@@ -1,6 +1,6 @@
 -- `rounds::spread` meets its contract: the words below i are written. Assumes nothing.
-use mathlib.Core.Path.{_≡_, refl, _∙_}
-use Prim.Native.Nat.{_+_, _*_, _≤_, _-_}
+use mathlib.Core.Path.{_≡_, refl}
+use Prim.Native.Nat.{_≤_, _-_}
 use lib.ListN.{length, getD, length-set}
 use Rattle.rounds.specs.Rows.{Spread, spread-none, spread-more, spread-all}
 use borrow.Author.Needs.{needs}

@@ -1,6 +1,6 @@
 -- `rounds::joined` meets its contract: the join so far. Assumes nothing.
 use mathlib.Core.Path.{refl}
-use Prim.Native.Nat.{_≤_, _-_}
+use Prim.Native.Nat.{_+_, _≤_, _-_}
 use lib.Bits.{bitAnd, bitOr}
 use lib.ListN.{getD}
 use Rattle.theory.specs.Loop.{Folded, folded-none, folded-more, folded-all}
@@ -10,10 +10,10 @@ use Rattle.rounds.proofs.words.joined.Statement.{statement}
 use Rattle.rounds.proofs.words.joined.Tie as tie
 
 abbrev Inv-loop : tie.InvT-loop
-Inv-loop row entries n x₀ i₀ x i = (i ≤ n) × Folded bitOr 0 (λ i. bitAnd (getD row i 0) (getD entries i 0)) i x
+Inv-loop row table at n x₀ i₀ x i = (i ≤ n) × Folded bitOr 0 (λ i. bitAnd (getD row i 0) (getD table (at + i) 0)) i x
 
 abbrev μ-loop : tie.MeasureT-loop
-μ-loop row entries n x₀ i₀ x i = n - i
+μ-loop row table at n x₀ i₀ x i = n - i
 
 loop-holds : tie.Need-loop-holds Inv-loop μ-loop
 loop-holds c = (omega arith, folded-none)
@@ -27,4 +27,4 @@ returns c = folded-all (c .before .loop .inv .1) (c .before .loop .inv .0) (c .l
 pub joined-spec : {M : Type 1} → statement M
 joined-spec =
     tie.close (tie.spec Inv-loop μ-loop loop-holds (λ c. search needs) (λ c. search needs) (λ c. search needs)
-    (λ c. search needs) (λ c. search needs) (λ c. search needs) loop-again returns)
+    (λ c. search needs) (λ c. search needs) (λ c. search needs) (λ c. search needs) loop-again returns)

@@ -1,5 +1,5 @@
 -- `rounds::meet_equivalent` meets its contract: the words below q are replaced. Assumes nothing.
-use mathlib.Core.Path.{_≡_, refl, ap, ap₂, _∙_}
+use mathlib.Core.Path.{_≡_, ap, ap₂, _∙_}
 use Prim.Native.Nat.{ℕ, _≤_, _-_}
 use lib.Bits.{bitAnd, bitOr}
 use lib.ListN.{length, getD, length-set}

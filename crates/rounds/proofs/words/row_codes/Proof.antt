@@ -1,59 +1,73 @@
 -- `rounds::row_codes` meets its contract: the meets over the states below q. Assumes nothing.
-use mathlib.Core.Path.{_≡_, refl, ap, _∙_}
-use mathlib.Core.Bool.{true}
-use Prim.Native.Nat.{ℕ, _≤_, _-_}
-use native.Mathlib.Nat.{le-refl}
+use mathlib.Core.Path.{_≡_, refl, _∙_}
+use Prim.Native.Nat.{ℕ, _+_, _≤_, _-_}
+use native.Mathlib.Nat.{le-refl, mul-le-mul-right}
 use lib.Bits.{bitAnd, bitOr}
 use lib.ListN.{length, getD}
 use Rattle.theory.specs.Loop.{filled-as}
-use Rattle.elements.specs.Words.{negatedCodeIn}
-use Rattle.model.specs.Places.{row-le}
-use Rattle.model.specs.Reading.{leavingCode}
-use Rattle.rounds.specs.Rows.{Folds, folds-none, folds-more, folds-all}
-use Rattle.rounds.specs.Codes.{tableIn, innerCode, propositionsCode, model-pair, row-within, row-from-code}
+use Rattle.rounds.specs.Rows.{Folds, folds-none, folds-block, folds-all}
+use Rattle.rounds.specs.Codes.{tableIn, innerCode, model-pair, WithinTop, propositions-within, folds-within, left-rows, row-from-code}
 use borrow.Author.Needs.{needs}
 use native.Mathlib.Omega.{arith}
 use Rattle.rounds.proofs.words.row_codes.Statement.{statement}
 use Rattle.rounds.proofs.words.row_codes.Tie as tie
 
 abbrev Inv-loop : tie.InvT-loop
-Inv-loop w top m1 m2 s q1 out₀ n1 q₀ out q =
-    (q ≤ n1) × (length out ≡ 64) × Folds bitAnd (propositionsCode w top m1 m2 (q1 .0)) (λ r i. bitOr (leavingCode true w m1 (q1 .0) i) (innerCode w m2 (tableIn w m2 s) r i)) q (getD m2 0 0) out
+Inv-loop w top m1 m2 s out₀ n1 left q₀ out q =
+    (q ≤ n1) × (length out ≡ 64) × WithinTop top (getD m2 0 0) out₀
+    × Folds bitAnd (λ r. getD out₀ r 0) (λ r i. bitOr (getD left i 0) (innerCode w m2 (tableIn w m2 s) r i)) q (getD m2 0 0) out
 
 abbrev μ-loop : tie.MeasureT-loop
-μ-loop w top m1 m2 s q1 out₀ n1 q₀ out q = n1 - q
+μ-loop w top m1 m2 s out₀ n1 left q₀ out q = n1 - q
+
+transition-codes-requires : tie.Need-transition-codes-requires Inv-loop μ-loop
+transition-codes-requires c κs = let p = c .before .before .before .before .before .pre in (p .0 .first, p .1, omega (arith, p .0 .first .states-most))
 
 propositions-requires : tie.Need-propositions-requires Inv-loop μ-loop
-propositions-requires c κs = (model-pair (c .before .before .before .before .before .pre .0), c .before .before .before .before .before .pre .1)
+propositions-requires c κs = (model-pair (c .before .before .before .before .before .before .before .before .pre .0), c .before .before .before .before .before .before .before .before .pre .1)
 
 loop-holds : tie.Need-loop-holds Inv-loop μ-loop
-loop-holds c = (omega arith, c .propositions .ensures .0, folds-none (c .propositions .ensures .1))
+loop-holds c =
+    let a = c .before .before .before .before .before .before .before .before .before .args in
+    let e = c .propositions .ensures in
+    (omega arith, e .0, record { at = λ r l. rw (e .1 .at r l) (propositions-within (a .w .now) (a .top) (a .m1 .now) (a .m2 .now) (a .q1 .0) r) }, folds-none (record { at = λ r l. refl }))
 
-meet-joins-requires : tie.Need-meet-joins-requires Inv-loop μ-loop
-meet-joins-requires c κs =
-    let b = c .before .before .before .before .before .before .before .before .before .before .before in
+meet-block-requires : tie.Need-meet-block-requires Inv-loop μ-loop
+meet-block-requires c κs =
+    let b = c .before .before .before .before .before .before .before .before .before .before .before .before .before .before in
     let a = b .args in
     let i = c .before .before .before .before .loop .inv in
     let h = b .pre .0 in
-    (h .second, omega (arith, h .held, row-le (c .before .before .before .before .loop .q) (getD (a .m1 .now) 0 0) (getD (a .m2 .now) 0 0) (omega (arith, c .before .before .before .before .before .before .before .states .ensures))), i .1, row-within (a .w .now) (a .top) (a .m1 .now) (a .m2 .now) (a .q1 .0) _ _ (i .2))
+    let e = c .before .before .before .before .before .before .before .before .before .before .states .ensures in
+    let k = c .before .before .at-most-16 .ensures in
+    let l : c .before .before .before .before .loop .q + c .before .before .at-most-16 .result ≤ getD (a .m1 .now) 0 0 = omega (arith, k .1, e) in
+    (h .second, omega (arith, l, h .first .states-most), k .0, omega (arith, mul-le-mul-right (getD (a .m2 .now) 0 0) l, h .held), i .1, folds-within (a .top) _ _ (i .2 .at) (i .3))
+
+loop-less : tie.Need-loop-less Inv-loop μ-loop
+loop-less c = let k = c .before .before .before .at-most-16 .ensures in omega (arith, k .1, k .2 (omega arith))
 
 loop-again : tie.Need-loop-again Inv-loop μ-loop
 loop-again c =
     let i = c .before .before .before .before .before .loop .inv in
-    let a = c .before .before .before .before .before .before .before .before .before .before .before .before .args in
-    let u = c .meet-joins .ensures in
-    let q = c .before .before .before .before .before .loop .q in
-    (omega arith, u .same-length ∙ i .1, folds-more (i .2) u (λ r x. ap (λ (y : ℕ). bitAnd x (bitOr y (innerCode (a .w .now) (a .m2 .now) (tableIn (a .w .now) (a .m2 .now) (a .s .now)) r q))) (c .before .before .negated-code .ensures ∙ ap (negatedCodeIn (a .w .now)) (c .before .before .before .transition .ensures))))
+    let u = c .meet-block .ensures in
+    let k = c .before .before .before .at-most-16 .ensures in
+    (omega (arith, k .1), u .same-length ∙ i .1, i .2, folds-block (c .before .before .before .at-most-16 .result) (i .3) u (λ r x. refl))
 
 returns : tie.Need-returns Inv-loop μ-loop
 returns c =
-    let a = c .before .before .before .before .before .before .before .before .args in
-    let e = c .before .before .before .before .states .ensures in
+    let b = c .before .before .before .before .before .before .before .before .before .before .before in
+    let a = b .args in
+    let e = c .before .before .before .before .before .before .before .states .ensures in
     let S = tableIn (a .w .now) (a .m2 .now) (a .s .now) in
-    let f = folds-all {k = getD (a .m1 .now) 0 0} (c .before .loop .inv .2) (omega arith) (omega arith) in
-    record { filled = filled-as f (le-refl _) (λ r l. row-from-code (a .w .now) (a .top) (a .m1 .now) (a .m2 .now) S (λ i r. innerCode (a .w .now) (a .m2 .now) S r i) (a .q1 .0) r (λ i k. refl)) }
+    let J : ℕ → ℕ → ℕ = λ i r. innerCode (a .w .now) (a .m2 .now) S r i in
+    let f = folds-all {k = getD (a .m1 .now) 0 0} (c .before .loop .inv .3) (omega arith) (omega arith) in
+    record {
+      filled = filled-as f (le-refl _)
+          (λ r l. left-rows (a .w .now) (a .top) (a .m1 .now) (a .m2 .now) J (a .q1 .0) r _ (c .before .before .before .before .before .transition-codes .ensures) (omega (arith, b .pre .0 .first .states-most)) (c .before .before .propositions .ensures .1 .at r l)
+          ∙ row-from-code (a .w .now) (a .top) (a .m1 .now) (a .m2 .now) S J (a .q1 .0) r (λ i k. refl));
+    }
 
 pub row-codes-spec : {M : Type 1} → statement M
 row-codes-spec =
-    tie.close (tie.spec Inv-loop μ-loop (λ c κs. search needs) propositions-requires loop-holds (λ c. search needs) (λ c κs. search needs)
-    (λ c κs. search needs) meet-joins-requires (λ c. search needs) (λ c. search needs) loop-again returns)
+    tie.close (tie.spec Inv-loop μ-loop (λ c κs. search needs) (λ c. search needs) transition-codes-requires propositions-requires loop-holds
+    (λ c. search needs) (λ c κs. search needs) meet-block-requires (λ c. search needs) loop-less loop-again returns)

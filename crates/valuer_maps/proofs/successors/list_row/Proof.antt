@@ -1,13 +1,13 @@
 -- `valuer_maps::list_row` meets its contract: the states below r are listed, k of them.
 use mathlib.Core.Path.{_≡_, sym, ap, _∙_}
-use Prim.Native.Nat.{ℕ, _+_, _*_, _≤_, _<_, _-_}
+use Prim.Native.Nat.{_*_, _≤_, _-_}
 use native.Mathlib.Omega.{arith}
 use lib.ListN.{length, getD, length-set}
 use lib.Seq.{getD-set-other}
 use borrow.Author.Needs.{needs}
 use Rattle.theory.specs.Loop.{indicator-most}
 use Rattle.theory.specs.Simulation.{indicator}
-use Rattle.valuer_maps.specs.Successors.{leads, leadsTo, ListedSoFar, listed-none, listed-few, listed-more, listed-all, row-of}
+use Rattle.valuer_maps.specs.Successors.{leads, leadsTo, ListedSoFar, listed-none, listed-more, listed-all, row-of}
 use Rattle.valuer_maps.proofs.successors.list_row.Statement.{statement}
 use Rattle.valuer_maps.proofs.successors.list_row.Tie as tie
 
