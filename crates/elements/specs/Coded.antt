@@ -91,7 +91,3 @@ module _ {w : List ℕ} {l : Lattice} (c : Coded w l) where
       let m = c .most in
       let z : a % 64 ≡ a = omega arith in
       sym (decode-is a x h (ap (λ (i : ℕ). getD w i 0) (sym z) ∙ e))
-
-  -- a → b by words
-  pub implies-code : (a b : ℕ) → bitOr (negatedCodeIn w a) (codeIn w b) ≡ bitOr (codeIn w (complementIn w a)) (codeIn w b)
-  implies-code a b = ap (λ (x : ℕ). bitOr x (codeIn w b)) (sym (complement-code a))

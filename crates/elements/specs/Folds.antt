@@ -1,9 +1,9 @@
--- Finite meets and joins by codes. Rests on theory's Lattice and Loop, Words, Coded.
+-- Finite meets and joins by codes. Rests on theory's Lattice and Loop, Words, Coded, Laws.
 --   CodeOf: a word is an element's code; decode-in: the element found by it
 --   code-of, negated-of, bottom-of: the codes of an element, of its complement, of the bottom; meet-of, join-of: & and | of two codes
 --   bigJoin-lt, bigMeet-lt: the results are elements
 --   fold-meets, fold-joins: a fold of codes is the code of the finite meet or join
---   fold-within: what is met with a word stays within whatever the word is within; top-same: a word within the top's, met with what is above the top
+--   fold-within: what is met with a word stays within whatever the word is within; top-same: a word within the top's stays as it is when met with a word that the top's is within
 use Prim.Native.Nat.{ℕ, zero, suc, _%_, _<_}
 use mathlib.Core.Path.{_≡_, refl, sym, ap, ap₂, _∙_}
 use mathlib.Core.List.{List}

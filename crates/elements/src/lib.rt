@@ -28,7 +28,7 @@ pub fn index(x: u8) -> usize
     x as usize
 }
 
-// 1 or 0, by a test.
+// 1 where b holds, else 0.
 pub fn one_if(b: bool) -> usize
     ensures { λ r. ⌜ r ≡ indicator b ⌝ }
 {

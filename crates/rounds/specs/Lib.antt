@@ -7,6 +7,6 @@ pub mod Share  -- share by the codes is the theory's
 pub mod Rest  -- the rows of a round from a given one on
 -- ---- for the code
 pub mod Row  -- where a row stands, and what a loop over its entries has done so far
-pub mod Rows  -- tables of words that are filled by columns, and words replaced where they stand
+pub mod Rows  -- tables of words, filled by rows or by columns, and words replaced where they stand
 pub mod Codes  -- the codes that the loops compute, and that they are those of F's entries
 pub mod RowCodes  -- a row of F from the codes of its entries

@@ -3,6 +3,7 @@
 --   RowAt, row-at: where a row stands; held-by: a table is held
 --   same-eqb, differ-eqb: the test of two bytes that stand for two entries
 --   RowSoFar: the entries so far are written and compared; row-none, row-more, row-all: its begin, turn and end
+--   RowOut, rowSameAs: the elements of codes written and compared; compared alone
 --   row-written: at the row's end, what `row` says
 --   not-and: not of an and
 use Prim.Native.Nat.{ℕ, _+_, _*_, _≤_, _<_}
@@ -15,9 +16,8 @@ use borrow.Author.Tests.{eq-eqb, ne-eqb}
 use lib.Dec.{eqb}
 use lib.ListN.{length, getD, set}
 use Rattle.theory.specs.Test.{allBelow}
-use Rattle.theory.specs.Lists.{tab}
 use Rattle.theory.specs.Written.{written-none, written-turn}
-use Rattle.theory.specs.Lists.{written}
+use Rattle.theory.specs.Lists.{tab, written}
 use Rattle.elements.specs.Words.{decodeIn}
 use Rattle.model.specs.Places.{row-le}
 use Rattle.rounds.specs.Table.{Shaped}
@@ -80,7 +80,7 @@ row-all {q = q} {n = n} u a b = let e : q ≡ n = omega arith in rw e at u
 abbrev pub RowOut : List ℕ → List ℕ → List ℕ → ℕ → ℕ → List ℕ → List ℕ → Bool → Type 0
 RowOut w codes s at n before out changed = RowSoFar changed at (λ q. decodeIn w (getD codes q 0)) (λ q. getD s (at + q) 0) before n out
 
--- n codes are those of the bytes of s from `at` on
+-- the elements of n codes are the bytes of s from `at` on
 unfoldable pub rowSameAs : List ℕ → List ℕ → List ℕ → ℕ → ℕ → Bool
 rowSameAs w codes s at n = allBelow n (λ q. eqb (getD s (at + q) 0) (decodeIn w (getD codes q 0)))
 

@@ -1,8 +1,9 @@
 -- Tables of words with 64 to a row, filled by rows or by columns, and words that are replaced where they stand. Rests on theory's Loop, Lists and Written.
+--   rowWords, blockWords, tableWords: how many words there are
 --   Rows: the words are as a rule says; rows-none, rows-more, rows-all: the rows so far; rows-empty, rows-column, columns-all: the columns so far
 --   Spread, spread-none, spread-more, spread-all, spread-as: what is written into one column
 --   Replaced, replaced-none, replaced-more, replaced-all, replaced-same, replaced-as: each of the first words is replaced by a rule
---   Folds, folds-none, folds-more, folds-block, folds-all, filled-same: a row of folds, each word of which is replaced at each turn
+--   RowFolded, row-folded-none, row-folded-more, row-folded-block, row-folded-all, filled-same: a row of folds, each word of which is replaced at each turn
 use Prim.Native.Nat.{ℕ, zero, suc, _+_, _*_, _≤_, _<_}
 use mathlib.Core.Path.{_≡_, refl, sym, ap, _∙_}
 use mathlib.Core.Logic.{⊎-elim}
@@ -14,6 +15,16 @@ use lib.Seq.{getD-set-same, getD-set-other}
 use Rattle.theory.specs.Lists.{Filled, tab, written}
 use Rattle.theory.specs.Loop.{tab-length, fold, folded-none, folded-more}
 use Rattle.theory.specs.Written.{written-before, slice-at}
+
+-- how many words a row, a block of 16 rows and a table of 64 rows have
+abbrev pub rowWords : ℕ
+rowWords = 64
+
+abbrev pub blockWords : ℕ
+blockWords = 1024
+
+abbrev pub tableWords : ℕ
+tableWords = 4096
 
 -- row q of n₁ rows of n₂ words is as the rule says
 pub record Rows (f : ℕ → ℕ → ℕ) (n₁ n₂ : ℕ) (xs : List ℕ) : Type 0 where
@@ -126,21 +137,21 @@ replaced-as u e = record { at = λ i l. u .at i l ∙ e i _; rest = u .rest; sam
 -- ---- a row of folds
 
 -- word q of the first n is the fold of the first k values of f q. A record, so that a goal shows g, start and f
-pub record Folds (g : ℕ → ℕ → ℕ) (start : ℕ → ℕ) (f : ℕ → ℕ → ℕ) (k n : ℕ) (xs : List ℕ) : Type 0 where
+pub record RowFolded (g : ℕ → ℕ → ℕ) (start : ℕ → ℕ) (f : ℕ → ℕ → ℕ) (k n : ℕ) (xs : List ℕ) : Type 0 where
   pub at : (q : ℕ) → q < n → getD xs q 0 ≡ fold g (start q) (f q) k
 
 module _ {g : ℕ → ℕ → ℕ} {start : ℕ → ℕ} {f : ℕ → ℕ → ℕ} {n : ℕ} where
-  pub folds-none : {xs : List ℕ} → Filled start n xs → Folds g start f 0 n xs
-  folds-none h = record { at = λ q l. h .at q l ∙ folded-none {g = g} {f = f q} .eq }
+  pub row-folded-none : {xs : List ℕ} → Filled start n xs → RowFolded g start f 0 n xs
+  row-folded-none h = record { at = λ q l. h .at q l ∙ folded-none {g = g} {f = f q} .eq }
 
   -- one turn, in which each word is replaced
-  pub folds-more : {k : ℕ} {before out : List ℕ} {r : ℕ → ℕ → ℕ} → Folds g start f k n before → Replaced r n before out → ((q x : ℕ) → r q x ≡ g x (f q k)) → Folds g start f (k + 1) n out
-  folds-more {k} h u e = record {
+  pub row-folded-more : {k : ℕ} {before out : List ℕ} {r : ℕ → ℕ → ℕ} → RowFolded g start f k n before → Replaced r n before out → ((q x : ℕ) → r q x ≡ g x (f q k)) → RowFolded g start f (k + 1) n out
+  row-folded-more {k} h u e = record {
     at = λ q l. u .at q l ∙ e q _ ∙ ap (λ (x : ℕ). g x (f q k)) (h .at q l) ∙ folded-more {f = f q} (record { eq = refl }) refl refl .eq;
   }
 
-  pub folds-all : {i k : ℕ} {xs : List ℕ} → Folds g start f i n xs → i ≤ k → k ≤ i → Filled (λ q. fold g (start q) (f q) k) n xs
-  folds-all {i} {k} h a b = let e : i ≡ k = omega arith in record { at = rw e at (h .at) }
+  pub row-folded-all : {i k : ℕ} {xs : List ℕ} → RowFolded g start f i n xs → i ≤ k → k ≤ i → Filled (λ q. fold g (start q) (f q) k) n xs
+  row-folded-all {i} {k} h a b = let e : i ≡ k = omega arith in record { at = rw e at (h .at) }
 
 -- a fold that goes on from a fold
 fold-on : (g : ℕ → ℕ → ℕ) (start : ℕ) (f : ℕ → ℕ) (k n : ℕ) → fold g (fold g start f k) (λ j. f (k + j)) n ≡ fold g start f (k + n)
@@ -149,8 +160,8 @@ fold-on g start f k zero = ap (fold g start f) (sym (add-zero k))
 fold-on g start f k (suc n) = ap (λ (x : ℕ). g x (f (k + n))) (fold-on g start f k n) ∙ ap (fold g start f) (sym (add-suc k n))
 
 -- n turns at once
-pub folds-block : {g : ℕ → ℕ → ℕ} {start : ℕ → ℕ} {f : ℕ → ℕ → ℕ} {k n : ℕ} {before out : List ℕ} {r : ℕ → ℕ → ℕ} (m : ℕ) → Folds g start f k n before → Replaced r n before out → ((q x : ℕ) → r q x ≡ fold g x (λ j. f q (k + j)) m) → Folds g start f (k + m) n out
-folds-block {g} {start} {f} {k} m h u e = record {
+pub row-folded-block : {g : ℕ → ℕ → ℕ} {start : ℕ → ℕ} {f : ℕ → ℕ → ℕ} {k n : ℕ} {before out : List ℕ} {r : ℕ → ℕ → ℕ} (m : ℕ) → RowFolded g start f k n before → Replaced r n before out → ((q x : ℕ) → r q x ≡ fold g x (λ j. f q (k + j)) m) → RowFolded g start f (k + m) n out
+row-folded-block {g} {start} {f} {k} m h u e = record {
   at = λ q l. u .at q l ∙ e q _ ∙ ap (λ (x : ℕ). fold g x (λ j. f q (k + j)) m) (h .at q l) ∙ fold-on g (start q) (f q) k m;
 }
 

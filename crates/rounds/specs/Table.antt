@@ -2,7 +2,7 @@
 -- same of the bytes of models and tables and of a lattice's codes. Rests on theory's Model, Part, Simulation, Test, Lists and elements' Words.
 --   tableOf: entry (q1, q2) of a table of bytes
 --   Shaped, Room: what the functions ask of models and tables
---   rowWritten, rowSame, rowChanged, changedBelow, simulationTest: a row in its place, what it changes, S = G(S)
+--   rowWritten, entrySame, rowSame, rowChanged, changedBelow, simulationTest: a row in its place, what it changes, S = G(S)
 --   shareIn: share by a lattice's codes
 --   FIn, entryIn, scoreIn: F, an entry of F, and score
 --   RowIn, rowSameIn, simulationIn: what working a row does, the tests on bytes

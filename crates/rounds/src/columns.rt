@@ -1,5 +1,5 @@
-// The codes of a whole round: the inner joins are worked once and serve all rows. Each is worked for a row of states at a time, and a
-// transition that is bottom is passed over: it adds nothing to a join, and takes nothing from a meet.
+// The codes of a whole round: the inner joins are worked once and serve all rows. They are worked a row of words at a time, and a transition
+// that is bottom is passed over: it adds nothing to a join, and takes nothing from a meet.
 use crate::words::propositions;
 use elements::Codes;
 use model::State;
@@ -9,15 +9,15 @@ ghost use lib.Bits.{bitAnd, bitOr};
 ghost use lib.ListN.{length, getD};
 ghost use Rattle.theory.specs.Lists.{Filled};
 ghost use Rattle.theory.specs.Part.{ModelShape};
-ghost use Rattle.rounds.specs.Rows.{Rows, Spread, Replaced};
-ghost use Rattle.rounds.specs.Codes.{ModelPair, tableCode, byRow, byColumn, innerCode, rowFrom, WithinTop};
+ghost use Rattle.rounds.specs.Rows.{rowWords, tableWords, Rows, Spread, Replaced};
+ghost use Rattle.rounds.specs.Codes.{ModelPair, tableCode, byRow, byColumn, innerCode, entryFrom, WithinTop};
 
-// The codes of a table, or of the inner joins of one, 64 to a row.
+// The codes of a table, 64 to a column, or of its inner joins, 64 to a row.
 pub(crate) type TableCodes = [u64; 4096];
 
 // Writes the first n words of `row` into a column of `out`, which has 64 words to a row.
 fn spread(row: &[u64; 64], n: usize, out: &mut [u64], column: usize)
-    requires { ⌜ (n ≤ 64) × (column < 64) × (length (now out) ≡ 4096) ⌝ }
+    requires { ⌜ (n ≤ 64) × (column < 64) × (length (now out) ≡ tableWords) ⌝ }
     ensures { λ _. ⌜ Spread (λ i. getD (now (row .entry)) i 0) n column (now (out .entry)) (now (out .exit)) ⌝ }
 {
     for i in 0..n {
@@ -27,7 +27,7 @@ fn spread(row: &[u64; 64], n: usize, out: &mut [u64], column: usize)
 
 // The codes of a table of n1 by n2 entries, by columns: that of entry (q1, q2) stands at q2·64 + q1.
 pub(crate) fn encode_columns(w: &Codes, s: &[u8], n1: usize, n2: usize, out: &mut [u64])
-    requires { ⌜ (n1 ≤ 64) × (n2 ≤ 64) × (n1 * n2 ≤ length (now s)) × (length (now out) ≡ 4096) ⌝ }
+    requires { ⌜ (n1 ≤ 64) × (n2 ≤ 64) × (n1 * n2 ≤ length (now s)) × (length (now out) ≡ tableWords) ⌝ }
     ensures { λ _. ⌜ Rows (λ q₂ q₁. tableCode (now (w .entry)) (now (s .entry)) n2 q₁ q₂) n2 n1 (now (out .exit)) ⌝ }
 {
     let mut row = [0u64; 64];
@@ -41,7 +41,7 @@ pub(crate) fn encode_columns(w: &Codes, s: &[u8], n1: usize, n2: usize, out: &mu
 
 // Joins to each of the first n words of `row` that of the table at its place from `at` on, met with c.
 fn join_with(row: &mut [u64], c: u64, table: &TableCodes, at: usize, n: usize)
-    requires { ⌜ (n ≤ 64) × (at + n ≤ 4096) × (length (now row) ≡ 64) ⌝ }
+    requires { ⌜ (n ≤ 64) × (at + n ≤ tableWords) × (length (now row) ≡ rowWords) ⌝ }
     ensures { λ _. ⌜ Replaced (λ i x. bitOr x (bitAnd c (getD (now (table .entry)) (at + i) 0))) n (now (row .entry)) (now (row .exit)) ⌝ }
 {
     if c == 0 {
@@ -55,7 +55,7 @@ fn join_with(row: &mut [u64], c: u64, table: &TableCodes, at: usize, n: usize)
 // The inner joins of q2, written into its column of `joins`: in row q1', the code of the join over q2' of R2(q2, q2') met with entry (q1', q2')
 // of the table.
 fn put_joins(w: &Codes, m2: &[u8], q2: State, table: &TableCodes, n1: usize, joins: &mut [u64])
-    requires { ⌜ ModelShape (now m2) × (q2 .0 < getD (now m2) 0 0) × (n1 ≤ 64) × (length (now joins) ≡ 4096) ⌝ }
+    requires { ⌜ ModelShape (now m2) × (q2 .0 < getD (now m2) 0 0) × (n1 ≤ 64) × (length (now joins) ≡ tableWords) ⌝ }
     ensures { λ _. ⌜ Spread (innerCode (now (w .entry)) (now (m2 .entry)) (byColumn (now (table .entry))) (q2 .0)) n1 (q2 .0)
         (now (joins .entry)) (now (joins .exit)) ⌝ }
 {
@@ -70,7 +70,7 @@ fn put_joins(w: &Codes, m2: &[u8], q2: State, table: &TableCodes, n1: usize, joi
 
 // The inner joins of every q2.
 pub(crate) fn all_joins(w: &Codes, m2: &[u8], table: &TableCodes, n1: usize, joins: &mut [u64])
-    requires { ⌜ ModelShape (now m2) × (n1 ≤ 64) × (length (now joins) ≡ 4096) ⌝ }
+    requires { ⌜ ModelShape (now m2) × (n1 ≤ 64) × (length (now joins) ≡ tableWords) ⌝ }
     ensures { λ _. ⌜ Rows (λ q₁ q₂. innerCode (now (w .entry)) (now (m2 .entry)) (byColumn (now (table .entry))) q₂ q₁) n1
         (getD (now (m2 .entry)) 0 0) (now (joins .exit)) ⌝ }
 {
@@ -84,7 +84,7 @@ pub(crate) fn all_joins(w: &Codes, m2: &[u8], table: &TableCodes, n1: usize, joi
 
 // Meets each of the first n words of `row`, which are within `top`, with the join of c and that of the inner joins at its place from `at` on.
 fn meet_with(row: &mut [u64], top: u64, c: u64, joins: &TableCodes, at: usize, n: usize)
-    requires { ⌜ (n ≤ 64) × (at + n ≤ 4096) × (length (now row) ≡ 64) × WithinTop top n (now row) ⌝ }
+    requires { ⌜ (n ≤ 64) × (at + n ≤ tableWords) × (length (now row) ≡ rowWords) × WithinTop top n (now row) ⌝ }
     ensures { λ _. ⌜ Replaced (λ i x. bitAnd x (bitOr c (getD (now (joins .entry)) (at + i) 0))) n (now (row .entry)) (now (row .exit)) ⌝ }
 {
     if c == top {
@@ -106,7 +106,7 @@ pub(crate) fn row_from(
     out: &mut [u64; 64],
 )
     requires { ⌜ ModelPair (now m1) (now m2) × (q1 .0 < getD (now m1) 0 0) ⌝ }
-    ensures { λ _. ⌜ Filled (rowFrom (now (w .entry)) top (now (m1 .entry)) (now (m2 .entry)) (byRow (now (joins .entry))) (q1 .0))
+    ensures { λ _. ⌜ Filled (entryFrom (now (w .entry)) top (now (m1 .entry)) (now (m2 .entry)) (byRow (now (joins .entry))) (q1 .0))
         (getD (now (m2 .entry)) 0 0) (now (out .exit)) ⌝ }
 {
     let n1 = model::states(m1);

@@ -23,6 +23,7 @@ ghost use Rattle.theory.specs.Loop.{Counted};
 ghost use Rattle.theory.specs.Part.{ModelShape};
 ghost use Rattle.elements.specs.Words.{atMostIn, Coded};
 ghost use Rattle.rounds.specs.Table.{Shaped, Room, shareIn, RowIn, scoreIn, simulationIn};
+ghost use Rattle.rounds.specs.Rows.{rowWords};
 ghost use Rattle.rounds.specs.Round.{RoundIn};
 ghost use Rattle.rounds.specs.Row.{RowOut, rowSameAs};
 ghost use Rattle.rounds.specs.Codes.{initialCode, Prepared};
@@ -97,7 +98,7 @@ fn prepare(w: &Codes, m1: &[u8], m2: &[u8], s: &[u8], joins: &mut TableCodes)
 
 // ---- the test for a simulation
 
-// Whether n codes are those of the bytes of s from `at` on: they are compared up to the first that differs.
+// Whether the elements of n codes are the bytes of s from `at` on: they are compared up to the first that differs.
 fn row_same(w: &Codes, l: Lattice, codes: &[u64; 64], s: &[u8], at: usize, n: usize) -> bool
     requires { ⌜ Coded (now w) l × (n ≤ 64) × (at + n ≤ length (now s)) ⌝ }
     ensures { λ r. ⌜ r ≡ rowSameAs (now (w .entry)) (now (codes .entry)) (now (s .entry)) at n ⌝ }
@@ -136,7 +137,7 @@ pub fn is_simulation(w: &Codes, l: Lattice, m1: &[u8], m2: &[u8], s: &[u8]) -> b
 
 // The codes of the initial values.
 fn initial_codes(w: &Codes, m: &[u8], out: &mut [u64])
-    requires { ⌜ ModelShape (now m) × (length (now out) ≡ 64) ⌝ }
+    requires { ⌜ ModelShape (now m) × (length (now out) ≡ rowWords) ⌝ }
     ensures { λ _. ⌜ Filled (initialCode (now (w .entry)) (now (m .entry))) (getD (now (m .entry)) 0 0) (now (out .exit)) ⌝ }
 {
     let n = model::states(m);

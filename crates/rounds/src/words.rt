@@ -1,25 +1,25 @@
-// The codes of one row's entries of F. Of what is read, 16 rows of a table at a time are turned into codes, and worked by & and | alone. A
-// transition of model 1 that is bottom is passed over: it takes nothing from a meet.
+// The codes of one row's entries of F. 16 rows of the table at a time are turned into codes, and worked by & and | alone. A transition of
+// model 1 that is bottom is passed over: it takes nothing from a meet. `met_..` answers a word, `meet_..` changes the words of a row.
 use elements::Codes;
 use elements::Element;
 use model::Proposition;
 use model::State;
 ghost use mathlib.Core.Path.{_≡_};
-ghost use Prim.Native.Nat.{_+_, _*_, _≤_, _<_};
+ghost use Prim.Native.Nat.{min, _+_, _*_, _≤_, _<_};
 ghost use lib.Bits.{bitAnd, bitOr};
 ghost use lib.ListN.{length, getD};
 ghost use Rattle.theory.specs.Part.{modelOf, ModelShape};
 ghost use Rattle.theory.specs.Lists.{Filled};
 ghost use Rattle.elements.specs.Laws.{Within};
 ghost use Rattle.rounds.specs.Table.{Shaped};
-ghost use Rattle.rounds.specs.Rows.{Rows, Replaced};
-ghost use Rattle.rounds.specs.Codes.{ModelPair, tableCode, tableIn, joinCode, blockCode, innerBlock, iffCode, propositionsCode, WithinTop, EntryCodes};
+ghost use Rattle.rounds.specs.Rows.{rowWords, blockWords, Rows, Replaced};
+ghost use Rattle.rounds.specs.Codes.{ModelPair, tableCode, codesOfTable, joinCode, blockCode, innerBlockCode, iffCode, propositionsCode, WithinTop, EntryCodes};
 
 // ---- propositions
 
-// Meets each word of a row, of q2 for each q2, with the code of p1 ↔ p2, where a is the value of p1.
+// Meets the word of each q2 with the code of a ↔ the value of p at q2; a is the value of p at q1.
 fn meet_equivalent(w: &Codes, a: Element, m2: &[u8], p: Proposition, out: &mut [u64])
-    requires { ⌜ ModelShape (now m2) × (p .0 < getD (now m2) 1 0) × (length (now out) ≡ 64) ⌝ }
+    requires { ⌜ ModelShape (now m2) × (p .0 < getD (now m2) 1 0) × (length (now out) ≡ rowWords) ⌝ }
     ensures { λ _. ⌜ Replaced (λ q x. bitAnd x (iffCode (now (w .entry)) (a .0) (modelOf (now (m2 .entry)) .label q (p .0)))) (getD (now (m2 .entry)) 0 0)
         (now (out .entry)) (now (out .exit)) ⌝ }
 {
@@ -42,7 +42,7 @@ pub(crate) fn propositions(
     out: &mut [u64; 64],
 )
     requires { ⌜ ModelPair (now m1) (now m2) × (q1 .0 < getD (now m1) 0 0) ⌝ }
-    ensures { λ _. ⌜ (length (now (out .exit)) ≡ 64)
+    ensures { λ _. ⌜ (length (now (out .exit)) ≡ rowWords)
         × Filled (propositionsCode (now (w .entry)) top (now (m1 .entry)) (now (m2 .entry)) (q1 .0)) (getD (now (m2 .entry)) 0 0) (now (out .exit)) ⌝ }
 {
     let k = model::propositions(m1);
@@ -60,7 +60,7 @@ type Block = [u64; 1024];
 
 // The codes of k rows of n2 entries of the table s, from row `first` on.
 fn encode_rows(w: &Codes, s: &[u8], first: usize, k: usize, n2: usize, out: &mut [u64])
-    requires { ⌜ (first ≤ 64) × (k ≤ 16) × (n2 ≤ 64) × ((first + k) * n2 ≤ length (now s)) × (length (now out) ≡ 1024) ⌝ }
+    requires { ⌜ (first ≤ 64) × (k ≤ 16) × (n2 ≤ 64) × ((first + k) * n2 ≤ length (now s)) × (length (now out) ≡ blockWords) ⌝ }
     ensures { λ _. ⌜ Rows (λ j. tableCode (now (w .entry)) (now (s .entry)) n2 (first + j)) k n2 (now (out .exit)) ⌝ }
 {
     for j in 0..k {
@@ -68,7 +68,7 @@ fn encode_rows(w: &Codes, s: &[u8], first: usize, k: usize, n2: usize, out: &mut
     }
 }
 
-// The join of the first n words of `row`, each met with that at its place from `at` on.
+// The join of the first n words of `row`, each met with the word of `table` at its place from `at` on.
 pub(crate) fn joined(row: &[u64; 64], table: &[u64], at: usize, n: usize) -> u64
     requires { ⌜ (n ≤ 64) × (at + n ≤ length (now table)) ⌝ }
     ensures { λ r. ⌜ r ≡ joinCode (now (row .entry)) (now (table .entry)) at n ⌝ }
@@ -80,10 +80,10 @@ pub(crate) fn joined(row: &[u64; 64], table: &[u64], at: usize, n: usize) -> u64
     x
 }
 
-// An entry's word x, which is within `top`, met with the join of c and that of `row` with the words from `at` on. Where c is the top's code,
-// x stays.
+// An entry's word x, which is within `top`, met with the join of c and what `joined` gives of `row` and the block from `at` on. Where c is
+// `top`, x stays.
 fn met_with(x: u64, top: u64, c: u64, row: &[u64; 64], block: &Block, at: usize, n: usize) -> u64
-    requires { ⌜ (n ≤ 64) × (at + n ≤ 1024) × Within x top ⌝ }
+    requires { ⌜ (n ≤ 64) × (at + n ≤ blockWords) × Within x top ⌝ }
     ensures { λ r. ⌜ r ≡ bitAnd x (bitOr c (joinCode (now (row .entry)) (now (block .entry)) at n)) ⌝ }
 {
     if c == top {
@@ -113,7 +113,7 @@ fn met_block(
     y
 }
 
-// Meets each word of a row, of q2 for each q2, with what k states of model 1 from `first` on give.
+// Meets the word of each q2 with what k states of model 1 from `first` on give.
 fn meet_block(
     w: &Codes,
     top: u64,
@@ -124,9 +124,9 @@ fn meet_block(
     k: usize,
     out: &mut [u64],
 )
-    requires { ⌜ ModelShape (now m2) × (first + k ≤ 64) × (k ≤ 16) × ((first + k) * getD (now m2) 0 0 ≤ length (now s)) × (length (now out) ≡ 64)
+    requires { ⌜ ModelShape (now m2) × (first + k ≤ 64) × (k ≤ 16) × ((first + k) * getD (now m2) 0 0 ≤ length (now s)) × (length (now out) ≡ rowWords)
         × WithinTop top (getD (now m2) 0 0) (now out) ⌝ }
-    ensures { λ _. ⌜ Replaced (λ q₂ x. innerBlock x (now (w .entry)) (now (left .entry)) (now (m2 .entry)) (now (s .entry)) first k q₂)
+    ensures { λ _. ⌜ Replaced (λ q₂ x. innerBlockCode x (now (w .entry)) (now (left .entry)) (now (m2 .entry)) (now (s .entry)) first k q₂)
         (getD (now (m2 .entry)) 0 0) (now (out .entry)) (now (out .exit)) ⌝ }
 {
     let n2 = model::states(m2);
@@ -141,9 +141,9 @@ fn meet_block(
 
 // ---- rows
 
-// The least of 16 and n.
-fn at_most_16(n: usize) -> usize
-    ensures { λ r. ⌜ (r ≤ 16) × (r ≤ n) × (0 < n → 0 < r) ⌝ }
+// The smaller of n and 16.
+fn up_to_16(n: usize) -> usize
+    ensures { λ r. ⌜ r ≡ min n 16 ⌝ }
 {
     if n < 16 {
         return n;
@@ -162,7 +162,7 @@ pub(crate) fn row_codes(
     out: &mut [u64; 64],
 )
     requires { ⌜ Shaped (now m1) (now m2) (now s) × (q1 .0 < getD (now m1) 0 0) ⌝ }
-    ensures { λ _. ⌜ EntryCodes (now (w .entry)) top (now (m1 .entry)) (now (m2 .entry)) (tableIn (now (w .entry)) (now (m2 .entry)) (now (s .entry))) (q1 .0)
+    ensures { λ _. ⌜ EntryCodes (now (w .entry)) top (now (m1 .entry)) (now (m2 .entry)) (codesOfTable (now (w .entry)) (now (m2 .entry)) (now (s .entry))) (q1 .0)
         (now (out .exit)) ⌝ }
 {
     let n1 = model::states(m1);
@@ -171,7 +171,7 @@ pub(crate) fn row_codes(
     propositions(w, top, m1, m2, q1, out);
     let mut q: usize = 0;
     while q < n1 {
-        let k = at_most_16(n1 - q);
+        let k = up_to_16(n1 - q);
         meet_block(w, top, &left, m2, s, q, k, out);
         q += k;
     }

@@ -26,7 +26,7 @@ use Rattle.formula.specs.Bytes.{bytesOf}
 use Rattle.valuer_maps.specs.Code.{startCode, slotOf, Literals, NextMap}
 use Rattle.valuer_maps.specs.Maps.{MapOf, startOf, map-start, map-literals, map-join-or-meet, map-next, implied, map-decoded}
 use Rattle.valuer.specs.Values.{ModelOver, Reads, ValueAt, WholeValue}
-use Rattle.valuer.specs.Node.{FormulaAt, SomeFormulaAt, SlotsHold, roundLimit, Node, Both, Iterated, CodedValues, initialCode}
+use Rattle.valuer.specs.Node.{FormulaAt, SomeFormulaAt, SlotsHold, roundLimit, Node, Both, Iterated, CodedValues, wholeCode}
 use Rattle.valuer.proofs.Places.{build, Parts, some-bytes, by-token, of-or, of-and, of-AX, of-EX, of-mu, of-nu, read-formula-at}
 
 -- ---- the parts of what stands at a place stand there too
@@ -168,6 +168,6 @@ module _ {w : List ℕ} {l : Lattice} {m f x : List ℕ} (o : ModelOver w l m) (
   pub part-at : (q r : ℕ) → q < getD m 0 0 → r ≡ decodeIn w (getD x q 0) → ValueAt w l m f q r
   part-at q r k e = record { is = λ φ h. e ∙ map-decoded (o .coded) (v .are φ h) q k }
 
-  pub part-whole : (r : ℕ) → r ≡ decodeIn w (initialCode w l m x) → WholeValue w l m f r
+  pub part-whole : (r : ℕ) → r ≡ decodeIn w (wholeCode w l m x) → WholeValue w l m f r
   unfolding wholeValue
   part-whole r e = record { is = λ φ h. e ∙ decode-in (o .coded) (implied (o .coded) (modelOf m .initial) (v .are φ h)) (bigMeet-lt (o .coded) (getD m 0 0) _) }

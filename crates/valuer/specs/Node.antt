@@ -4,7 +4,7 @@
 --   SlotsHold: three lists hold an environment, in codes
 --   rounds, roundLimit: a body applied n times, and how often at most
 --   Node: what the valuer of a place answers; Both: or or and with the second formula; Iterated: what the iteration of a body answers
---   CodedValues, initialCode: the codes of a part's values, and that of the value on the whole model
+--   CodedValues, wholeCode: the codes of a part's values, and that of the value on the whole model
 use Prim.Native.Nat.{ℕ, suc, _+_, _*_, _-_, _≤_, _<_}
 use mathlib.Core.Path.{_≡_}
 use mathlib.Core.Bool.{Bool, true}
@@ -76,5 +76,5 @@ module _ (w : List ℕ) (l : Lattice) (m f : List ℕ) where
     pub are : (φ : Formula) → formulaReading (getD m 1 0) f ≡ read φ → MapOf w l (valueAt (opsIn w l) (modelOf m) φ) (getD m 0 0) x
 
 -- the meet over q of Q0(q) → x at q
-abbrev pub initialCode : List ℕ → Lattice → List ℕ → List ℕ → ℕ
-initialCode w l m x = fold bitAnd (codeIn w (l .top .0)) (λ q. bitOr (negatedCodeIn w (modelOf m .initial q)) (getD x q 0)) (getD m 0 0)
+abbrev pub wholeCode : List ℕ → Lattice → List ℕ → List ℕ → ℕ
+wholeCode w l m x = fold bitAnd (codeIn w (l .top .0)) (λ q. bitOr (negatedCodeIn w (modelOf m .initial q)) (getD x q 0)) (getD m 0 0)

@@ -13,7 +13,7 @@ use valuer_maps::Successors;
 use valuer_maps::all_step;
 use valuer_maps::combined;
 use valuer_maps::constant;
-use valuer_maps::list;
+use valuer_maps::list_successors;
 use valuer_maps::literals;
 use valuer_maps::next_values;
 use valuer_maps::same;
@@ -23,9 +23,9 @@ ghost use mathlib.Core.Path.{_≡_};
 ghost use Prim.Native.Nat.{_<_};
 ghost use lib.ListN.{getD};
 ghost use Rattle.theory.specs.Part.{ModelShape};
-ghost use Rattle.valuer_maps.specs.Successors.{ListsOf};
+ghost use Rattle.valuer_maps.specs.Successors.{SuccessorsOf};
 ghost use Rattle.valuer.specs.Values.{ModelOver, Reads, ValueAt, WholeValue};
-ghost use Rattle.valuer.specs.Node.{SomeFormulaAt, roundLimit, Node, Both, Iterated, CodedValues, initialCode};
+ghost use Rattle.valuer.specs.Node.{SomeFormulaAt, roundLimit, Node, Both, Iterated, CodedValues, wholeCode};
 
 // The most rounds that a fixpoint takes: each round that changes something moves some state's value along a chain.
 fn round_limit(l: Lattice, m: &[u8]) -> usize
@@ -40,8 +40,9 @@ fn round_limit(l: Lattice, m: &[u8]) -> usize
     n * (size - 1)
 }
 
-// The formula at place `at`, where near, mid and far are the maps of the variables, the nearest binder's first. Its values are written into
-// out; the answer is the place after it. s has the successors of each state. `spare` is room for a map, lent since an array here would be one more for each level of nesting.
+// The formula at place `at`, where near, mid and far are the maps of the variables, the nearest binder's first, and s has the successors of
+// each state. Its values are written into out; the answer is the place after it. `spare` is room for a map, lent since an array here would
+// be one more for each level of nesting.
 fn value_node(
     w: &Codes,
     l: Lattice,
@@ -55,7 +56,7 @@ fn value_node(
     spare: &mut [u64; 64],
     out: &mut [u64; 64],
 ) -> usize
-    requires { ⌜ ModelOver (now w) l (now m) × SomeFormulaAt (now f) at (getD (now m) 1 0) × ListsOf (now w) l (now m) (now s) ⌝ }
+    requires { ⌜ ModelOver (now w) l (now m) × SomeFormulaAt (now f) at (getD (now m) 1 0) × SuccessorsOf (now w) l (now m) (now s) ⌝ }
     ensures { λ r. ⌜ Node (now (w .entry)) l (now (m .entry)) (now (f .entry)) at
         (now (near .entry)) (now (mid .entry)) (now (far .entry)) (now (out .exit)) r ⌝ }
 {
@@ -102,7 +103,7 @@ fn second(
     spare: &mut [u64; 64],
     out: &mut [u64; 64],
 ) -> usize
-    requires { ⌜ ModelOver (now w) l (now m) × SomeFormulaAt (now f) at (getD (now m) 1 0) × ListsOf (now w) l (now m) (now s) ⌝ }
+    requires { ⌜ ModelOver (now w) l (now m) × SomeFormulaAt (now f) at (getD (now m) 1 0) × SuccessorsOf (now w) l (now m) (now s) ⌝ }
     ensures { λ r. ⌜ Both (now (w .entry)) l (now (m .entry)) (now (f .entry)) at or
         (now (near .entry)) (now (mid .entry)) (now (far .entry)) (now (out .entry)) (now (out .exit)) r ⌝ }
 {
@@ -127,7 +128,7 @@ fn iterate(
     spare: &mut [u64; 64],
     out: &mut [u64; 64],
 ) -> usize
-    requires { ⌜ ModelOver (now w) l (now m) × SomeFormulaAt (now f) body (getD (now m) 1 0) × ListsOf (now w) l (now m) (now s) ⌝ }
+    requires { ⌜ ModelOver (now w) l (now m) × SomeFormulaAt (now f) body (getD (now m) 1 0) × SuccessorsOf (now w) l (now m) (now s) ⌝ }
     ensures { λ r. ⌜ Iterated (now (w .entry)) l (now (m .entry)) (now (f .entry)) body
         (now (near .entry)) (now (mid .entry)) start (now (out .exit)) r ⌝ }
 {
@@ -154,7 +155,7 @@ fn valued(w: &Codes, l: Lattice, m: &[u8], f: &[u8]) -> [u64; 64]
     ensures { λ r. ⌜ CodedValues (now (w .entry)) l (now (m .entry)) (now (f .entry)) r ⌝ }
 {
     let mut s = [0u8; 4160];
-    list(w, l, m, &mut s);
+    list_successors(w, l, m, &mut s);
     let none = [0u64; 64];
     let mut spare = [0u64; 64];
     let mut out = [0u64; 64];
@@ -174,7 +175,7 @@ pub fn value(w: &Codes, l: Lattice, m: &[u8], f: &[u8], q: State) -> Element
 // The code of the meet over all states of initial value → x.
 fn from_initial(w: &Codes, l: Lattice, m: &[u8], x: &[u64; 64]) -> u64
     requires { ⌜ ModelShape (now m) ⌝ }
-    ensures { λ r. ⌜ r ≡ initialCode (now (w .entry)) l (now (m .entry)) (now (x .entry)) ⌝ }
+    ensures { λ r. ⌜ r ≡ wholeCode (now (w .entry)) l (now (m .entry)) (now (x .entry)) ⌝ }
 {
     let n = model::states(m);
     let mut y = elements::code(w, l.top);

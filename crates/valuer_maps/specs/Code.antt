@@ -1,5 +1,6 @@
 -- The words that the functions write, for those that come in pairs by a Bool, which says which. w is a lattice's codes; a map is the list of
--- the codes of its values. Rests on theory's Lists, Loop and Part, elements' Words.
+-- the codes of its values. Rests on theory's RowsListed, Loop and Part, elements' Words.
+--   mapWords: how many words a map has
 --   joinOrMeetCode, startCode: or and and, where the least fixpoint and the greatest start
 --   allNextCode, someNextCode, nextCode: AX and EX at a state
 --   slotOf: the map of a variable
@@ -15,6 +16,10 @@ use Rattle.theory.specs.Loop.{fold}
 use Rattle.theory.specs.Part.{modelOf}
 use Rattle.elements.specs.Words.{codeIn, negatedCodeIn, valueCode}
 use Rattle.elements.specs.declared.Lattice.{Lattice}
+
+-- how many words a map has
+abbrev pub mapWords : ℕ
+mapWords = 64
 
 -- 'or is join, and is meet': | where `up`, else &
 unfoldable pub joinOrMeetCode : Bool → ℕ → ℕ → ℕ

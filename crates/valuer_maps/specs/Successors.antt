@@ -1,9 +1,9 @@
 -- The successors of a state as a row of bytes, and that AX and EX over them are those over all states. Rests on Code, theory's Loop and
 -- Simulation, elements' Words, Folds and Laws.
---   leads, leadsTo: a transition that counts
---   RowListed: a row has the states that pass a test, in order; row-few, row-below, row-of: its places; row-kept: by bytes that are the same
+--   leads, leadsTo: a transition that is not passed over; listBytes: how many bytes there are
+--   RowListed: a row has the states that pass a test, in order; row-few, row-below: how many there are at most, and each below n; row-of: where the row stands
 --   ListedSoFar, listed-none, listed-more, listed-all: what the loop that writes a row has done so far
---   Lists, ListsOf, lists-none, lists-more, lists-all: all rows
+--   RowsListed, SuccessorsOf, rows-listed-none, rows-listed-more, rows-listed-all: all rows
 --   all-listed, some-listed: AX and EX from a row
 use Prim.Native.Nat.{ℕ, zero, suc, _+_, _*_, _≤_, _<_}
 use mathlib.Core.Path.{_≡_, refl, sym, ap, ap₂, _∙_}
@@ -34,6 +34,10 @@ leads w top e = not (eqb (codeIn w e) 0) || not (eqb (negatedCodeIn w e) top)
 -- that from q to r
 abbrev pub leadsTo : List ℕ → ℕ → List ℕ → ℕ → ℕ → Bool
 leadsTo w top m q r = leads w top (modelOf m .transition q r)
+
+-- how many bytes the rows of all states have, 65 to a row
+abbrev pub listBytes : ℕ
+listBytes = 4160
 
 -- ---- counting
 
@@ -71,7 +75,7 @@ row-below h i l = h .below i (omega (arith, h .count-is))
 pub row-of : {p : ℕ → Bool} {n q a : ℕ} {xs : List ℕ} → RowListed p n (q * 65) xs → a ≡ q → RowListed p n (a * 65) xs
 row-of h e = rw e h
 
-pub row-kept : {p : ℕ → Bool} {n at : ℕ} {xs ys : List ℕ} → RowListed p n at xs → n ≤ 64 → ((i : ℕ) → i < at + 65 → getD ys i 0 ≡ getD xs i 0) → RowListed p n at ys
+row-kept : {p : ℕ → Bool} {n at : ℕ} {xs ys : List ℕ} → RowListed p n at xs → n ≤ 64 → ((i : ℕ) → i < at + 65 → getD ys i 0 ≡ getD xs i 0) → RowListed p n at ys
 row-kept {p} {n} {at} h few same =
     record {
       count-is = same at (omega arith) ∙ h .count-is;
@@ -132,18 +136,18 @@ module _ {p : ℕ → Bool} {at : ℕ} {before : List ℕ} where
 -- ---- all rows
 
 -- row q of 65 bytes has the successors of q, for the first n states
-pub record Lists (w : List ℕ) (top : ℕ) (m : List ℕ) (n : ℕ) (xs : List ℕ) : Type 0 where
+pub record RowsListed (w : List ℕ) (top : ℕ) (m : List ℕ) (n : ℕ) (xs : List ℕ) : Type 0 where
   pub at : (q : ℕ) → q < n → RowListed (leadsTo w top m q) (getD m 0 0) (q * 65) xs
 
 -- of all states of m, over a lattice whose top is that of l
-abbrev pub ListsOf : List ℕ → Lattice → List ℕ → List ℕ → Type 0
-ListsOf w l m xs = Lists w (codeIn w (l .top .0)) m (getD m 0 0) xs
+abbrev pub SuccessorsOf : List ℕ → Lattice → List ℕ → List ℕ → Type 0
+SuccessorsOf w l m xs = RowsListed w (codeIn w (l .top .0)) m (getD m 0 0) xs
 
-pub lists-none : {w : List ℕ} {top : ℕ} {m xs : List ℕ} → Lists w top m 0 xs
-lists-none = record { at = λ q l. absurd (not-suc-le-zero l) }
+pub rows-listed-none : {w : List ℕ} {top : ℕ} {m xs : List ℕ} → RowsListed w top m 0 xs
+rows-listed-none = record { at = λ q l. absurd (not-suc-le-zero l) }
 
-pub lists-more : {w : List ℕ} {top : ℕ} {m : List ℕ} {n : ℕ} {xs ys : List ℕ} → Lists w top m n xs → getD m 0 0 ≤ 64 → ((i : ℕ) → i < n * 65 → getD ys i 0 ≡ getD xs i 0) → RowListed (leadsTo w top m n) (getD m 0 0) (n * 65) ys → Lists w top m (n + 1) ys
-lists-more {n = n} h few same row =
+pub rows-listed-more : {w : List ℕ} {top : ℕ} {m : List ℕ} {n : ℕ} {xs ys : List ℕ} → RowsListed w top m n xs → getD m 0 0 ≤ 64 → ((i : ℕ) → i < n * 65 → getD ys i 0 ≡ getD xs i 0) → RowListed (leadsTo w top m n) (getD m 0 0) (n * 65) ys → RowsListed w top m (n + 1) ys
+rows-listed-more {n = n} h few same row =
     record {
       at = λ q l.
           ⊎-elim
@@ -152,8 +156,8 @@ lists-more {n = n} h few same row =
           (eq-or-lt-of-le (omega arith));
     }
 
-pub lists-all : {w : List ℕ} {top : ℕ} {m : List ℕ} {i n : ℕ} {xs : List ℕ} → Lists w top m i xs → i ≤ n → n ≤ i → Lists w top m n xs
-lists-all {i = i} {n = n} u p q = let e : i ≡ n = omega arith in rw e at u
+pub rows-listed-all : {w : List ℕ} {top : ℕ} {m : List ℕ} {i n : ℕ} {xs : List ℕ} → RowsListed w top m i xs → i ≤ n → n ≤ i → RowsListed w top m n xs
+rows-listed-all {i = i} {n = n} u p q = let e : i ≡ n = omega arith in rw e at u
 
 -- ---- a fold over a row is that over all states, where a state that does not pass changes nothing
 

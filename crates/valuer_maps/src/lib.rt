@@ -1,5 +1,5 @@
 // The maps of single nodes of a formula. A map from states to elements is 64 words, of which the first N count: the codes of its values
-// (elements). w and l are a lattice's codes and numbers, m is a model part (model). A map is written into the lent array `out`.
+// (elements). w and l are a lattice's codes and numbers, m is a model part (model), s the successors of its states. A map is written into the lent array `out`.
 //   successors: the states that AX and EX look at
 mod successors;
 
@@ -9,17 +9,17 @@ use elements::Lattice;
 use model::Proposition;
 use model::State;
 pub use successors::Successors;
-pub use successors::list;
+pub use successors::list_successors;
 ghost use mathlib.Core.Path.{_≡_};
-ghost use Prim.Native.Nat.{_≤_, _<_};
+ghost use Prim.Native.Nat.{_*_, _≤_, _<_};
 ghost use lib.Bits.{bitAnd, bitOr};
 ghost use lib.Dec.{eqb};
 ghost use lib.ListN.{length, getD, replicate};
 ghost use Rattle.theory.specs.Part.{ModelShape};
 ghost use Rattle.theory.specs.Test.{allBelow};
 ghost use Rattle.elements.specs.Words.{codeIn, negatedCodeIn};
-ghost use Rattle.valuer_maps.specs.Successors.{Lists, ListsOf};
-ghost use Rattle.valuer_maps.specs.Code.{joinOrMeetCode, startCode, slotOf, allNextCode, someNextCode, nextCode, Literals, Combined, NextMap};
+ghost use Rattle.valuer_maps.specs.Successors.{leadsTo, RowListed, SuccessorsOf};
+ghost use Rattle.valuer_maps.specs.Code.{mapWords, joinOrMeetCode, startCode, slotOf, allNextCode, someNextCode, nextCode, Literals, Combined, NextMap};
 
 // Where a least fixpoint starts, the bottom's code, or a greatest one, the top's.
 pub fn start_of(w: &Codes, l: Lattice, least: bool) -> u64
@@ -86,7 +86,7 @@ pub fn literals(
     next: usize,
     out: &mut [u64],
 ) -> usize
-    requires { ⌜ ModelShape (now m) × (p .0 < getD (now m) 1 0) × (length (now out) ≡ 64) ⌝ }
+    requires { ⌜ ModelShape (now m) × (p .0 < getD (now m) 1 0) × (length (now out) ≡ mapWords) ⌝ }
     ensures { λ r. ⌜ (r ≡ next) × Literals (now (w .entry)) (now (m .entry)) negated (p .0) (now (out .exit)) ⌝ }
 {
     let n = model::states(m);
@@ -109,7 +109,7 @@ fn join_or_meet(up: bool, x: u64, y: u64) -> u64
 
 // The joins (up) or the meets of two maps.
 pub fn combined(up: bool, n: usize, x: &[u64; 64], y: &[u64; 64], out: &mut [u64])
-    requires { ⌜ (n ≤ 64) × (length (now out) ≡ 64) ⌝ }
+    requires { ⌜ (n ≤ 64) × (length (now out) ≡ mapWords) ⌝ }
     ensures { λ _. ⌜ Combined up (now (x .entry)) (now (y .entry)) n (now (out .exit)) ⌝ }
 {
     for q in 0..n {
@@ -135,7 +135,7 @@ fn some_step(w: &Codes, r: Element, x: u64) -> u64
 
 // AX of a map at q, over the successors of q; `top` is the code of the top.
 fn all_next(w: &Codes, top: u64, m: &[u8], s: &Successors, x: &[u64; 64], q: State) -> u64
-    requires { ⌜ ModelShape (now m) × (q .0 < getD (now m) 0 0) × Lists (now w) top (now m) (getD (now m) 0 0) (now s) ⌝ }
+    requires { ⌜ ModelShape (now m) × (q .0 < getD (now m) 0 0) × RowListed (leadsTo (now w) top (now m) (q .0)) (getD (now m) 0 0) (q .0 * 65) (now s) ⌝ }
     ensures { λ r. ⌜ r ≡ allNextCode (now (w .entry)) top (now (m .entry)) (now (x .entry)) (q .0) ⌝ }
 {
     let at = elements::index(q.0) * 65;
@@ -149,9 +149,9 @@ fn all_next(w: &Codes, top: u64, m: &[u8], s: &Successors, x: &[u64; 64], q: Sta
     y
 }
 
-// EX of a map at q.
+// EX of a map at q, over the successors of q; `top` is the one that they were listed by.
 fn some_next(w: &Codes, top: u64, m: &[u8], s: &Successors, x: &[u64; 64], q: State) -> u64
-    requires { ⌜ ModelShape (now m) × (q .0 < getD (now m) 0 0) × Lists (now w) top (now m) (getD (now m) 0 0) (now s) ⌝ }
+    requires { ⌜ ModelShape (now m) × (q .0 < getD (now m) 0 0) × RowListed (leadsTo (now w) top (now m) (q .0)) (getD (now m) 0 0) (q .0 * 65) (now s) ⌝ }
     ensures { λ r. ⌜ r ≡ someNextCode (now (w .entry)) (now (m .entry)) (now (x .entry)) (q .0) ⌝ }
 {
     let at = elements::index(q.0) * 65;
@@ -167,7 +167,7 @@ fn some_next(w: &Codes, top: u64, m: &[u8], s: &Successors, x: &[u64; 64], q: St
 
 // The one (all) or the other.
 fn next_at(w: &Codes, top: u64, m: &[u8], s: &Successors, all: bool, x: &[u64; 64], q: State) -> u64
-    requires { ⌜ ModelShape (now m) × (q .0 < getD (now m) 0 0) × Lists (now w) top (now m) (getD (now m) 0 0) (now s) ⌝ }
+    requires { ⌜ ModelShape (now m) × (q .0 < getD (now m) 0 0) × RowListed (leadsTo (now w) top (now m) (q .0)) (getD (now m) 0 0) (q .0 * 65) (now s) ⌝ }
     ensures { λ r. ⌜ r ≡ nextCode (now (w .entry)) top (now (m .entry)) all (now (x .entry)) (q .0) ⌝ }
 {
     if all {
@@ -186,7 +186,7 @@ pub fn next_values(
     x: &[u64; 64],
     out: &mut [u64],
 )
-    requires { ⌜ ModelShape (now m) × ListsOf (now w) l (now m) (now s) × (length (now out) ≡ 64) ⌝ }
+    requires { ⌜ ModelShape (now m) × SuccessorsOf (now w) l (now m) (now s) × (length (now out) ≡ mapWords) ⌝ }
     ensures { λ _. ⌜ NextMap (now (w .entry)) l (now (m .entry)) all (now (x .entry)) (now (out .exit)) ⌝ }
 {
     let n = model::states(m);

@@ -1,4 +1,4 @@
-// The successors of each state, worked out once for a model: AX and EX go along them alone, since a transition that is bottom takes nothing
+// The successors of each state, listed once for a formula: AX and EX go along them alone, since a transition that is bottom takes nothing
 // from a meet and adds nothing to a join.
 use elements::Codes;
 use elements::Element;
@@ -8,7 +8,7 @@ ghost use mathlib.Core.Path.{_≡_};
 ghost use Prim.Native.Nat.{ℕ, _*_, _<_};
 ghost use lib.ListN.{length, getD};
 ghost use Rattle.theory.specs.Part.{ModelShape};
-ghost use Rattle.valuer_maps.specs.Successors.{leads, leadsTo, RowListed, ListsOf};
+ghost use Rattle.valuer_maps.specs.Successors.{listBytes, leads, leadsTo, RowListed, SuccessorsOf};
 
 // Row q has 65 bytes: how many successors q has, then their numbers in order.
 pub type Successors = [u8; 4160];
@@ -22,10 +22,10 @@ fn leads(w: &Codes, top: u64, e: Element) -> bool
 
 // Writes the row of q: each state is written, and stays where it is a successor.
 fn list_row(w: &Codes, top: u64, m: &[u8], q: State, out: &mut [u8])
-    requires { ⌜ ModelShape (now m) × (q .0 < getD (now m) 0 0) × (length (now out) ≡ 4160) ⌝ }
+    requires { ⌜ ModelShape (now m) × (q .0 < getD (now m) 0 0) × (length (now out) ≡ listBytes) ⌝ }
     ensures { λ _. ⌜ RowListed (leadsTo (now (w .entry)) top (now (m .entry)) (q .0)) (getD (now (m .entry)) 0 0) (q .0 * 65) (now (out .exit))
         × ((i : ℕ) → i < q .0 * 65 → getD (now (out .exit)) i 0 ≡ getD (now (out .entry)) i 0)
-        × (length (now (out .exit)) ≡ 4160) ⌝ }
+        × (length (now (out .exit)) ≡ listBytes) ⌝ }
 {
     let n = model::states(m);
     let at = elements::index(q.0) * 65;
@@ -39,9 +39,9 @@ fn list_row(w: &Codes, top: u64, m: &[u8], q: State, out: &mut [u8])
 }
 
 // The successors of every state.
-pub fn list(w: &Codes, l: Lattice, m: &[u8], out: &mut [u8])
-    requires { ⌜ ModelShape (now m) × (length (now out) ≡ 4160) ⌝ }
-    ensures { λ _. ⌜ ListsOf (now (w .entry)) l (now (m .entry)) (now (out .exit)) ⌝ }
+pub fn list_successors(w: &Codes, l: Lattice, m: &[u8], out: &mut [u8])
+    requires { ⌜ ModelShape (now m) × (length (now out) ≡ listBytes) ⌝ }
+    ensures { λ _. ⌜ SuccessorsOf (now (w .entry)) l (now (m .entry)) (now (out .exit)) ⌝ }
 {
     let n = model::states(m);
     let top = elements::code(w, l.top);

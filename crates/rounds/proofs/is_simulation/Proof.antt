@@ -45,7 +45,7 @@ returns c =
     let l : q < getD (a .m1 .now) 0 0 = omega (arith, c .before .before .before .before .before .before .before .before .before .before .before .before .states .ensures) in
     let r = row-at (a .m1 .now) (a .m2 .now) (a .s .now) q _ _ (b .pre .1) l (c .before .before .before .before .before .before .before .before .before .before .before .states2 .ensures) refl in
     let f = row-top (a .l .top .0) (c .before .before .before .before .before .before .before .before .code .ensures) (prepared-codes (a .w .now) _ (a .m1 .now) (a .m2 .now) (a .s .now) q p (c .before .before .before .row-from .ensures)) in
-    passed-stop (c .before .before .before .before .before .before .before .loop .inv .1) l (sym (row-same-in (b .pre .0) (b .pre .1) (p .table-is) q r (c .before .before .before .before .before .before .before .before .before .before .before .states2 .ensures) f) ∙ sym (c .before .row-same .ensures) ∙ not-true _ (c .if1 .taken))
+    passed-stop (c .before .before .before .before .before .before .before .loop .inv .1) l (sym (row-same-in (b .pre .0) (p .table-is) q r (c .before .before .before .before .before .before .before .before .before .before .before .states2 .ensures) f) ∙ sym (c .before .row-same .ensures) ∙ not-true _ (c .if1 .taken))
 
 loop-again : tie.Need-loop-again Inv-loop μ-loop
 loop-again c =
@@ -56,7 +56,7 @@ loop-again c =
     let l : q < getD (a .m1 .now) 0 0 = omega (arith, c .before .before .before .before .before .before .before .before .before .before .before .before .states .ensures) in
     let r = row-at (a .m1 .now) (a .m2 .now) (a .s .now) q _ _ (b .pre .1) l (c .before .before .before .before .before .before .before .before .before .before .before .states2 .ensures) refl in
     let f = row-top (a .l .top .0) (c .before .before .before .before .before .before .before .before .code .ensures) (prepared-codes (a .w .now) _ (a .m1 .now) (a .m2 .now) (a .s .now) q p (c .before .before .before .row-from .ensures)) in
-    (omega arith, passed-more (c .before .before .before .before .before .before .before .loop .inv .1) (sym (row-same-in (b .pre .0) (b .pre .1) (p .table-is) q r (c .before .before .before .before .before .before .before .before .before .before .before .states2 .ensures) f) ∙ sym (c .before .row-same .ensures) ∙ not-false _ (c .if1 .left)))
+    (omega arith, passed-more (c .before .before .before .before .before .before .before .loop .inv .1) (sym (row-same-in (b .pre .0) (p .table-is) q r (c .before .before .before .before .before .before .before .before .before .before .before .states2 .ensures) f) ∙ sym (c .before .row-same .ensures) ∙ not-false _ (c .if1 .left)))
 
 returns-2 : tie.Need-returns-2 Inv-loop μ-loop
 unfolding simulationTest

@@ -46,7 +46,7 @@ loop-again c =
     let p = c .before .before .before .before .before .before .before .before .before .before .before .prepare .ensures in
     let r = row-at (a .m1 .now) (a .m2 .now) (a .whole .now) q _ _ (b .pre .1) l (c .before .before .before .before .before .before .before .before .before .before .before .before .before .states2 .ensures) refl in
     let f = row-top (a .l .top .0) (c .before .before .before .before .before .before .before .before .before .before .code .ensures) (prepared-codes (a .w .now) _ (a .m1 .now) (a .m2 .now) (a .whole .now) q p (c .before .before .before .before .before .row-from .ensures)) in
-    let v = row-in (b .pre .0) (b .pre .1) (p .table-is) q r (c .before .before .before .before .before .before .before .before .before .before .before .before .before .states2 .ensures) f (c .before .before .write-row .ensures) in
+    let v = row-in (b .pre .0) (p .table-is) q r (c .before .before .before .before .before .before .before .before .before .before .before .before .before .states2 .ensures) f (c .before .before .write-row .ensures) in
     (omega arith, round-more (i .1) l (b .pre .2) (v .0) (v .1) refl)
 
 same-length : tie.Need-same-length Inv-loop μ-loop

@@ -22,7 +22,7 @@ returns c =
     let e = c .before .before .before .before .before .before .before .before .before .states .ensures in
     let r = row-at (b .args .m1 .now) (b .args .m2 .now) (b .args .s .now) (b .args .q1 .0) _ _ (b .pre .1) (b .pre .3) e (c .before .before .before .index .ensures .0) in
     let f = row-top (b .args .l .top .0) (c .before .before .before .before .before .before .before .before .code .ensures) (c .before .before .before .before .before .before .row-codes .ensures) in
-    row-in (b .pre .0) (b .pre .1) table-itself (b .args .q1 .0) r e f (c .before .before .write-row .ensures)
+    row-in (b .pre .0) (table-itself (b .args .w .now) (b .args .m1 .now) (b .args .m2 .now) (b .args .s .now)) (b .args .q1 .0) r e f (c .before .before .write-row .ensures)
 
 pub row-spec : {M : Type 1} → statement M
 row-spec =

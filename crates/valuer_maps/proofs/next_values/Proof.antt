@@ -20,7 +20,7 @@ loop-holds : tie.Need-loop-holds Inv-loop μ-loop
 loop-holds c = (omega arith, c .before .before .before .before .pre .2, filled-none)
 
 next-at-requires : tie.Need-next-at-requires Inv-loop μ-loop
-next-at-requires c κs = let p = c .before .before .before .before .before .before .pre in (p .0, omega (arith, c .before .before .before .states .ensures), rw (c .before .before .code .ensures) (p .1))
+next-at-requires c κs = let p = c .before .before .before .before .before .before .pre in (p .0, omega (arith, c .before .before .before .states .ensures), rw (c .before .before .code .ensures) (p .1 .at _ (omega (arith, c .before .before .before .states .ensures))))
 
 loop-again : tie.Need-loop-again Inv-loop μ-loop
 loop-again c =

@@ -29,17 +29,17 @@ element-copy-out-r : tie.Need-element-copy-out-r Inv-loop μ-loop
 element-copy-out-r c =
     let p = c .before .before .before .before .before .before .pre in
     let e = c .before .before .before .before .index .ensures .0 in
-    omega (arith, e, p .1, p .0 .states-most, c .before .before .index2 .ensures .0, row-few (row-of (p .2 .at _ (p .1)) e))
+    omega (arith, e, p .1, p .0 .states-most, c .before .before .index2 .ensures .0, row-few (row-of (p .2) e))
 
 transition-requires : tie.Need-transition-requires Inv-loop μ-loop
 transition-requires c κs =
     let p = c .before .before .before .before .before .before .before .pre in
-    (p .0, p .1, row-below (row-of (p .2 .at _ (p .1)) (c .before .before .before .before .before .index .ensures .0)) _ (omega (arith, c .before .before .before .index2 .ensures .0)))
+    (p .0, p .1, row-below (row-of (p .2) (c .before .before .before .before .before .index .ensures .0)) _ (omega (arith, c .before .before .before .index2 .ensures .0)))
 
 element-copy-out-step : tie.Need-element-copy-out-some-step Inv-loop μ-loop
 element-copy-out-step c =
     let p = c .before .before .before .before .before .before .before .before .before .pre in
-    omega (arith, p .0 .states-most, c .index3 .ensures .0, row-below (row-of (p .2 .at _ (p .1)) (c .before .before .before .before .before .before .before .index .ensures .0)) (c .before .before .before .before .loop .i) (omega (arith, c .before .before .before .before .before .index2 .ensures .0)))
+    omega (arith, p .0 .states-most, c .index3 .ensures .0, row-below (row-of (p .2) (c .before .before .before .before .before .before .before .index .ensures .0)) (c .before .before .before .before .loop .i) (omega (arith, c .before .before .before .before .before .index2 .ensures .0)))
 
 loop-again : tie.Need-loop-again Inv-loop μ-loop
 loop-again c =
@@ -52,7 +52,7 @@ returns c =
     let a = b .args in
     let e = c .before .before .before .before .index .ensures .0 in
     let n = c .before .before .index2 .ensures .0 in
-    folded-all (c .before .loop .inv .1) (omega (arith, n)) (omega (arith, n)) ∙ some-listed (a .w .now) (a .top) (a .m .now) (a .x .now) (a .q .0) (row-of (b .pre .2 .at _ (b .pre .1)) e)
+    folded-all (c .before .loop .inv .1) (omega (arith, n)) (omega (arith, n)) ∙ some-listed (a .w .now) (a .top) (a .m .now) (a .x .now) (a .q .0) (row-of (b .pre .2) e)
 
 pub some-next-spec : {M : Type 1} → statement M
 some-next-spec =

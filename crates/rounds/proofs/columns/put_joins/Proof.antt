@@ -6,7 +6,7 @@ use lib.Bits.{bitAnd, bitOr}
 use lib.ListN.{length, getD}
 use Rattle.elements.specs.Words.{codeIn}
 use Rattle.model.specs.Reading.{leavingCode}
-use Rattle.rounds.specs.Rows.{spread-as, Folds, folds-none, folds-more, folds-all, filled-same}
+use Rattle.rounds.specs.Rows.{spread-as, RowFolded, row-folded-none, row-folded-more, row-folded-all, filled-same}
 use Rattle.rounds.specs.Codes.{byColumn}
 use borrow.Author.Needs.{needs}
 use native.Mathlib.Omega.{arith}
@@ -15,13 +15,13 @@ use Rattle.rounds.proofs.columns.put_joins.Tie as tie
 
 abbrev Inv-loop : tie.InvT-loop
 Inv-loop w m2 q2 table n1 joins n2 row₀ r₀ row r =
-    (r ≤ n2) × (length row ≡ 64) × Folds bitOr (λ q. 0) (λ q i. bitAnd (leavingCode false w m2 (q2 .0) i) (byColumn table q i)) r n1 row
+    (r ≤ n2) × (length row ≡ 64) × RowFolded bitOr (λ q. 0) (λ q i. bitAnd (leavingCode false w m2 (q2 .0) i) (byColumn table q i)) r n1 row
 
 abbrev μ-loop : tie.MeasureT-loop
 μ-loop w m2 q2 table n1 joins n2 row₀ r₀ row r = n2 - r
 
 loop-holds : tie.Need-loop-holds Inv-loop μ-loop
-loop-holds c = (omega arith, refl, folds-none (filled-same 0 (c .before .before .before .args .n1) (c .before .before .before .pre .2)))
+loop-holds c = (omega arith, refl, row-folded-none (filled-same 0 (c .before .before .before .args .n1) (c .before .before .before .pre .2)))
 
 mul-join-with : tie.Need-mul-join-with Inv-loop μ-loop
 mul-join-with c = omega (arith, c .before .before .before .before .before .states .ensures, c .before .before .before .before .before .before .before .before .pre .0 .states-most)
@@ -35,7 +35,7 @@ loop-again c =
     let a = c .before .before .before .before .before .before .before .before .before .before .args in
     let r = c .before .before .before .before .before .before .loop .r in
     let u = c .before .join-with .ensures in
-    (omega arith, u .same-length ∙ i .1, folds-more (i .2) u (λ q x. ap (λ (y : ℕ). bitOr x (bitAnd y (byColumn (a .table .now) q r))) (c .before .before .before .code .ensures ∙ ap (codeIn (a .w .now)) (c .before .before .before .before .transition .ensures))))
+    (omega arith, u .same-length ∙ i .1, row-folded-more (i .2) u (λ q x. ap (λ (y : ℕ). bitOr x (bitAnd y (byColumn (a .table .now) q r))) (c .before .before .before .code .ensures ∙ ap (codeIn (a .w .now)) (c .before .before .before .before .transition .ensures))))
 
 spread-requires : tie.Need-spread-requires Inv-loop μ-loop
 spread-requires c κs = let p = c .before .before .before .before .before .before .before .before .pre in (p .2, omega (arith, c .index .ensures .0, p .1, p .0 .states-most), p .3)
@@ -47,7 +47,7 @@ returns : tie.Need-returns Inv-loop μ-loop
 returns c =
     let b = c .before .before .before .before .before .before .before .before .before .before .before in
     let e = c .before .before .before .before .before .before .before .before .states .ensures in
-    rw (c .before .before .before .index .ensures .0) at (spread-as (c .before .before .spread .ensures) (folds-all {k = getD (b .args .m2 .now) 0 0} (c .before .before .before .before .before .before .before .loop .inv .2) (omega arith) (omega arith) .at))
+    rw (c .before .before .before .index .ensures .0) at (spread-as (c .before .before .spread .ensures) (row-folded-all {k = getD (b .args .m2 .now) 0 0} (c .before .before .before .before .before .before .before .loop .inv .2) (omega arith) (omega arith) .at))
 
 pub put-joins-spec : {M : Type 1} → statement M
 put-joins-spec =

@@ -6,8 +6,8 @@ use lib.Bits.{bitAnd, bitOr}
 use lib.ListN.{length, getD}
 use Rattle.elements.specs.Words.{negatedCodeIn}
 use Rattle.model.specs.Reading.{leavingCode}
-use Rattle.rounds.specs.Rows.{Folds, folds-none, folds-more, folds-all}
-use Rattle.rounds.specs.Codes.{byRow, propositionsCode, propositions-within, folds-within}
+use Rattle.rounds.specs.Rows.{RowFolded, row-folded-none, row-folded-more, row-folded-all}
+use Rattle.rounds.specs.Codes.{byRow, propositionsCode, propositions-within, row-folded-within}
 use borrow.Author.Needs.{needs}
 use native.Mathlib.Omega.{arith}
 use Rattle.rounds.proofs.columns.row_from.Statement.{statement}
@@ -15,13 +15,13 @@ use Rattle.rounds.proofs.columns.row_from.Tie as tie
 
 abbrev Inv-loop : tie.InvT-loop
 Inv-loop w top m1 m2 joins q1 out₀ n1 n2 q₀ out q =
-    (q ≤ n1) × (length out ≡ 64) × Folds bitAnd (propositionsCode w top m1 m2 (q1 .0)) (λ r i. bitOr (leavingCode true w m1 (q1 .0) i) (byRow joins i r)) q n2 out
+    (q ≤ n1) × (length out ≡ 64) × RowFolded bitAnd (propositionsCode w top m1 m2 (q1 .0)) (λ r i. bitOr (leavingCode true w m1 (q1 .0) i) (byRow joins i r)) q n2 out
 
 abbrev μ-loop : tie.MeasureT-loop
 μ-loop w top m1 m2 joins q1 out₀ n1 n2 q₀ out q = n1 - q
 
 loop-holds : tie.Need-loop-holds Inv-loop μ-loop
-loop-holds c = (omega arith, c .propositions .ensures .0, folds-none (rw (c .before .before .states2 .ensures) (c .propositions .ensures .1)))
+loop-holds c = (omega arith, c .propositions .ensures .0, row-folded-none (rw (c .before .before .states2 .ensures) (c .propositions .ensures .1)))
 
 mul-meet-with : tie.Need-mul-meet-with Inv-loop μ-loop
 mul-meet-with c = omega (arith, c .before .before .before .before .before .before .before .before .states .ensures, c .before .before .before .before .before .before .before .before .before .before .before .pre .0 .first .states-most)
@@ -33,7 +33,7 @@ meet-with-requires c κs =
     let e₁ = c .before .before .before .before .before .before .before .before .states .ensures in
     let e₂ = c .before .before .before .before .before .before .before .states2 .ensures in
     let p = b .pre .0 in
-    (omega (arith, e₂, p .second .states-most), omega (arith, e₁, e₂, p .first .states-most, p .second .states-most), i .1, folds-within (b .args .top) _ _ (λ r l. propositions-within (b .args .w .now) (b .args .top) (b .args .m1 .now) (b .args .m2 .now) (b .args .q1 .0) r) (i .2))
+    (omega (arith, e₂, p .second .states-most), omega (arith, e₁, e₂, p .first .states-most, p .second .states-most), i .1, row-folded-within (b .args .top) _ _ (λ r l. propositions-within (b .args .w .now) (b .args .top) (b .args .m1 .now) (b .args .m2 .now) (b .args .q1 .0) r) (i .2))
 
 loop-again : tie.Need-loop-again Inv-loop μ-loop
 loop-again c =
@@ -41,12 +41,12 @@ loop-again c =
     let a = c .before .before .before .before .before .before .before .before .before .before .before .before .args in
     let q = c .before .before .before .before .before .loop .q in
     let u = c .meet-with .ensures in
-    (omega arith, u .same-length ∙ i .1, folds-more (i .2) u (λ r x. ap (λ (y : ℕ). bitAnd x (bitOr y (byRow (a .joins .now) q r))) (c .before .before .negated-code .ensures ∙ ap (negatedCodeIn (a .w .now)) (c .before .before .before .transition .ensures))))
+    (omega arith, u .same-length ∙ i .1, row-folded-more (i .2) u (λ r x. ap (λ (y : ℕ). bitAnd x (bitOr y (byRow (a .joins .now) q r))) (c .before .before .negated-code .ensures ∙ ap (negatedCodeIn (a .w .now)) (c .before .before .before .transition .ensures))))
 
 returns : tie.Need-returns Inv-loop μ-loop
 returns c =
     let e = c .before .before .before .before .before .states .ensures in
-    rw (c .before .before .before .before .states2 .ensures) at (folds-all {k = getD (c .before .before .before .before .before .before .before .before .args .m1 .now) 0 0} (c .before .loop .inv .2) (omega arith) (omega arith))
+    rw (c .before .before .before .before .states2 .ensures) at (row-folded-all {k = getD (c .before .before .before .before .before .before .before .before .args .m1 .now) 0 0} (c .before .loop .inv .2) (omega arith) (omega arith))
 
 pub row-from-spec : {M : Type 1} → statement M
 row-from-spec =

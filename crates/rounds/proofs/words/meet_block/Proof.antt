@@ -4,7 +4,7 @@ use Prim.Native.Nat.{_≤_, _-_}
 use native.Mathlib.Nat.{le-refl}
 use lib.ListN.{length, length-set}
 use Rattle.rounds.specs.Rows.{Replaced, replaced-none, replaced-more, replaced-all}
-use Rattle.rounds.specs.Codes.{innerBlock, block-is}
+use Rattle.rounds.specs.Codes.{innerBlockCode, block-is}
 use borrow.Author.Needs.{needs}
 use native.Mathlib.Omega.{arith}
 use Rattle.rounds.proofs.words.meet_block.Statement.{statement}
@@ -12,7 +12,7 @@ use Rattle.rounds.proofs.words.meet_block.Tie as tie
 
 abbrev Inv-loop : tie.InvT-loop
 Inv-loop w top left m2 s first k out₀ n2 block row₀ q2₀ out row q2 =
-    (q2 ≤ n2) × (length out ≡ 64) × (length row ≡ 64) × Replaced (λ q₂ x. innerBlock x w left m2 s first k q₂) q2 out₀ out
+    (q2 ≤ n2) × (length out ≡ 64) × (length row ≡ 64) × Replaced (λ q₂ x. innerBlockCode x w left m2 s first k q₂) q2 out₀ out
 
 abbrev μ-loop : tie.MeasureT-loop
 μ-loop w top left m2 s first k out₀ n2 block row₀ q2₀ out row q2 = n2 - q2
