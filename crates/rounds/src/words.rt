@@ -162,8 +162,8 @@ pub(crate) fn row_codes(
     out: &mut [u64; 64],
 )
     requires { ⌜ Shaped (now m1) (now m2) (now s) × (q1 .0 < getD (now m1) 0 0) ⌝ }
-    ensures { λ _. ⌜ EntryCodes (now (w .entry)) top (now (m1 .entry)) (now (m2 .entry)) (codesOfTable (now (w .entry)) (now (m2 .entry)) (now (s .entry))) (q1 .0)
-        (now (out .exit)) ⌝ }
+    ensures { λ _. ⌜ EntryCodes (now (w .entry)) top (now (m1 .entry)) (now (m2 .entry))
+        (codesOfTable (now (w .entry)) (now (m2 .entry)) (now (s .entry))) (q1 .0) (now (out .exit)) ⌝ }
 {
     let n1 = model::states(m1);
     let mut left = [0u64; 64];

@@ -2,7 +2,7 @@
 -- the codes of its values. Rests on theory's RowsListed, Loop and Part, elements' Words.
 --   mapWords: how many words a map has
 --   joinOrMeetCode, startCode: or and and, where the least fixpoint and the greatest start
---   allNextCode, someNextCode, nextCode: AX and EX at a state
+--   allNextCode, someNextCode, firstCode, stepCode, nextCode: AX and EX at a state
 --   slotOf: the map of a variable
 --   Literals, Combined, NextMap: the first words of a map are those of a proposition, of or or and, of AX or EX
 use Prim.Native.Nat.{ℕ}
@@ -36,6 +36,13 @@ allNextCode w top m x q = fold bitAnd top (λ r. bitOr (negatedCodeIn w (modelOf
 -- EX at q: 'the join of R(q, q') met with f(q')'
 abbrev pub someNextCode : List ℕ → List ℕ → List ℕ → ℕ → ℕ
 someNextCode w m x q = fold bitOr 0 (λ r. bitAnd (codeIn w (modelOf m .transition q r)) (getD x r 0)) (getD m 0 0)
+
+-- where AX (all) or EX starts, and what a transition of value e to a state whose value has the code x gives to it
+unfoldable pub firstCode : ℕ → Bool → ℕ
+firstCode top all = cond all top 0
+
+unfoldable pub stepCode : Bool → List ℕ → ℕ → ℕ → ℕ
+stepCode all w e x = cond all (bitOr (negatedCodeIn w e) x) (bitAnd (codeIn w e) x)
 
 -- AX (all), or EX
 unfoldable pub nextCode : List ℕ → ℕ → List ℕ → Bool → List ℕ → ℕ → ℕ

@@ -4,7 +4,7 @@
 --   RowListed: a row has the states that pass a test, in order; row-few, row-below: how many there are at most, and each below n; row-of: where the row stands
 --   ListedSoFar, listed-none, listed-more, listed-all: what the loop that writes a row has done so far
 --   RowsListed, SuccessorsOf, rows-listed-none, rows-listed-more, rows-listed-all: all rows
---   all-listed, some-listed: AX and EX from a row
+--   next-listed: AX and EX from a row
 use Prim.Native.Nat.{ℕ, zero, suc, _+_, _*_, _≤_, _<_}
 use mathlib.Core.Path.{_≡_, refl, sym, ap, ap₂, _∙_}
 use mathlib.Core.Bool.{Bool, true, false, not, _||_}
@@ -25,7 +25,7 @@ use Rattle.elements.specs.Words.{codeIn, negatedCodeIn}
 use Rattle.elements.specs.declared.Lattice.{Lattice}
 use Rattle.elements.specs.Laws.{within-refl}
 use Rattle.elements.specs.Folds.{fold-within, top-same}
-use Rattle.valuer_maps.specs.Code.{allNextCode, someNextCode}
+use Rattle.valuer_maps.specs.Code.{joinOrMeetCode, allNextCode, someNextCode, firstCode, stepCode, nextCode}
 
 -- Of a transition's value e: it is not passed over, as it would be where its code is 0 and that of its complement the top's.
 abbrev pub leads : List ℕ → ℕ → ℕ → Bool
@@ -188,7 +188,7 @@ module _ (w : List ℕ) (top : ℕ) (m x : List ℕ) (q : ℕ) {at : ℕ} {xs : 
   abbrev nth : ℕ → ℕ
   nth i = getD xs (at + 1 + i) 0
 
-  pub all-listed : fold bitAnd top (λ i. bitOr (negatedCodeIn w (modelOf m .transition q (nth i))) (getD x (nth i) 0)) (getD xs at 0) ≡ allNextCode w top m x q
+  all-listed : fold bitAnd top (λ i. bitOr (negatedCodeIn w (modelOf m .transition q (nth i))) (getD x (nth i) 0)) (getD xs at 0) ≡ allNextCode w top m x q
   all-listed =
       ap (fold bitAnd top (λ i. bitOr (negatedCodeIn w (modelOf m .transition q (nth i))) (getD x (nth i) 0))) (h .count-is)
       ∙ picked bitAnd top (λ r. bitOr (negatedCodeIn w (modelOf m .transition q r)) (getD x r 0)) (leadsTo w top m q) nth (getD m 0 0) (h .listed)
@@ -196,10 +196,16 @@ module _ (w : List ℕ) (top : ℕ) (m x : List ℕ) (q : ℕ) {at : ℕ} {xs : 
       let z = eqb-true (negatedCodeIn w (modelOf m .transition q r)) top (not-or (eqb (codeIn w (modelOf m .transition q r)) 0) (eqb (negatedCodeIn w (modelOf m .transition q r)) top) e .1) in
       rw z (sym (top-same (fold-within (within-refl top) (λ r. bitOr (negatedCodeIn w (modelOf m .transition q r)) (getD x r 0)) r) (getD x r 0))))
 
-  pub some-listed : fold bitOr 0 (λ i. bitAnd (codeIn w (modelOf m .transition q (nth i))) (getD x (nth i) 0)) (getD xs at 0) ≡ someNextCode w m x q
+  some-listed : fold bitOr 0 (λ i. bitAnd (codeIn w (modelOf m .transition q (nth i))) (getD x (nth i) 0)) (getD xs at 0) ≡ someNextCode w m x q
   some-listed =
       ap (fold bitOr 0 (λ i. bitAnd (codeIn w (modelOf m .transition q (nth i))) (getD x (nth i) 0))) (h .count-is)
       ∙ picked bitOr 0 (λ r. bitAnd (codeIn w (modelOf m .transition q r)) (getD x r 0)) (leadsTo w top m q) nth (getD m 0 0) (h .listed)
       (λ r l e.
       let z = eqb-true (codeIn w (modelOf m .transition q r)) 0 (not-or (eqb (codeIn w (modelOf m .transition q r)) 0) (eqb (negatedCodeIn w (modelOf m .transition q r)) top) e .0) in
       rw z (rw (and-zero-l (getD x r 0)) (or-zero-r (fold bitOr 0 (λ r. bitAnd (codeIn w (modelOf m .transition q r)) (getD x r 0)) r))))
+
+  -- the one or the other
+  pub next-listed : (all : Bool) → fold (joinOrMeetCode (not all)) (firstCode top all) (λ i. stepCode all w (modelOf m .transition q (nth i)) (getD x (nth i) 0)) (getD xs at 0) ≡ nextCode w top m all x q
+  unfolding joinOrMeetCode firstCode stepCode nextCode
+  next-listed true = all-listed
+  next-listed false = some-listed

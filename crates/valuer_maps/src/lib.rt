@@ -19,7 +19,7 @@ ghost use Rattle.theory.specs.Part.{ModelShape};
 ghost use Rattle.theory.specs.Test.{allBelow};
 ghost use Rattle.elements.specs.Words.{codeIn, negatedCodeIn};
 ghost use Rattle.valuer_maps.specs.Successors.{leadsTo, RowListed, SuccessorsOf};
-ghost use Rattle.valuer_maps.specs.Code.{mapWords, joinOrMeetCode, startCode, slotOf, allNextCode, someNextCode, nextCode, Literals, Combined, NextMap};
+ghost use Rattle.valuer_maps.specs.Code.{mapWords, joinOrMeetCode, startCode, slotOf, firstCode, stepCode, nextCode, Literals, Combined, NextMap};
 
 // Where a least fixpoint starts, the bottom's code, or a greatest one, the top's.
 pub fn start_of(w: &Codes, l: Lattice, least: bool) -> u64
@@ -119,6 +119,16 @@ pub fn combined(up: bool, n: usize, x: &[u64; 64], y: &[u64; 64], out: &mut [u64
 
 // ---- AX and EX
 
+// Where AX (all) starts, the top's code, or EX.
+fn first_of(top: u64, all: bool) -> u64
+    ensures { λ r. ⌜ r ≡ firstCode top all ⌝ }
+{
+    if all {
+        return top;
+    }
+    0
+}
+
 // What a transition of value r to a state whose value has the code x gives to AX: not-r | x, the code of r → x.
 pub fn all_step(w: &Codes, r: Element, x: u64) -> u64
     ensures { λ y. ⌜ y ≡ bitOr (negatedCodeIn (now (w .entry)) (r .0)) x ⌝ }
@@ -133,47 +143,31 @@ fn some_step(w: &Codes, r: Element, x: u64) -> u64
     elements::code(w, r) & x
 }
 
-// AX of a map at q, over the successors of q; `top` is the code of the top.
-fn all_next(w: &Codes, top: u64, m: &[u8], s: &Successors, x: &[u64; 64], q: State) -> u64
-    requires { ⌜ ModelShape (now m) × (q .0 < getD (now m) 0 0) × RowListed (leadsTo (now w) top (now m) (q .0)) (getD (now m) 0 0) (q .0 * 65) (now s) ⌝ }
-    ensures { λ r. ⌜ r ≡ allNextCode (now (w .entry)) top (now (m .entry)) (now (x .entry)) (q .0) ⌝ }
-{
-    let at = elements::index(q.0) * 65;
-    let n = elements::index(s[at]);
-    let mut y = top;
-    for i in 0..n {
-        let r = s[at + 1 + i];
-        let e = model::transition(m, q, State(r));
-        y = y & all_step(w, e, x[elements::index(r)]);
-    }
-    y
-}
-
-// EX of a map at q, over the successors of q; `top` is the one that they were listed by.
-fn some_next(w: &Codes, top: u64, m: &[u8], s: &Successors, x: &[u64; 64], q: State) -> u64
-    requires { ⌜ ModelShape (now m) × (q .0 < getD (now m) 0 0) × RowListed (leadsTo (now w) top (now m) (q .0)) (getD (now m) 0 0) (q .0 * 65) (now s) ⌝ }
-    ensures { λ r. ⌜ r ≡ someNextCode (now (w .entry)) (now (m .entry)) (now (x .entry)) (q .0) ⌝ }
-{
-    let at = elements::index(q.0) * 65;
-    let n = elements::index(s[at]);
-    let mut y: u64 = 0;
-    for i in 0..n {
-        let r = s[at + 1 + i];
-        let e = model::transition(m, q, State(r));
-        y = y | some_step(w, e, x[elements::index(r)]);
-    }
-    y
-}
-
 // The one (all) or the other.
-fn next_at(w: &Codes, top: u64, m: &[u8], s: &Successors, all: bool, x: &[u64; 64], q: State) -> u64
-    requires { ⌜ ModelShape (now m) × (q .0 < getD (now m) 0 0) × RowListed (leadsTo (now w) top (now m) (q .0)) (getD (now m) 0 0) (q .0 * 65) (now s) ⌝ }
-    ensures { λ r. ⌜ r ≡ nextCode (now (w .entry)) top (now (m .entry)) all (now (x .entry)) (q .0) ⌝ }
+fn next_step(w: &Codes, all: bool, r: Element, x: u64) -> u64
+    ensures { λ y. ⌜ y ≡ stepCode all (now (w .entry)) (r .0) x ⌝ }
 {
     if all {
-        return all_next(w, top, m, s, x, q);
+        return all_step(w, r, x);
     }
-    some_next(w, top, m, s, x, q)
+    some_step(w, r, x)
+}
+
+// AX (all) or EX of a map at q: the meet or the join over the successors of q. `top` is the code of the top.
+fn next_at(w: &Codes, top: u64, m: &[u8], s: &Successors, all: bool, x: &[u64; 64], q: State) -> u64
+    requires { ⌜ ModelShape (now m) × (q .0 < getD (now m) 0 0)
+        × RowListed (leadsTo (now w) top (now m) (q .0)) (getD (now m) 0 0) (q .0 * 65) (now s) ⌝ }
+    ensures { λ r. ⌜ r ≡ nextCode (now (w .entry)) top (now (m .entry)) all (now (x .entry)) (q .0) ⌝ }
+{
+    let at = elements::index(q.0) * 65;
+    let n = elements::index(s[at]);
+    let mut y = first_of(top, all);
+    for i in 0..n {
+        let r = s[at + 1 + i];
+        let e = model::transition(m, q, State(r));
+        y = join_or_meet(!all, y, next_step(w, all, e, x[elements::index(r)]));
+    }
+    y
 }
 
 // AX (all) or EX of a map.
