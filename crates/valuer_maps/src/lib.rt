@@ -119,7 +119,7 @@ pub fn combined(up: bool, n: usize, x: &[u64; 64], y: &[u64; 64], out: &mut [u64
 
 // ---- AX and EX
 
-// Where AX (all) starts, the top's code, or EX.
+// Where AX (all) starts, the top's code, or EX, the bottom's.
 fn first_of(top: u64, all: bool) -> u64
     ensures { λ r. ⌜ r ≡ firstCode top all ⌝ }
 {

@@ -34,7 +34,7 @@ loop-again c =
     let i = c .before .before .before .before .loop .inv in
     let b = c .before .before .before .before .before .before .before .before .before in
     let e = c .one-if .ensures ∙ ap indicator (c .before .leads .ensures ∙ ap (leads (b .args .w .now) (b .args .top)) (c .before .before .transition .ensures)) in
-    (omega arith, omega (arith, e, indicator-most (leadsTo (b .args .w .now) (b .args .top) (b .args .m .now) (b .args .q .0) (c .before .before .before .before .loop .r))), simp length-set (i .2), listed-more (i .3) (omega (arith, i .2, c .before .before .before .before .before .index .ensures .0, c .before .before .before .before .before .before .states .ensures, b .pre .1, b .pre .0 .states-most)) e)
+    (omega arith, omega (arith, c .one-if .ensures, indicator-most (c .before .leads .result)), simp length-set (i .2), listed-more (i .3) (omega (arith, i .2, c .before .before .before .before .before .index .ensures .0, c .before .before .before .before .before .before .states .ensures, b .pre .1, b .pre .0 .states-most)) e)
 
 cast-out-3 : tie.Need-cast-out-3 Inv-loop μ-loop
 cast-out-3 c = omega (arith, c .before .before .before .states .ensures, c .before .before .before .before .before .before .pre .0 .states-most)
