@@ -1,5 +1,5 @@
 -- The codes that the loops of a row and a round compute, and that they are those of F's entries. w is a lattice's codes.
--- Rests on Table, Rows, theory's Loop, Lists, Part and Simulation, elements' Words, RowFolded and Laws, model's Reading.
+-- Rests on Table, Rows, theory's Loop, Lists, Part and Simulation, elements' Words, Folds and Laws, model's Reading.
 --   ModelPair, model-pair: two model parts over the same propositions
 --   tableCode, codesOfTable, iffCode, propositionsCode, joinCode, innerCode, successorCode, entryCode, initialCode: the codes
 --   byRow, byColumn: an entry of a table of words; entryFrom: an entry's code from inner joins that stand in such a table

@@ -1,5 +1,5 @@
 -- The words that the functions write, for those that come in pairs by a Bool, which says which. w is a lattice's codes; a map is the list of
--- the codes of its values. Rests on theory's RowsListed, Loop and Part, elements' Words.
+-- the codes of its values. Rests on theory's Lists, Loop and Part, elements' Words.
 --   mapWords: how many words a map has
 --   joinOrMeetCode, startCode: or and and, where the least fixpoint and the greatest start
 --   allNextCode, someNextCode, firstCode, stepCode, nextCode: AX and EX at a state

@@ -1,5 +1,5 @@
 -- What a list of words is as a map from states to elements, and that the words of Code are the maps of nodes. Rests on Code, theory's
--- Lattice, RowsListed, Part and Value, elements' Words, Coded and Folds.
+-- Lattice, Lists, Part and Value, elements' Words, Coded and Folds.
 --   MapOf: the first words of a list are the codes of the elements that a map gives; map-as: by a map that gives the same
 --   startOf, map-start, map-literals, map-join-or-meet, map-next: the maps of nodes
 --   implied: the meet over the values v of v → f, which AX and the value on a whole model are

@@ -1,5 +1,5 @@
--- The successors of a state as a row of bytes, and that AX and EX over them are those over all states. Rests on Code, theory's Loop and
--- Simulation, elements' Words, Folds and Laws.
+-- The successors of a state as a row of bytes, and that AX and EX over them are those over all states. Rests on Code, theory's Loop,
+-- Part, Simulation and TestLaws, elements' Words, Folds and Laws.
 --   leads, leadsTo: a transition that is not passed over; listBytes: how many bytes there are
 --   RowListed: a row has the states that pass a test, in order; row-few, row-below: how many there are at most, and each below n; row-of: where the row stands
 --   ListedSoFar, listed-none, listed-more, listed-all: what the loop that writes a row has done so far
@@ -75,6 +75,7 @@ row-below h i l = h .below i (omega (arith, h .count-is))
 pub row-of : {p : ℕ → Bool} {n q a : ℕ} {xs : List ℕ} → RowListed p n (q * 65) xs → a ≡ q → RowListed p n (a * 65) xs
 row-of h e = rw e h
 
+-- bytes that are the same have the same row
 row-kept : {p : ℕ → Bool} {n at : ℕ} {xs ys : List ℕ} → RowListed p n at xs → n ≤ 64 → ((i : ℕ) → i < at + 65 → getD ys i 0 ≡ getD xs i 0) → RowListed p n at ys
 row-kept {p} {n} {at} h few same =
     record {
