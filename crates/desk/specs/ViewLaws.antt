@@ -1,4 +1,4 @@
--- A question reads a table only at the pairs of states. Rests on View, Refused, Perform, theory's Rounds and rounds' Round.
+-- A question reads a table only at the pairs of states. Rests on View, Refused, Perform, theory's Rounds and Share.
 --   SameView: views that agree at the pairs of states
 --   conditions-cong, answer-cong: a question has the same first refusal, and the same answer, from two of them
 --   entries-cong: the entries of a table in the order of its bytes
@@ -10,8 +10,8 @@ use native.Mathlib.Nat.{mod-lt, div-lt-iff-lt-mul}
 use native.Mathlib.Omega.{arith}
 use Rattle.theory.specs.Simulation.{SameTable}
 use Rattle.theory.specs.Rounds.{score-cong}
+use Rattle.theory.specs.Share.{share-cong}
 use Rattle.casefile.specs.Reading.{Content}
-use Rattle.rounds.specs.Round.{share-cong}
 use Rattle.desk.specs.Desk.{Question, Reply, replyAlone}
 use Rattle.desk.specs.Case.{ops, model1, model2, N1, N2, tableSize, entryAt}
 use Rattle.desk.specs.View.{View}

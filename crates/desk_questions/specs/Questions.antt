@@ -1,4 +1,4 @@
--- What the questions are answered, from what the code found. Rests on desk_check's Held, rounds' Table and Share, valuer's Values.
+-- What the questions are answered, from what the code found. Rests on desk_check's Held, rounds' Table, share's ShareIn, valuer's Values.
 --   Readable, caseScore, caseSimulation, rangeTest: the terms of the code's contracts
 --   readable, model-over, formula-on-model, whole-fits, some-entries: a held desk meets what these terms and the functions ask
 --   held-show, held-score, held-share, held-judge, held-whole, held-value: each question answered
@@ -15,15 +15,16 @@ use lib.ListN.{length, getD, take}
 use Rattle.theory.specs.Model.{Model}
 use Rattle.theory.specs.Part.{modelOf}
 use Rattle.theory.specs.Simulation.{share}
+use Rattle.theory.specs.Share.{share-cong}
 use Rattle.theory.specs.TestLaws.{and-l, and-r, cond-true, cond-false}
 use Rattle.formula.specs.Bytes.{read, formulaReading}
 use Rattle.casefile.specs.declared.Sizes.{Sizes}
 use Rattle.casefile.specs.Directory.{partCount, partAt}
 use Rattle.casefile.specs.Conditions.{Placed}
 use Rattle.valuer.specs.Values.{ModelOver, ValueAt, WholeValue}
-use Rattle.rounds.specs.Table.{Shaped, shareIn, scoreIn, simulationIn}
-use Rattle.rounds.specs.Share.{shareIn-is}
-use Rattle.rounds.specs.Round.{byte-at, share-cong}
+use Rattle.rounds.specs.Table.{Shaped, scoreIn, simulationIn}
+use Rattle.rounds.specs.Round.{byte-at}
+use Rattle.share.specs.ShareIn.{shareIn, shareIn-is}
 use Rattle.desk.specs.Desk.{Desk, Question, Call, Reply, wholeTable}
 use Rattle.desk.specs.Case.{ops, latticeSize, model1, model2, N1, N2, tableSize, modelIn, formulaIn, operator, entryAt}
 use Rattle.desk.specs.View.{shownTable}

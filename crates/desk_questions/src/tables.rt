@@ -91,7 +91,7 @@ pub fn share<'a>(
             }
             let n = table_size(z);
             let whole = whole_table(s.second_whole, first, second);
-            ShareAnswer::PerCent(rounds::share(&w, e, whole, n))
+            ShareAnswer::PerCent(share::share(&w, e, whole, n))
         }
     }
 }

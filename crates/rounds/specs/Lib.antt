@@ -3,7 +3,6 @@
 pub mod Table  -- a table of bytes, a row written into one, the test for a simulation, the contracts' terms
 -- ---- theorems
 pub mod Round  -- rows worked one by one are a round; the test is passed exactly by simulations
-pub mod Share  -- share by the codes is the theory's
 pub mod Rest  -- the rows of a round from a given one on
 -- ---- for the code
 pub mod Row  -- where a row stands, and what a loop over its entries has done so far

@@ -7,7 +7,7 @@
 --   top-round, byte-at, shown-bytes, cell-lt: round 0; the entries as bytes
 --   Worked, worked-none, worked-more, worked-round, row-elements: the rows alone
 --   changed-none, changed-more, unchanged-simulation, unchanged-round: what changed alone
---   ReadsPairs, F-reads, share-cong: F and share read no more than the pairs of states
+--   ReadsPairs, F-reads: F reads no more than the pairs of states
 use Prim.Native.Nat.{ℕ, suc, _+_, _*_, _/_, _%_, _≤_, _<_}
 use mathlib.Core.Path.{_≡_, refl, sym, ap, ap₂, _∙_}
 use mathlib.Core.Bool.{Bool, true, false, not, _||_}
@@ -22,9 +22,9 @@ use lib.Seq.{ext-getD, getD-take, length-take-le}
 use Rattle.theory.specs.Lattice.{Ops, Element}
 use Rattle.theory.specs.Model.{Model}
 use Rattle.theory.specs.Part.{modelOf}
-use Rattle.theory.specs.Simulation.{F, roundOf, SameTable, FixedBy, perCent, share}
+use Rattle.theory.specs.Simulation.{F, roundOf, SameTable, FixedBy}
 use Rattle.theory.specs.Rounds.{F-cong}
-use Rattle.theory.specs.Loop.{tab-at, tab-length, count-cong}
+use Rattle.theory.specs.Loop.{tab-at, tab-length}
 use Rattle.theory.specs.Lists.{tab}
 use Rattle.theory.specs.Written.{written-length, written-at, written-before, written-after, written-all}
 use Rattle.theory.specs.Test.{allBelow}
@@ -47,11 +47,6 @@ not-false false e = sym e
 -- entry (q₁, q₂) is among the first n₁ · n₂ bytes
 pub cell-lt : (n₁ n₂ q₁ q₂ : ℕ) → q₁ < n₁ → q₂ < n₂ → q₁ * n₂ + q₂ < n₁ * n₂
 cell-lt n₁ n₂ q₁ q₂ k l = omega (arith, row-le q₁ n₁ n₂ k)
-
--- share reads no more than the entries that it counts
-pub share-cong : (O : Ops ℕ) (n : ℕ) (S U : ℕ → ℕ) (l : ℕ) → ((i : ℕ) → i < n → S i ≡ U i) → share O n S l ≡ share O n U l
-unfolding share
-share-cong O n S U l h = ap (λ (c : ℕ). perCent c n) (count-cong n _ _ (λ i k. ap (O .atMost l) (h i k)))
 
 -- ---- one row more
 

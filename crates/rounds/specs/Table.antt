@@ -3,7 +3,6 @@
 --   tableOf: entry (q1, q2) of a table of bytes
 --   Shaped, Room: what the functions ask of models and tables
 --   rowWritten, entrySame, rowSame, rowChanged, changedBelow, simulationTest: a row in its place, what it changes, S = G(S)
---   shareIn: share by a lattice's codes
 --   FIn, entryIn, scoreIn: F, an entry of F, and score
 --   RowIn, rowSameIn, simulationIn: what working a row does, the tests on bytes
 use Prim.Native.Nat.{ℕ, _+_, _*_, _≤_}
@@ -14,11 +13,11 @@ use lib.Dec.{eqb}
 use lib.ListN.{length, getD}
 use Rattle.theory.specs.Model.{Model}
 use Rattle.theory.specs.Part.{modelOf, ModelShape}
-use Rattle.theory.specs.Simulation.{F, score, count, perCent}
+use Rattle.theory.specs.Simulation.{F, score}
 use Rattle.theory.specs.Test.{allBelow}
 use Rattle.theory.specs.Lists.{tab, written}
 use Rattle.elements.specs.declared.Lattice.{Lattice}
-use Rattle.elements.specs.Words.{atMostIn, opsIn}
+use Rattle.elements.specs.Words.{opsIn}
 
 -- 'Entry (q1, q2) is byte q1·N2 + q2', of a table with n for N2
 abbrev pub tableOf : List ℕ → ℕ → ℕ → ℕ → ℕ
@@ -34,10 +33,6 @@ pub record Shaped (m₁ m₂ s : List ℕ) : Type 0 where
 -- room for a table of their states
 abbrev pub Room : List ℕ → List ℕ → List ℕ → Type 0
 Room m₁ m₂ out = getD m₁ 0 0 * getD m₂ 0 0 ≤ length out
-
--- 'the per cent of shown entries at or above a given element', of the first n entries of s, with the order of the codes w
-unfoldable pub shareIn : List ℕ → ℕ → List ℕ → ℕ → ℕ
-shareIn w e s n = perCent (count n (λ i. atMostIn w e (getD s i 0))) n
 
 -- for any operator G on tables; F is the one that document 01 speaks of
 module _ (M₁ M₂ : Model ℕ) (G : (ℕ → ℕ → ℕ) → ℕ → ℕ → ℕ) where

@@ -1,5 +1,5 @@
-// The simulation operator on tables that are held as bytes: a row, a round, whether a table is a simulation, score and share. Everything is worked
-// on the codes of elements (crate `elements`), and an entry is turned back into its element once.
+// The simulation operator on tables that are held as bytes: a row, a round, whether a table is a simulation, and score. Everything is worked on
+// the codes of elements (crate `elements`), and an entry is turned back into its element once.
 //   words: the codes of one row's entries
 //   columns: those of all rows of a round
 mod columns;
@@ -19,10 +19,9 @@ ghost use mathlib.Core.Path.{_≡_};
 ghost use Prim.Native.Nat.{_+_, _*_, _≤_, _<_};
 ghost use lib.ListN.{length, getD};
 ghost use Rattle.theory.specs.Lists.{Filled};
-ghost use Rattle.theory.specs.Loop.{Counted};
 ghost use Rattle.theory.specs.Part.{ModelShape};
-ghost use Rattle.elements.specs.Words.{atMostIn, Coded};
-ghost use Rattle.rounds.specs.Table.{Shaped, Room, shareIn, RowIn, scoreIn, simulationIn};
+ghost use Rattle.elements.specs.Words.{Coded};
+ghost use Rattle.rounds.specs.Table.{Shaped, Room, RowIn, scoreIn, simulationIn};
 ghost use Rattle.rounds.specs.Rows.{rowWords};
 ghost use Rattle.rounds.specs.Round.{RoundIn};
 ghost use Rattle.rounds.specs.Row.{RowOut, rowSameAs};
@@ -164,27 +163,4 @@ pub fn score(w: &Codes, l: Lattice, m1: &[u8], m2: &[u8], s: &[u8]) -> Element
         x = x & (z | y);
     }
     elements::decode(w, l, x, l.top)
-}
-
-// ---- share
-
-// How many of the first n entries of s are at or above e.
-fn count_from(w: &Codes, e: Element, s: &[u8], n: usize) -> usize
-    requires { ⌜ n ≤ length (now s) ⌝ }
-    ensures { λ r. ⌜ Counted (λ i. atMostIn (now (w .entry)) (e .0) (getD (now (s .entry)) i 0)) n r ⌝ }
-{
-    let mut c: usize = 0;
-    for i in 0..n {
-        c += elements::one_if(elements::at_most(w, e, Element(s[i])));
-    }
-    c
-}
-
-// The per cent of the first n entries of s that are at or above e, halves up.
-pub fn share(w: &Codes, e: Element, s: &[u8], n: usize) -> u8
-    requires { ⌜ (0 < n) × (n ≤ 4096) × (n ≤ length (now s)) ⌝ }
-    ensures { λ r. ⌜ r ≡ shareIn (now (w .entry)) (e .0) (now (s .entry)) n ⌝ }
-{
-    let c = count_from(w, e, s, n);
-    ((200 * c + n) / (2 * n)) as u8
 }

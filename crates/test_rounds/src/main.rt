@@ -1,10 +1,10 @@
-// The worked examples 1 to 4 and 6 of document 01, by the functions on tables: each round, T, score, and the shares.
+// The worked examples 1 to 4 and 6 of document 01, by the functions on tables: each round, T, score, and the shares as of request 101.
 use elements::Codes;
 use elements::Element;
 use elements::Lattice;
 use lattice::LatticeCheck;
 ghost use mathlib.Core.Path.{_≡_};
-ghost use Prim.Native.Nat.{_+_, _*_, _≤_};
+ghost use Prim.Native.Nat.{_+_, _*_, _≤_, _<_};
 ghost use lib.ListN.{length, getD};
 ghost use Rattle.theory.specs.Part.{ModelShape};
 ghost use Rattle.elements.specs.Words.{Coded};
@@ -116,17 +116,30 @@ fn last_examples() {
 
 // ---- share
 
-// The share of entries at or above 1, of a table of eight entries.
-fn share(text: &[u8], s: &[u8; 8]) {
+// The share of entries at or above 1, of a table of n entries the first c of which are 1.
+fn share(c: usize, n: usize)
+    requires { ⌜ (c ≤ n) × (0 < n) × (n ≤ 200) ⌝ }
+{
     let mut w = [0u64; 128];
     lattice::check(&L2, &mut w);
-    say(text, rounds::share(&w, Element(1), s, 8) as usize);
+    let mut s = [0u8; 200];
+    for i in 0..c {
+        s[i] = 1;
+    }
+    test_printing::item(b"share of ", c as u64);
+    test_printing::item(b" in ", n as u64);
+    say(b": ", share::share(&w, Element(1), &s, n) as usize);
 }
 
 fn main() {
     first_examples();
     last_examples();
-    share(b"share of 1 in 8: ", &[0, 0, 1, 0, 0, 0, 0, 0]);
-    share(b"share of 3 in 8: ", &[1, 0, 1, 0, 0, 0, 0, 1]);
-    share(b"share of 8 in 8: ", &[1, 1, 1, 1, 1, 1, 1, 1]);
+    share(1, 8);
+    share(3, 8);
+    share(5, 8);
+    share(7, 8);
+    share(8, 8);
+    share(1, 200);
+    share(3, 200);
+    share(199, 200);
 }

@@ -1,16 +1,17 @@
 -- The worked examples of document 01 that are marked as proved, in one list, each as a statement. Rests on Part, Simulation, Value, Lists.
 --   Example, ExampleHolds: what an example says, over lattices and models given by the bytes of their parts (partOps, entries)
 --   L1, L2, L3, subsets: the lattices; middleP, loop2, still2, loop3, still3, stepP, stepNoP, branches, reaches, only: the models
---   example1 .. example6, table1, reported: the examples; examples: all of them
+--   example1 .. example6 (with the tables onesOf), table1, reported: the examples; examples: all of them
 use Prim.Native.Nat.{ℕ, zero, suc}
 use mathlib.Core.Path.{_≡_}
 use mathlib.Core.Bool.{false}
 use mathlib.Core.List.{List, [], _∷_, _++_}
+use lib.Dec.{ltb}
 use lib.ListN.{length, getD}
 use Rattle.theory.specs.Lattice.{Ops, imp}
 use Rattle.theory.specs.Formula.{Formula, prop, negated, var, and, AX, EX, nu, nestedAX}
 use Rattle.theory.specs.Value.{valueAt, wholeValue}
-use Rattle.theory.specs.Simulation.{round, FirstUnchanged, score, share}
+use Rattle.theory.specs.Simulation.{round, FirstUnchanged, score, indicator, share}
 use Rattle.theory.specs.Part.{isMeet, isJoin, meetOf, joinOf, topOf, botOf, element, opsOf, explicitPart, modelOf}
 use Rattle.theory.specs.Test.{allBelow, firstBelow}
 use Rattle.theory.specs.Lists.{tab}
@@ -140,11 +141,17 @@ example4 =
 abbrev pub example5 : List Example
 example5 = valueIs subsets branches (AX (prop 0)) 0 3 ∷ valueIs subsets branches (EX (prop 0)) 0 6 ∷ []
 
--- 'One element, n = 1: T = 1.' For all models: T-of-one-element in Rounds. 'Share of 1 in 8 is 13, of 3 in 8 is 38.'
+-- a table of t entries, the first c of them 1 and the rest 0
+abbrev pub onesOf : ℕ → ℕ → List ℕ
+onesOf c t = tab (λ i. indicator (ltb i c)) t 0
+
+-- 'One element, n = 1: T = 1.' For all models: T-of-one-element in Rounds. '1 entry in 8 becomes 12, 3 in 8 stay 38' (request 101); 62.5 and
+-- 87.5 per cent are in the middle too, as are 0.5 and 1.5, which go to 0 and 2.
 abbrev pub example6 : List Example
 example6 =
     settlesAt L1 only only 1
-    ∷ shareIs L2 (0 ∷ 0 ∷ 1 ∷ 0 ∷ 0 ∷ 0 ∷ 0 ∷ 0 ∷ []) 1 13 ∷ shareIs L2 (1 ∷ 0 ∷ 1 ∷ 0 ∷ 0 ∷ 0 ∷ 0 ∷ 1 ∷ []) 1 38 ∷ []
+    ∷ shareIs L2 (onesOf 1 8) 1 12 ∷ shareIs L2 (onesOf 3 8) 1 38 ∷ shareIs L2 (onesOf 5 8) 1 62 ∷ shareIs L2 (onesOf 7 8) 1 88
+    ∷ shareIs L2 (onesOf 1 200) 1 0 ∷ shareIs L2 (onesOf 3 200) 1 2 ∷ []
 
 -- Table 1 of 000: νz.p∧AXz is {a, b}, {b} and {b}
 abbrev pub table1 : List Example

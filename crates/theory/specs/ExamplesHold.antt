@@ -68,8 +68,8 @@ unfolding partOps valueAt eval bigMeet bigJoin imp
 example5-holds = (refl, (refl, tt))
 
 example6-holds : All ExampleHolds example6
-unfolding partOps unchangedTest roundOf F bigMeet bigJoin imp iff share
-example6-holds = (settles-by-test _ _ _ 1 refl refl, (refl, (refl, tt)))
+unfolding partOps unchangedTest roundOf F bigMeet bigJoin imp iff share tab
+example6-holds = (settles-by-test _ _ _ 1 refl refl, (refl, (refl, (refl, (refl, (refl, (refl, tt)))))))
 
 -- row t of the table: the body applied t times, from top; 21 is states * (n - 1)
 abbrev z : ℕ → ℕ → ℕ

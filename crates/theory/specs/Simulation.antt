@@ -4,9 +4,10 @@
 --   round, FirstUnchanged, Simulation, GreatestSimulation: the rounds, T, and the simulations; of any operator roundOf, FirstUnchangedOf,
 --     FixedBy, GreatestFixedBy
 --   score; share, by indicator, count and perCent
-use Prim.Native.Nat.{ℕ, zero, suc, _+_, _*_, _-_, _/_, _<_}
+use Prim.Native.Nat.{ℕ, zero, suc, _+_, _*_, _-_, _/_, _%_, _<_}
 use mathlib.Core.Path.{_≡_}
-use mathlib.Core.Bool.{Bool, true, false}
+use mathlib.Core.Bool.{Bool, true, false, _&&_, _||_}
+use lib.Dec.{ltb, eqb}
 use Rattle.theory.specs.Lattice.{Ops, AtMost, imp, iff, bigMeet, bigJoin}
 use Rattle.theory.specs.Model.{Model}
 use Rattle.theory.specs.Value.{allNext, someNext}
@@ -96,11 +97,16 @@ unfoldable pub count : ℕ → (ℕ → Bool) → ℕ
 count zero f = 0
 count (suc n) f = count n f + indicator (f n)
 
--- c of t 'rounded to whole per cent, halves up': the whole part of 100 c / t + 1 / 2
-abbrev pub perCent : ℕ → ℕ → ℕ
-perCent c t = (200 * c + t) / (2 * t)
+-- a quotient q by t with its rest goes up by one: the rest is more than half of t, or it is half of t and q is odd
+abbrev pub goesUp : ℕ → ℕ → ℕ → Bool
+goesUp t q rest = ltb t (2 * rest) || eqb (2 * rest) t && eqb (q % 2) 1
+
+-- c of t, 'rounded to whole per cent' (document 01), 'an exact half per cent to the even neighbour' (request 101): what that is
+-- without a quotient is proved in Share
+unfoldable pub perCent : ℕ → ℕ → ℕ
+perCent c t = 100 * c / t + indicator (goesUp t (100 * c / t) (100 * c % t))
 
 -- 'share is the per cent of shown entries at or above a given element'; the entries are S 0, .., S (n - 1)
 unfoldable pub share : {A : Type 0} → Ops A → ℕ → (ℕ → A) → A → ℕ
-unfolding count
+unfolding count perCent
 share O n S l = perCent (count n (λ i. O .atMost l (S i))) n

@@ -84,7 +84,7 @@ impl Desk {
         self.lent().score().expect(KEPT)
     }
 
-    /// The per cent of shown entries at or above an element, rounded to whole per cent, halves up.
+    /// The per cent of shown entries at or above an element, rounded to whole per cent, an exact half to the even neighbour.
     ///
     /// Refused with 13 where the element is not of the lattice.
     pub fn share(&self, element: Element) -> Result<u8, Refusal> {

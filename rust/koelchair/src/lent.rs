@@ -88,7 +88,7 @@ impl<'a> DeskRef<'a> {
         answer::element(raw::score(self))
     }
 
-    /// The per cent of shown entries at or above an element, rounded to whole per cent, halves up.
+    /// The per cent of shown entries at or above an element, rounded to whole per cent, an exact half to the even neighbour.
     ///
     /// Refused with 11 or 12, or with 13 where the element is not of the lattice.
     pub fn share(self, element: Element) -> Result<u8, Refusal> {

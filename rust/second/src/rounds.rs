@@ -78,7 +78,8 @@ pub fn score(content: &Content, table: &Table) -> Element {
     }))
 }
 
-/// "share is the per cent of shown entries at or above a given element, rounded to whole per cent, halves up."
+/// "share is the per cent of shown entries at or above a given element, rounded to whole per cent"; since request 101 "an exact half per cent
+/// to the even neighbour".
 pub fn share(content: &Content, table: &Table, element: Element) -> u8 {
     let reached = table
         .iter()
@@ -86,6 +87,8 @@ pub fn share(content: &Content, table: &Table, element: Element) -> u8 {
         .filter(|&&entry| content.lattice.at_most(element, entry))
         .count();
     let all = entries(content);
-    // reached/all in per cent plus one half, rounded down; it is at most 100.
-    ((200 * reached + all) / (2 * all)) as u8
+    // Of the whole numbers the nearest, and the even one where two are as near.
+    let distance = |per_cent: u8| (100 * reached).abs_diff(usize::from(per_cent) * all);
+    let nearest = (0..=100).min_by_key(|&per_cent| (distance(per_cent), per_cent % 2));
+    nearest.expect("0 to 100 are some numbers")
 }

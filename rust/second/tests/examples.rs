@@ -97,23 +97,43 @@ fn example_6_one_element() {
     assert_eq!(desk.share(0), Reply::PerCent(100));
 }
 
+/// The share of 1 where `ones` of N1 * N2 entries are 1.
+fn share_of(ones: usize, states1: usize, states2: usize) -> Reply {
+    // Model 1: its first state alone has p, the others have r; model 2: so many states with p. No transitions.
+    let model = |states: usize| vec![0; 2 + states + 2 * states + states * states];
+    let (mut model1, mut model2) = (model(states1), model(states2));
+    model1[..2].copy_from_slice(&[states1 as u8, 2]);
+    model2[..2].copy_from_slice(&[states2 as u8, 2]);
+    for q in 0..states1 {
+        model1[2 + states1 + 2 * q + usize::from(q > 0)] = 1;
+    }
+    for q in 0..ones {
+        model2[2 + states2 + 2 * q] = 1;
+    }
+    let desk = Desk::settled(&[L2, &model1, &model2]);
+    assert_eq!(desk.share(0), Reply::PerCent(100));
+    desk.share(1)
+}
+
 #[test]
 fn example_6_shares_of_eight() {
-    let share = |alike: usize| {
-        // Model 1: one state with p; model 2: eight states, so many of them with p. No transitions.
-        let model1: &[u8] = &[1, 1, 1, 1, 0];
-        let mut model2 = vec![0; 2 + 8 + 8 + 64];
-        model2[..2].copy_from_slice(&[8, 1]);
-        model2[10..10 + alike].fill(1);
-        let desk = Desk::settled(&[L2, model1, &model2]);
-        assert_eq!(desk.share(0), Reply::PerCent(100));
-        desk.share(1)
-    };
-    assert_eq!(share(0), Reply::PerCent(0));
-    assert_eq!(share(1), Reply::PerCent(13));
-    assert_eq!(share(2), Reply::PerCent(25));
-    assert_eq!(share(3), Reply::PerCent(38));
-    assert_eq!(share(8), Reply::PerCent(100));
+    for (ones, per_cent) in [0, 12, 25, 38, 50, 62, 75, 88, 100].into_iter().enumerate() {
+        let share = share_of(ones, 1, 8);
+        assert_eq!(share, Reply::PerCent(per_cent), "{ones} in 8");
+    }
+}
+
+#[test]
+fn an_exact_half_per_cent_goes_to_the_even_neighbour() {
+    // Halves of 200 entries, with whole per cents between them; then thirds, which are no halves.
+    for (ones, per_cent) in [0, 0, 1, 2, 2, 2, 3, 4].into_iter().enumerate() {
+        let share = share_of(ones, 5, 40);
+        assert_eq!(share, Reply::PerCent(per_cent), "{ones} in 200");
+    }
+    for (ones, per_cent) in [0, 33, 67, 100].into_iter().enumerate() {
+        let share = share_of(ones, 1, 3);
+        assert_eq!(share, Reply::PerCent(per_cent), "{ones} in 3");
+    }
 }
 
 #[test]

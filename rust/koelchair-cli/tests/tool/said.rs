@@ -71,7 +71,7 @@ fn report_says_values_and_shares() {
         .iter()
         .map(|s| (s.get("element").text(), s.get("percent").number()))
         .collect();
-    assert_eq!(shares, [("yes", 13), ("unsure", 38)]);
+    assert_eq!(shares, [("yes", 12), ("unsure", 38)]);
     let (_, said) = json(&["report", "--json", "--values", "-"], CLEAN);
     let formula = &said.get("formulas").items()[0];
     assert_eq!(texts(formula.get("studentStates")), ["yes", "yes"]);

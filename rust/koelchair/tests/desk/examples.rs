@@ -114,7 +114,7 @@ fn example_4_lent() {
 fn example_6() {
     let one = cases::case(&[&cases::L1, &[1, 0, 0, 0], &[1, 0, 0, 0]]);
     assert_eq!(steps(&one), [(StepAnswer::Settled(1), vec![0])]);
-    for (ones, per_cent) in [(0, 0), (1, 13), (3, 38), (4, 50), (8, 100)] {
+    for (ones, per_cent) in [0, 12, 25, 38, 50, 62, 75, 88, 100].into_iter().enumerate() {
         let mut desk = Desk::open(&cases::eighths(ones)).unwrap();
         desk.settle();
         assert_eq!(desk.share(Element(1)), Ok(per_cent), "{ones} in 8");
