@@ -223,8 +223,8 @@ koelchair_answer koelchair_score(koelchair_standing standing,
                                  const uint8_t *first, size_t first_length,
                                  const uint8_t *second, size_t second_length);
 
-/* The per cent of the entries shown that are at or above an element, 0 to 100, an exact half rounded to the even neighbour:
-   KOELCHAIR_PER_CENT, or KOELCHAIR_REFUSED with 11, 12 or 13. */
+/* The per cent of the entries shown that are at or above an element, rounded to whole per cent (0 to 100), an exact half to the even
+   neighbour: KOELCHAIR_PER_CENT, or KOELCHAIR_REFUSED with 11, 12 or 13. */
 koelchair_answer koelchair_share(koelchair_standing standing,
                                  const uint8_t *store, size_t store_length,
                                  const uint8_t *first, size_t first_length,

@@ -233,7 +233,8 @@ class Desk:
         return self._asked(_library.koelchair_score)
 
     def share(self, element):
-        """The per cent of shown entries at or above an element, an exact half to the even neighbour; refused with 13."""
+        """The per cent of shown entries at or above an element, rounded to whole per cent, an exact half to the even neighbour;
+        refused with 13."""
         return self._asked(_library.koelchair_share, _byte(element))
 
     def judge(self, table):

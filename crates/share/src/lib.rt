@@ -21,7 +21,7 @@ fn count(w: &Codes, e: Element, s: &[u8], n: usize) -> usize
     c
 }
 
-// c of n in whole per cent: the quotient q, and one more where the rest is over half of n, or is half of n and q is odd.
+// c of n in whole per cent: the quotient q of 100 c by n, and one more where the rest is over half of n, or is half of n and q is odd.
 fn per_cent(c: usize, n: usize) -> u8
     requires { ⌜ (0 < n) × (n ≤ 4096) × (c ≤ n) ⌝ }
     ensures { λ r. ⌜ r ≡ perCent c n ⌝ }

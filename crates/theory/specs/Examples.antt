@@ -1,4 +1,5 @@
--- The worked examples of document 01 that are marked as proved, in one list, each as a statement. Rests on Part, Simulation, Value, Lists.
+-- The worked examples of document 01 that are marked as proved, with the shares of request 101 and some more, in one list, each as a statement.
+-- Rests on Part, Simulation, Value, Lists.
 --   Example, ExampleHolds: what an example says, over lattices and models given by the bytes of their parts (partOps, entries)
 --   L1, L2, L3, subsets: the lattices; middleP, loop2, still2, loop3, still3, stepP, stepNoP, branches, reaches, only: the models
 --   example1 .. example6 (with the tables onesOf), table1, reported: the examples; examples: all of them
@@ -145,8 +146,8 @@ example5 = valueIs subsets branches (AX (prop 0)) 0 3 ∷ valueIs subsets branch
 abbrev pub onesOf : ℕ → ℕ → List ℕ
 onesOf c t = tab (λ i. indicator (ltb i c)) t 0
 
--- 'One element, n = 1: T = 1.' For all models: T-of-one-element in Rounds. '1 entry in 8 becomes 12, 3 in 8 stay 38' (request 101); 62.5 and
--- 87.5 per cent are in the middle too, as are 0.5 and 1.5, which go to 0 and 2.
+-- 'One element, n = 1: T = 1.' For all models: T-of-one-element in Rounds. '1 entry in 8 becomes 12, 3 in 8 stay 38' (request 101).
+-- Four more exact halves: 62.5, 87.5, 0.5 and 1.5 per cent go to 62, 88, 0 and 2.
 abbrev pub example6 : List Example
 example6 =
     settlesAt L1 only only 1

@@ -1,10 +1,10 @@
--- What a share in whole per cent is, without the quotient by which it is worked out, and what request 101 left as it was. Rests on
--- Simulation and Loop.
---   distance, Nearest: no whole number of per cent is nearer to c of t; nearest-half: twice its distance is at most one
---   NearestEven: a nearest one, and the even one where two are; nearest-even-once: there is no other
---   perCent-nearest-even, share-nearest-even, perCent-most: perCent and share are that, and at most 100
---   halvesUp: the rule of document 01 that request 101 replaces; as-before: it gives the same where no half is exact
---   goes-up, perCent-up, perCent-down: goesUp and perCent by one comparison
+-- Theorem 9: what a share in whole per cent is, without the quotient by which it is worked out, and what request 101 left as it was. Rests
+-- on Simulation and Loop.
+--   distance, Nearest: no whole number of per cent is nearer to c of t; nearest-exactly: twice its distance is at most one per cent
+--   NearestEven: a nearest one, and the even one where two are; nearest-even-unique: there is no other
+--   perCent-nearest-even, share-nearest-even, perCent-most, share-most: perCent and share are that, and at most 100
+--   halvesUp: the rule of document 01 that request 101 replaces; perCent-as-before: it gives the same where no half is exact
+--   goesUp-is, perCent-up, perCent-down: goesUp and perCent by one comparison
 --   share-cong: share reads no more than the entries that it counts
 use Prim.Native.Nat.{ℕ, zero, suc, _+_, _*_, _-_, _/_, _%_, _<_, _≤_}
 use mathlib.Core.Path.{_≡_, refl, sym, ap, _∙_}
@@ -16,7 +16,7 @@ use borrow.Author.Tests.{ltb-true, ltb-false, lt-ltb, le-ltb, eqb-true, eqb-fals
 use lib.Dec.{ltb, eqb}
 use Rattle.theory.specs.Lattice.{Ops}
 use Rattle.theory.specs.Simulation.{indicator, count, goesUp, perCent, share}
-use Rattle.theory.specs.Loop.{count-cong}
+use Rattle.theory.specs.Loop.{indicator-most, count-cong}
 
 -- ---- c of t in per cent: 100 c / t
 
@@ -41,8 +41,8 @@ module _ (c t : ℕ) where
 -- ---- one comparison
 
 -- goesUp asks whether twice the rest, and one more where q is odd, is more than t
-pub goes-up : (t q rest : ℕ) → goesUp t q rest ≡ ltb t (2 * rest + q % 2)
-goes-up t q rest = go (ltb t (2 * rest)) (eqb (2 * rest) t) (eqb (q % 2) 1) refl refl refl
+pub goesUp-is : (t q rest : ℕ) → goesUp t q rest ≡ ltb t (2 * rest + q % 2)
+goesUp-is t q rest = go (ltb t (2 * rest)) (eqb (2 * rest) t) (eqb (q % 2) 1) refl refl refl
   where
     more : t < 2 * rest + q % 2 → true ≡ ltb t (2 * rest + q % 2)
     more l = sym (lt-ltb _ _ l)
@@ -59,11 +59,11 @@ goes-up t q rest = go (ltb t (2 * rest)) (eqb (2 * rest) t) (eqb (q % 2) 1) refl
 module _ (c t : ℕ) where
   pub perCent-up : t < 2 * (100 * c % t) + 100 * c / t % 2 → 100 * c / t + 1 ≡ perCent c t
   unfolding perCent
-  perCent-up l = ap (λ (b : Bool). 100 * c / t + indicator b) (sym (goes-up t (100 * c / t) (100 * c % t) ∙ lt-ltb _ _ l))
+  perCent-up l = ap (λ (b : Bool). 100 * c / t + indicator b) (sym (goesUp-is t (100 * c / t) (100 * c % t) ∙ lt-ltb _ _ l))
 
   pub perCent-down : 2 * (100 * c % t) + 100 * c / t % 2 ≤ t → 100 * c / t ≡ perCent c t
   unfolding perCent
-  perCent-down l = sym (add-zero _) ∙ ap (λ (b : Bool). 100 * c / t + indicator b) (sym (goes-up t (100 * c / t) (100 * c % t) ∙ le-ltb _ _ l))
+  perCent-down l = sym (add-zero _) ∙ ap (λ (b : Bool). 100 * c / t + indicator b) (sym (goesUp-is t (100 * c / t) (100 * c % t) ∙ le-ltb _ _ l))
 
 -- ---- two whole numbers of per cent
 
@@ -95,9 +95,9 @@ module _ (c t : ℕ) where
     nearest-within zero n = omega (arith, some, n 1, suc-mul 0 t)
     nearest-within (suc p) n = omega (arith, some, n p, n (suc (suc p)), suc-mul p t, suc-mul (suc p) t)
 
-    -- 'twice the distance is at most one'
-    pub nearest-half : (p : ℕ) → Nearest c t p ↔ (2 * distance c t p ≤ t)
-    nearest-half p = (nearest-within p, half-nearest p)
+    -- p is nearest exactly when it is within a half: twice the distance is at most t, which is one per cent
+    pub nearest-exactly : (p : ℕ) → Nearest c t p ↔ (2 * distance c t p ≤ t)
+    nearest-exactly p = (nearest-within p, half-nearest p)
 
     -- another is as near only at an exact half
     half-even : (p : ℕ) → 2 * distance c t p ≤ t → (2 * distance c t p ≡ t → p % 2 ≡ 0) → NearestEven c t p
@@ -120,8 +120,8 @@ module _ (c t : ℕ) where
         go (inr (inl b)) = omega (arith, some, b, suc-mul p t, nearest-within p (u .nearest), nearest-within x (v .nearest))
         go (inr (inr b)) = omega (arith, some, a, b, suc-mul p t)
 
-    pub nearest-even-once : (p x : ℕ) → NearestEven c t p → NearestEven c t x → p ≡ x
-    nearest-even-once p x u v = go (apart t p x)
+    pub nearest-even-unique : (p x : ℕ) → NearestEven c t p → NearestEven c t x → p ≡ x
+    nearest-even-unique p x u v = go (apart t p x)
       where
         go : Apart t p x → p ≡ x
         go (inl e) = e
@@ -133,11 +133,11 @@ module _ (c t : ℕ) where
     -- where 100 c = t q + rest: q, or one more where that goes up
     by-quotient : (q rest : ℕ) (b : Bool) → t * q + rest ≡ 100 * c → rest < t → goesUp t q rest ≡ b → NearestEven c t (q + indicator b)
     by-quotient q rest true e l u =
-        let up : t < 2 * rest + q % 2 = ltb-true _ _ (sym (goes-up t q rest) ∙ u) in
+        let up : t < 2 * rest + q % 2 = ltb-true _ _ (sym (goesUp-is t q rest) ∙ u) in
         let next : (q + 1) * t ≡ t * q + t = omega (arith, add-mul q 1 t, mul-comm t q) in
         half-even (q + 1) (omega (arith, up, next, e, l)) (λ h. omega (arith, up, next, e, h))
     by-quotient q rest false e l u =
-        let down : 2 * rest + q % 2 ≤ t = ltb-false _ _ (sym (goes-up t q rest) ∙ u) in
+        let down : 2 * rest + q % 2 ≤ t = ltb-false _ _ (sym (goesUp-is t q rest) ∙ u) in
         let same : (q + 0) * t ≡ t * q = omega (arith, add-mul q 0 t, mul-comm t q) in
         half-even (q + 0) (omega (arith, down, same, e)) (λ h. omega (arith, down, same, e, h))
 
@@ -154,8 +154,8 @@ module _ (c t : ℕ) where
         go false h = ltb-false 100 _ h
 
     -- 'Everything not at the half is as before'
-    pub as-before : ((q : ℕ) → 200 * c ≡ (2 * q + 1) * t → ⊥) → perCent c t ≡ halvesUp c t
-    as-before none =
+    pub perCent-as-before : ((q : ℕ) → 200 * c ≡ (2 * q + 1) * t → ⊥) → perCent c t ≡ halvesUp c t
+    perCent-as-before none =
         let p = perCent c t in
         let near : 2 * distance c t p ≤ t = nearest-within p (perCent-nearest-even .nearest) in
         let twice : p * (2 * t) ≡ 2 * (p * t) = mul-left-comm p 2 t in
@@ -164,10 +164,19 @@ module _ (c t : ℕ) where
 
 -- ---- share
 
+count-most : (n : ℕ) (f : ℕ → Bool) → count n f ≤ n
+unfolding count
+count-most zero f = le-refl _
+count-most (suc n) f = omega (arith, count-most n f, indicator-most (f n))
+
 module _ {A : Type 0} (O : Ops A) (n : ℕ) where
   pub share-nearest-even : (S : ℕ → A) (l : A) → 0 < n → NearestEven (count n (λ i. O .atMost l (S i))) n (share O n S l)
   unfolding share
   share-nearest-even S l some = perCent-nearest-even _ n some
+
+  pub share-most : (S : ℕ → A) (l : A) → 0 < n → share O n S l ≤ 100
+  unfolding share
+  share-most S l some = perCent-most _ n some (count-most n _)
 
   pub share-cong : (S U : ℕ → A) (l : A) → ((i : ℕ) → i < n → S i ≡ U i) → share O n S l ≡ share O n U l
   unfolding share

@@ -3,7 +3,7 @@
 --   AllPairs, SameTable, AtMostTable, Bounds: tables at the pairs of states
 --   round, FirstUnchanged, Simulation, GreatestSimulation: the rounds, T, and the simulations; of any operator roundOf, FirstUnchangedOf,
 --     FixedBy, GreatestFixedBy
---   score; share, by indicator, count and perCent
+--   score; share, by indicator, count, goesUp and perCent
 use Prim.Native.Nat.{ℕ, zero, suc, _+_, _*_, _-_, _/_, _%_, _<_}
 use mathlib.Core.Path.{_≡_}
 use mathlib.Core.Bool.{Bool, true, false, _&&_, _||_}
@@ -97,12 +97,12 @@ unfoldable pub count : ℕ → (ℕ → Bool) → ℕ
 count zero f = 0
 count (suc n) f = count n f + indicator (f n)
 
--- a quotient q by t with its rest goes up by one: the rest is more than half of t, or it is half of t and q is odd
+-- whether a quotient q by t goes up by one, by its rest: where that is more than half of t, or is half of t and q is odd
 abbrev pub goesUp : ℕ → ℕ → ℕ → Bool
 goesUp t q rest = ltb t (2 * rest) || eqb (2 * rest) t && eqb (q % 2) 1
 
--- c of t, 'rounded to whole per cent' (document 01), 'an exact half per cent to the even neighbour' (request 101): what that is
--- without a quotient is proved in Share
+-- c of t 'rounded to whole per cent' (document 01), 'an exact half per cent to the even neighbour' (request 101): the quotient of 100 c by t,
+-- and one more where that goes up. What it is without a quotient is proved in Share.
 unfoldable pub perCent : ℕ → ℕ → ℕ
 perCent c t = 100 * c / t + indicator (goesUp t (100 * c / t) (100 * c % t))
 

@@ -1,5 +1,6 @@
 //! Random cases, desks and lists of calls, on which the proved library and the second implementation are held against each other. The
-//! tests are in tests/: `lists` makes lists of calls, `listings` compares what the program `report` prints.
+//! tests are in tests/: `lists` makes lists of calls, `listings` compares what the program `report` prints, `shares` takes tables at and
+//! beside an exact half per cent.
 //!
 //! - generator: numbers from a seed
 //! - lattices, non_lattices, models, formulas: the parts of a case, within the rules and not

@@ -1,5 +1,5 @@
-//! Shares at and beside an exact half per cent. Random tables hardly ever have one: the number of entries is a multiple of 8, and few counts
-//! are at the half. So for each two numbers of states every such count is taken, with its neighbours.
+//! Shares at and beside an exact half per cent. Random tables hardly ever have one: the number of entries has to be a multiple of 8, and even
+//! then few counts are at the half. So for each two numbers of states every such count is taken, with its neighbours.
 
 use compare::calls::Call;
 use compare::comparison::Pair;

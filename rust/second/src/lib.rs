@@ -1,5 +1,5 @@
-//! The latticed simulation desk of document 01 in plain Rust: a second implementation, written from the document's words and
-//! sharing nothing with the proved code, so that the two can be held against each other.
+//! The latticed simulation desk of document 01, as the change requests have changed it, in plain Rust: a second implementation, written
+//! from the words of these documents and sharing nothing with the proved code, so that the two can be held against each other.
 //!
 //! It is simple rather than fast. Every call reads the store anew, meets and joins are found by search in the order, and
 //! fixpoints by iteration until nothing changes. No call panics, whatever its arguments hold.

@@ -1,4 +1,4 @@
-//! Document 01's worked examples, by running the calls.
+//! Document 01's worked examples, and the shares of request 101, by running the calls.
 
 mod common;
 
@@ -97,9 +97,9 @@ fn example_6_one_element() {
     assert_eq!(desk.share(0), Reply::PerCent(100));
 }
 
-/// The share of 1 where `ones` of N1 * N2 entries are 1.
+/// The share of 1 where `ones` of states1 * states2 entries are 1; `ones` is at most states2.
 fn share_of(ones: usize, states1: usize, states2: usize) -> Reply {
-    // Model 1: its first state alone has p, the others have r; model 2: so many states with p. No transitions.
+    // Model 1: its first state alone has p, the others have r; model 2: `ones` of its states have p. No transitions.
     let model = |states: usize| vec![0; 2 + states + 2 * states + states * states];
     let (mut model1, mut model2) = (model(states1), model(states2));
     model1[..2].copy_from_slice(&[states1 as u8, 2]);
@@ -125,7 +125,7 @@ fn example_6_shares_of_eight() {
 
 #[test]
 fn an_exact_half_per_cent_goes_to_the_even_neighbour() {
-    // Halves of 200 entries, with whole per cents between them; then thirds, which are no halves.
+    // 1, 3, 5 and 7 in 200 are exact halves, 2, 4 and 6 whole per cents; thirds are neither.
     for (ones, per_cent) in [0, 0, 1, 2, 2, 2, 3, 4].into_iter().enumerate() {
         let share = share_of(ones, 5, 40);
         assert_eq!(share, Reply::PerCent(per_cent), "{ones} in 200");

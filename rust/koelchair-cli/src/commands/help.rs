@@ -15,7 +15,7 @@ const COMMANDS: [(&str, &str, &str); 11] = [
         "Prints the listing: T, the settled table, the score, and each formula's value on both models.\n\
          --names   names in place of numbers\n\
          --values  also each formula's value at each state\n\
-         --share   also the per cent of entries at or above this element, an exact half to the even neighbour",
+         --share   also the per cent of entries at or above this element, rounded, an exact half to the even neighbour",
     ),
     (
         "mark",

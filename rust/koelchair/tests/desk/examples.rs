@@ -1,4 +1,4 @@
-//! Worked examples 1, 2, 4 and 6 of document 01 and its listing, by the desk that owns its buffers and by the one that is lent them.
+//! Worked examples 1, 2, 4 and 6 of document 01 (the shares as of request 101) and its listing, by the desk that owns its buffers and by the one that is lent them.
 
 use crate::cases::{self, Lent};
 use koelchair::{Desk, Element, Sizes, State, StepAnswer};
