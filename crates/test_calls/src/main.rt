@@ -1,5 +1,5 @@
-// The calls by value on the worked examples of document 01 and of request 101. Each line of the input is a call: its word, and the bytes that it takes, in
-// hexadecimal. The table is shown after each step. A line that begins with # is printed as it is.
+// The calls by value on the worked examples of document 01 and of request 101. Each line of the input is a call: its word, and the bytes
+// that it takes, in hexadecimal. The table is shown after each step. A line that begins with # is printed as it is.
 use desk_check::Standing;
 use desk_moves::OpenAnswer;
 use desk_moves::StepAnswer;

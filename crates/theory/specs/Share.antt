@@ -56,6 +56,7 @@ goesUp-is t q rest = go (ltb t (2 * rest)) (eqb (2 * rest) t) (eqb (q % 2) 1) re
     go false true false _ h o = less (omega (arith, eqb-true (2 * rest) t h, eqb-false (q % 2) 1 o))
     go false false d l h _ = less (omega (arith, ltb-false t (2 * rest) l, eqb-false (2 * rest) t h))
 
+-- where it is, perCent is one more than the quotient, else the quotient
 module _ (c t : ℕ) where
   pub perCent-up : t < 2 * (100 * c % t) + 100 * c / t % 2 → 100 * c / t + 1 ≡ perCent c t
   unfolding perCent
@@ -164,6 +165,7 @@ module _ (c t : ℕ) where
 
 -- ---- share
 
+-- no more than all are counted
 count-most : (n : ℕ) (f : ℕ → Bool) → count n f ≤ n
 unfolding count
 count-most zero f = le-refl _

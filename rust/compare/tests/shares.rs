@@ -2,9 +2,11 @@
 //! then few counts are at the half. So for each two numbers of states every such count is taken, with its neighbours.
 
 use compare::calls::Call;
+use compare::cases;
 use compare::comparison::Pair;
 use compare::counts::Counts;
 use compare::desks;
+use compare::generator::Random;
 use second::Reply;
 use std::io::Write;
 
@@ -13,15 +15,7 @@ fn case(states1: usize, states2: usize) -> Vec<u8> {
     let lattice = vec![2, 1, 0, 1, 1, 0, 1];
     let model = |states: usize| [vec![states as u8, 0], vec![0; states + states * states]].concat();
     let parts = [lattice, model(states1), model(states2)];
-    let mut bytes = vec![3];
-    let mut offset = 1 + 4 * parts.len();
-    for part in &parts {
-        bytes.extend((offset as u16).to_le_bytes());
-        bytes.extend((part.len() as u16).to_le_bytes());
-        offset += part.len();
-    }
-    bytes.extend(parts.concat());
-    bytes
+    cases::laid(&mut Random::new(0), &parts, &[0; 4])
 }
 
 /// The counts c for which 100 c / all is a whole number and a half.
