@@ -35,7 +35,7 @@ abbrev pub wellPlaced : List ℕ → ℕ → ℕ → Bool
 wellPlaced b i from = ltb 0 (partSize b i) && leb from (partStart b i) && leb (partEnd b i) (length b)
 
 abbrev pub isAccepted : FormulaCheck → Bool
-isAccepted FormulaCheck.Accepted = true
+isAccepted (FormulaCheck.Accepted i) = true
 isAccepted FormulaCheck.Refused = false
 
 -- a formula part is read

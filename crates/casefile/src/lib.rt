@@ -143,7 +143,7 @@ fn is_formula(bytes: &[u8], i: u8, k: u8) -> bool
 {
     match formula::check(part(bytes, i), k) {
         FormulaCheck::Refused => false,
-        FormulaCheck::Accepted => true,
+        FormulaCheck::Accepted(_) => true,
     }
 }
 

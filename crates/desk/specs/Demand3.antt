@@ -1,10 +1,11 @@
 -- Demand 3: one claim about every list of calls from any desk, refused ones included, with an accepted opening in it. Rests on Run.
+--   FactsAnswered: value or whole answered these facts of a formula
 --   Claim: the claim, a field for each part of it; Demand3: there are a last accepted opening and a T of which it holds
 -- Demand3Holds proves it.
 use Prim.Native.Nat.{ℕ, _+_, _*_, _-_, _%_, _≤_, _<_}
 use mathlib.Core.Path.{_≡_}
 use mathlib.Core.Bool.{true, false}
-use mathlib.Core.Logic.{_↔_}
+use mathlib.Core.Logic.{_⊎_, _↔_}
 use mathlib.Core.List.{List}
 use lib.ListN.{length, getD}
 use Rattle.theory.specs.Lattice.{LongestChain}
@@ -12,13 +13,19 @@ use Rattle.theory.specs.Formula.{Formula, fixpointFree, nestedAX, UniversalSent
 use Rattle.theory.specs.Value.{valueAt}
 use Rattle.theory.specs.Simulation.{SameTable, AtMostTable, Bounds, GreatestSimulation}
 use Rattle.refusal.specs.declared.Refusal.the-variants.{ShortDesk, SpoiledDesk}
+use Rattle.formula.specs.declared.FormulaFacts.{FormulaFacts}
 use Rattle.casefile.specs.Reading.{Content, refused, content, caseReading, storeReading}
 use Rattle.desk.specs.Desk.{Desk, Question, Call, Reply}
-use Rattle.desk.specs.Case.{ops, model1, model2, N1, tableSize, roundIn, IsT, tableBytes}
+use Rattle.desk.specs.Case.{ops, model1, model2, N1, tableSize, formulaIn, roundIn, IsT, tableBytes}
 use Rattle.desk.specs.Refused.{short, spoiled, examined, accepted}
 use Rattle.desk.specs.View.{shownTable}
-use Rattle.desk.specs.Perform.{showAnswer}
+use Rattle.desk.specs.Perform.{asked, showAnswer}
 use Rattle.desk.specs.Run.{run, LastOpening, answersSince, roundAfter, answerAfter, viewAfter, AnsweredFrom}
+
+-- 'Value and whole pass these three on with the element' (request 102): one of them, on the desk d, answered x of formula f
+pub data FactsAnswered (d : Desk) (f : ℕ) (x : FormulaFacts) : Type 0 where
+  by-value : (m q e : ℕ) → asked (Question.Value f m q) d ≡ Reply.Valued e x → FactsAnswered d f x
+  by-whole : (m e : ℕ) → asked (Question.Whole f m) d ≡ Reply.Valued e x → FactsAnswered d f x
 
 -- c is what the case holds, `answers` are those of the accepted steps since it was opened, d is the desk after the list
 module _ (c : Content) (T : ℕ) (answers : List Reply) (d : Desk) where
@@ -40,6 +47,10 @@ module _ (c : Content) (T : ℕ) (answers : List Reply) (d : Desk) where
   abbrev BoundedBy : Formula → Type 0
   BoundedBy φ = Bounds (ops c) (model1 c) (model2 c) (shownTable c d) (valueAt (ops c) (model1 c) φ) (valueAt (ops c) (model2 c) φ)
 
+  -- the conditions of that sentence, of a formula with the facts x: no EX, and either no fixpoint and fewer than r nested AX, or r = T
+  abbrev Covers : FormulaFacts → Type 0
+  Covers x = (x .ex ≡ false) × (((x .fixpoint ≡ false) × (x .nesting < r)) ⊎ (r ≡ T))
+
   pub record Claim : Type 0 where
     -- 'after the list the standing's round is r, its next row is s modulo N1 while r is below T and 0 at T, and it is settled
     -- exactly when r = T'
@@ -57,6 +68,8 @@ module _ (c : Content) (T : ℕ) (answers : List Reply) (d : Desk) where
     -- 'for every closed universal formula without fixpoints and with fewer than r nested AX, and once r = T for every closed universal formula'
     pub bounded-by-round : (φ : Formula) → UniversalSentence (model1 c .propositions) φ → fixpointFree φ ≡ true → nestedAX φ < r → BoundedBy φ
     pub bounded-at-T : r ≡ T → (φ : Formula) → UniversalSentence (model1 c .propositions) φ → BoundedBy φ
+    -- request 102: whether the shown entries bound a formula of the case is seen from the facts that value or whole answered of it
+    pub covered : (f : ℕ) (x : FormulaFacts) → FactsAnswered d f x → Covers x → BoundedBy (formulaIn c f)
     -- 'T is at most N1·N2·(h − 1) + 1, h being the number of elements in the lattice's longest chain'; there is such an h
     pub h-exists : (h : ℕ) × LongestChain (ops c) h
     pub T-most : (h : ℕ) → LongestChain (ops c) h → T ≤ tableSize c * (h - 1) + 1

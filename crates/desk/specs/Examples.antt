@@ -11,11 +11,12 @@ use Rattle.theory.specs.Lattice.{imp, iff, bigMeet, bigJoin}
 use Rattle.theory.specs.Value.{iterate, bind, allNext, someNext, eval, valueAt, wholeValue}
 use Rattle.theory.specs.Simulation.{propositionPart, successorPart, F, roundOf, score, count, share}
 use Rattle.theory.specs.Part.{isMeet, isJoin, meetOf, joinOf, topOf, botOf, element}
-use Rattle.theory.specs.Formula.{closedUnder, overProps, nestedBinders}
+use Rattle.theory.specs.Formula.{closedUnder, overProps, nestedBinders, nestedAX, fixpointFree, universal}
 use Rattle.theory.specs.Test.{allBelow, firstBelow}
 use Rattle.theory.specs.Lists.{tab}
 use Rattle.lattice.specs.Reading.{isPanel, latticeOf, explicitForm, latticeForm, reflexive, antisymmetric, transitive, partialOrder, meetsAndJoins, distributive, complementRules, require, partReading, latticeReading}
 use Rattle.model.specs.Reading.{elementsOnly, modelTest}
+use Rattle.formula.specs.declared.FormulaFacts.{FormulaFacts}
 use Rattle.formula.specs.Bytes.{byCode, parse, formulaReading}
 use Rattle.refusal.specs.declared.Refusal.{Refusal}
 use Rattle.casefile.specs.Directory.{partStart, partSize, placed, misplaced, partsFrom}
@@ -43,6 +44,10 @@ zeros =
       second = replicate 4096 0;
     }
 
+-- the facts of a formula with so many nested AX, no fixpoint and no EX
+abbrev nested : ℕ → FormulaFacts
+nested n = record { nesting = n; fixpoint = false; ex = false }
+
 -- worked example 1 with formula p, which report prints: rounds 2, row 0: 1, score 1, formula 0: 1 1
 abbrev pub calls1 : List (Call × Reply)
 calls1 =
@@ -51,8 +56,8 @@ calls1 =
     ∷ (Call.Step, Reply.Settled 2)
     ∷ (Call.Show, Reply.Shown (1 ∷ []))
     ∷ (Call.Ask Question.Score, Reply.Element 1)
-    ∷ (Call.Ask (Question.Whole 0 1), Reply.Element 1)
-    ∷ (Call.Ask (Question.Whole 0 2), Reply.Element 1)
+    ∷ (Call.Ask (Question.Whole 0 1), Reply.Valued 1 (nested 0))
+    ∷ (Call.Ask (Question.Whole 0 2), Reply.Valued 1 (nested 0))
     ∷ []
 
 -- worked example 4 with AX of not-p: 'Round 1 is 1 0 / 0 0, round 2 all 0, T = 3. AX of not-p has value 1 at state 0 of model 2 and 0 in
@@ -81,8 +86,8 @@ calls4 =
     ∷ (Call.Step, Reply.Round 1)
     ∷ (Call.Show, Reply.Shown (1 ∷ 0 ∷ 0 ∷ 0 ∷ []))
     ∷ (Call.Ask (Question.Share 1), Reply.PerCent 25)
-    ∷ (Call.Ask (Question.Value 0 2 0), Reply.Element 1)
-    ∷ (Call.Ask (Question.Value 0 1 0), Reply.Element 0)
+    ∷ (Call.Ask (Question.Value 0 2 0), Reply.Valued 1 (nested 1))
+    ∷ (Call.Ask (Question.Value 0 1 0), Reply.Valued 0 (nested 1))
     ∷ (Call.Ask (Question.Value 1 1 0), Reply.Refused 13 255)
     ∷ (Call.Ask (Question.Value 0 0 0), Reply.Refused 13 255)
     ∷ (Call.Ask (Question.Value 0 1 2), Reply.Refused 13 255)
@@ -93,7 +98,7 @@ calls4 =
     ∷ (Call.Step, Reply.Settled 3)
     ∷ (Call.Step, Reply.Settled 3)
     ∷ (Call.Ask Question.Score, Reply.Element 0)
-    ∷ (Call.Ask (Question.Whole 0 2), Reply.Element 1)
+    ∷ (Call.Ask (Question.Whole 0 2), Reply.Valued 1 (nested 1))
     ∷ (Call.Ask (Question.Judge (0 ∷ 0 ∷ 0 ∷ 0 ∷ [])), Reply.Says true)
     ∷ (Call.Ask (Question.Judge (1 ∷ 0 ∷ 0 ∷ 0 ∷ [])), Reply.Says false)
     ∷ (Call.Ask (Question.Judge (2 ∷ 0 ∷ 0 ∷ 0 ∷ [])), Reply.Refused 13 255)
@@ -105,5 +110,5 @@ abbrev pub AnswersAs : List (Call × Reply) → Type 0
 AnswersAs l = replies (map (λ x. x .0) l) zeros ≡ map (λ x. x .1) l
 
 pub examples-answer : AnswersAs calls1 × AnswersAs calls4
-unfolding imp iff bigMeet bigJoin iterate bind allNext someNext eval valueAt wholeValue propositionPart successorPart F roundOf score count share isMeet isJoin meetOf joinOf topOf botOf element closedUnder overProps nestedBinders allBelow firstBelow isPanel latticeOf explicitForm latticeForm reflexive antisymmetric transitive partialOrder meetsAndJoins distributive complementRules require partReading latticeReading elementsOnly modelTest byCode parse formulaReading partStart partSize placed misplaced partsFrom formulasReading modelsReading caseReading pairs joined gapless tab rowSame changedBelow simulationTest short rulesObeyed spoiled examined accepted opened worked stepped answer moved lentAfter perform replies
+unfolding imp iff bigMeet bigJoin iterate bind allNext someNext eval valueAt wholeValue propositionPart successorPart F roundOf score count share isMeet isJoin meetOf joinOf topOf botOf element closedUnder overProps nestedBinders nestedAX fixpointFree universal allBelow firstBelow isPanel latticeOf explicitForm latticeForm reflexive antisymmetric transitive partialOrder meetsAndJoins distributive complementRules require partReading latticeReading elementsOnly modelTest byCode parse formulaReading partStart partSize placed misplaced partsFrom formulasReading modelsReading caseReading pairs joined gapless tab rowSame changedBelow simulationTest short rulesObeyed spoiled examined accepted opened worked stepped answer moved lentAfter perform replies
 examples-answer = (refl, refl)

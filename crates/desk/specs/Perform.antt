@@ -1,4 +1,5 @@
--- What each call answers and what it makes of the desk. Rests on Desk, Case, View, Refused, Moved, the theory and rounds' Table.
+-- What each call answers and what it makes of the desk. Rests on Desk, Case, View, Refused, Moved, the theory, formula's Answer and
+-- rounds' Table.
 --   answerTo: what an accepted question answers, and what it leaves in the buffers that it is lent, from its view alone
 --   answer, moved, lentAfter: the answer of an accepted call, the desk after it, and what it leaves in the buffers that it is lent
 --   perform: these three (After) of any call, once it is examined (performed); asked, showAnswer: what a question and what show answers
@@ -7,6 +8,7 @@ use mathlib.Core.List.{List, []}
 use lib.ListN.{take}
 use Rattle.theory.specs.Value.{valueAt, wholeValue}
 use Rattle.theory.specs.Simulation.{score, share}
+use Rattle.formula.specs.Answer.{factsOf}
 use Rattle.casefile.specs.Reading.{Content, CaseReading, refused, content}
 use Rattle.rounds.specs.Table.{tableOf, simulationTest}
 use Rattle.desk.specs.Desk.{Desk, Question, Call, Reply, Answered, replyAlone, wholeTable, callLentBuffers}
@@ -17,12 +19,12 @@ use Rattle.desk.specs.Moved.{opened, stepped, stepAnswer}
 
 -- ---- an accepted call, on the content c
 
--- 'value gives a formula's element at a state of model 1 or 2; whole on a model'; score and share are those of the shown entries;
--- 'judge (..) says yes exactly when it is a simulation'
+-- 'value gives a formula's element at a state of model 1 or 2; whole on a model', and both 'pass these three on with the element', the formula's
+-- facts (request 102); score and share are those of the shown entries; 'judge (..) says yes exactly when it is a simulation'
 abbrev pub answerTo : Question → View → Answered
 answerTo Question.Score v = replyAlone (Reply.Element (score (ops (v .holds)) (model1 (v .holds)) (model2 (v .holds)) (v .shown)))
-answerTo (Question.Value f m q) v = replyAlone (Reply.Element (valueAt (ops (v .holds)) (modelIn (v .holds) m) (formulaIn (v .holds) f) q))
-answerTo (Question.Whole f m) v = replyAlone (Reply.Element (wholeValue (ops (v .holds)) (modelIn (v .holds) m) (formulaIn (v .holds) f)))
+answerTo (Question.Value f m q) v = replyAlone (Reply.Valued (valueAt (ops (v .holds)) (modelIn (v .holds) m) (formulaIn (v .holds) f) q) (factsOf (formulaIn (v .holds) f)))
+answerTo (Question.Whole f m) v = replyAlone (Reply.Valued (wholeValue (ops (v .holds)) (modelIn (v .holds) m) (formulaIn (v .holds) f)) (factsOf (formulaIn (v .holds) f)))
 answerTo (Question.Share e) v = replyAlone (Reply.PerCent (share (ops (v .holds)) (tableSize (v .holds)) (entryAt (v .holds) (v .shown)) e))
 answerTo (Question.Judge t) v =
     replyAlone (Reply.Says (simulationTest (model1 (v .holds)) (model2 (v .holds)) (operator (v .holds)) (tableOf t (N2 (v .holds)))))

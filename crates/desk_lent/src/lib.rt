@@ -5,13 +5,14 @@ use desk_moves::StepAnswer;
 use desk_questions::ElementAnswer;
 use desk_questions::JudgeAnswer;
 use desk_questions::ShareAnswer;
+use desk_questions::ValueAnswer;
 use elements::Element;
 use model::State;
 ghost use Rattle.desk.specs.Desk.{Call, Question, Reply};
 ghost use Rattle.desk_check.specs.Read.{deskOf};
 ghost use Rattle.desk_check.specs.Answer.{Does};
 ghost use Rattle.desk_moves.specs.Answer.{stepReply, openReply};
-ghost use Rattle.desk_questions.specs.Answer.{elementReply, shareReply, judgeReply};
+ghost use Rattle.desk_questions.specs.Answer.{elementReply, valueReply, shareReply, judgeReply};
 ghost use Rattle.desk_lent.specs.Asked.{ReadsOnly, AsksOnly};
 
 // ---- the calls that move the standing on
@@ -88,7 +89,7 @@ pub fn judge(
     desk_questions::judge(*s, store, first, second, table)
 }
 
-// A formula's value on model 1 or 2.
+// A formula's value on model 1 or 2, with its facts.
 pub fn whole(
     s: &mut Standing,
     store: &[u8],
@@ -96,14 +97,14 @@ pub fn whole(
     second: &[u8],
     f: u8,
     m: u8,
-) -> ElementAnswer
+) -> ValueAnswer
     ensures { λ r. ⌜ AsksOnly (Question.Whole f m)
-        (now (s .entry)) (now (store .entry)) (now (first .entry)) (now (second .entry)) (elementReply r) (now (s .exit)) ⌝ }
+        (now (s .entry)) (now (store .entry)) (now (first .entry)) (now (second .entry)) (valueReply r) (now (s .exit)) ⌝ }
 {
     desk_questions::whole(*s, store, first, second, f, m)
 }
 
-// A formula's element at a state of model 1 or 2.
+// A formula's element at a state of model 1 or 2, with its facts.
 pub fn value(
     s: &mut Standing,
     store: &[u8],
@@ -112,9 +113,9 @@ pub fn value(
     f: u8,
     m: u8,
     q: State,
-) -> ElementAnswer
+) -> ValueAnswer
     ensures { λ r. ⌜ AsksOnly (Question.Value f m (q .0))
-        (now (s .entry)) (now (store .entry)) (now (first .entry)) (now (second .entry)) (elementReply r) (now (s .exit)) ⌝ }
+        (now (s .entry)) (now (store .entry)) (now (first .entry)) (now (second .entry)) (valueReply r) (now (s .exit)) ⌝ }
 {
     desk_questions::value(*s, store, first, second, f, m, q)
 }

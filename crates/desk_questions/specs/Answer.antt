@@ -1,7 +1,7 @@
 -- What the calls that only read answer, in the desk's terms: for each of an enum's cases the number and values that document 01 gives. Rests on
 -- desk_check's Read and Answer, and desk's Refused.
 --   Reads, Asks: what a call that only reads does, and a question
---   elementReply, shareReply, judgeReply: each answer as the desk's reply
+--   elementReply, valueReply, shareReply, judgeReply: each answer as the desk's reply
 use Prim.Native.Nat.{ℕ}
 use mathlib.Core.List.{List}
 use Rattle.desk_check.specs.declared.Standing.{Standing}
@@ -11,6 +11,8 @@ use Rattle.desk.specs.Desk.{Call, Question, Reply}
 use Rattle.desk.specs.Refused.{numberReply}
 use Rattle.desk_questions.specs.declared.ElementAnswer.{ElementAnswer}
 use Rattle.desk_questions.specs.declared.ElementAnswer.the-variants as element
+use Rattle.desk_questions.specs.declared.ValueAnswer.{ValueAnswer}
+use Rattle.desk_questions.specs.declared.ValueAnswer.the-variants as value
 use Rattle.desk_questions.specs.declared.ShareAnswer.{ShareAnswer}
 use Rattle.desk_questions.specs.declared.ShareAnswer.the-variants as share
 use Rattle.desk_questions.specs.declared.JudgeAnswer.{JudgeAnswer}
@@ -26,6 +28,10 @@ Asks q = Reads (Call.Ask q)
 abbrev pub elementReply : ElementAnswer → Reply
 elementReply (element.Refused r) = numberReply r
 elementReply (element.Is e) = Reply.Element (e .0)
+
+abbrev pub valueReply : ValueAnswer → Reply
+valueReply (value.Refused r) = numberReply r
+valueReply (value.Is e x) = Reply.Valued (e .0) x
 
 abbrev pub shareReply : ShareAnswer → Reply
 shareReply (share.Refused r) = numberReply r

@@ -1,4 +1,5 @@
--- What the questions are answered, from what the code found. Rests on desk_check's Held, rounds' Table, share's ShareIn, valuer's Values.
+-- What the questions are answered, from what the code found. Rests on desk_check's Held, rounds' Table, share's ShareIn, valuer's Values and
+-- formula's Answer.
 --   Readable, caseScore, caseSimulation, rangeTest: the terms of the code's contracts
 --   readable, model-over, formula-on-model, whole-fits, some-entries: a held desk meets what these terms and the functions ask
 --   held-show, held-score, held-share, held-judge, held-whole, held-value: each question answered
@@ -17,7 +18,9 @@ use Rattle.theory.specs.Part.{modelOf}
 use Rattle.theory.specs.Simulation.{share}
 use Rattle.theory.specs.Share.{share-cong}
 use Rattle.theory.specs.TestLaws.{and-l, and-r, cond-true, cond-false}
+use Rattle.formula.specs.declared.FormulaFacts.{FormulaFacts}
 use Rattle.formula.specs.Bytes.{read, formulaReading}
+use Rattle.formula.specs.Answer.{FactsIn}
 use Rattle.casefile.specs.declared.Sizes.{Sizes}
 use Rattle.casefile.specs.Directory.{partCount, partAt}
 use Rattle.casefile.specs.Conditions.{Placed}
@@ -151,10 +154,11 @@ module _ {d : Desk} {z : Sizes} {w : List ℕ} (h : HeldDesk d z w) where
   pub formula-on-model : (f m : ℕ) → rangeTest f m (z .formulas) ≡ true → FormulaOnModel bytes f m
   formula-on-model f m r = parts-formula-on-model (h .case) f m (formula-of f m r) (model-of f m r)
 
-  pub held-whole : (f m x : ℕ) → rangeTest f m (z .formulas) ≡ true → WholeValue w (z .lattice) (partAt bytes m) (partAt bytes (3 + f)) x → Does (Call.Ask (Question.Whole f m)) d (Reply.Element x) d
-  held-whole f m x r v =
+  pub held-whole : (f m x : ℕ) (i : FormulaFacts) → rangeTest f m (z .formulas) ≡ true → WholeValue w (z .lattice) (partAt bytes m) (partAt bytes (3 + f)) x → FactsIn (getD (partAt bytes m) 1 0) (partAt bytes (3 + f)) i → Does (Call.Ask (Question.Whole f m)) d (Reply.Valued x i) d
+  held-whole f m x i r v p =
       let r' : rangeTest f m (length (h .case .holds .formulas)) ≡ true = rw (h .case .sizes) at r in
-      rw (rw (model-is f m r, h .case .ops) at (v .is (formulaIn (h .case .holds) f) (formula-is f m r))) (held-question h (Question.Whole f m) (range-first f m _ none ∙ cond-true _ _ _ r'))
+      rw (rw (model-is f m r, h .case .ops) at (v .is (formulaIn (h .case .holds) f) (formula-is f m r)), p .is (formulaIn (h .case .holds) f) (formula-is f m r))
+      (held-question h (Question.Whole f m) (range-first f m _ none ∙ cond-true _ _ _ r'))
 
   pub whole-outside : (f m : ℕ) → rangeTest f m (z .formulas) ≡ false → Does (Call.Ask (Question.Whole f m)) d (numberReply OutOfRange) d
   whole-outside f m r =
@@ -164,11 +168,11 @@ module _ {d : Desk} {z : Sizes} {w : List ℕ} (h : HeldDesk d z w) where
   states-are : (f m : ℕ) → rangeTest f m (z .formulas) ≡ true → getD (partAt bytes m) 0 0 ≡ modelIn (h .case .holds) m .states
   states-are f m r = ap (λ (M : Model ℕ). M .states) (model-is f m r)
 
-  pub held-value : (f m q x : ℕ) → rangeTest f m (z .formulas) ≡ true → ltb q (getD (partAt bytes m) 0 0) ≡ true → ValueAt w (z .lattice) (partAt bytes m) (partAt bytes (3 + f)) q x → Does (Call.Ask (Question.Value f m q)) d (Reply.Element x) d
-  held-value f m q x r s v =
+  pub held-value : (f m q x : ℕ) (i : FormulaFacts) → rangeTest f m (z .formulas) ≡ true → ltb q (getD (partAt bytes m) 0 0) ≡ true → ValueAt w (z .lattice) (partAt bytes m) (partAt bytes (3 + f)) q x → FactsIn (getD (partAt bytes m) 1 0) (partAt bytes (3 + f)) i → Does (Call.Ask (Question.Value f m q)) d (Reply.Valued x i) d
+  held-value f m q x i r s v p =
       let r' : rangeTest f m (length (h .case .holds .formulas)) ≡ true = rw (h .case .sizes) at r in
       let s' : ltb q (modelIn (h .case .holds) m .states) ≡ true = rw (states-are f m r) at s in
-      rw (rw (model-is f m r, h .case .ops) at (v .is (formulaIn (h .case .holds) f) (formula-is f m r)))
+      rw (rw (model-is f m r, h .case .ops) at (v .is (formulaIn (h .case .holds) f) (formula-is f m r)), p .is (formulaIn (h .case .holds) f) (formula-is f m r))
       (held-question h (Question.Value f m q) (range-first f m _ _ ∙ cond-true _ _ _ r' ∙ cond-true _ _ _ s'))
 
   pub value-outside : (f m q : ℕ) → rangeTest f m (z .formulas) ≡ false → Does (Call.Ask (Question.Value f m q)) d (numberReply OutOfRange) d

@@ -1,5 +1,5 @@
 // The calls that value a formula.
-use crate::ElementAnswer;
+use crate::ValueAnswer;
 use desk_check::Examined;
 use desk_check::STORE_LENGTH;
 use desk_check::Standing;
@@ -7,17 +7,19 @@ use desk_check::examine;
 use elements::Codes;
 use elements::Element;
 use elements::Lattice;
+use formula::FormulaFacts;
 use model::State;
 use refusal::Refusal;
 ghost use mathlib.Core.Path.{_≡_};
 ghost use Prim.Native.Nat.{_+_, _<_};
 ghost use lib.Dec.{ltb};
 ghost use lib.ListN.{getD};
+ghost use Rattle.formula.specs.Answer.{FactsIn};
 ghost use Rattle.casefile.specs.Directory.{partAt};
 ghost use Rattle.valuer.specs.Values.{ModelOver, ValueAt, WholeValue};
 ghost use Rattle.desk.specs.Desk.{Question};
 ghost use Rattle.desk.specs.CaseParts.{FormulaOnModel};
-ghost use Rattle.desk_questions.specs.Answer.{Asks, elementReply};
+ghost use Rattle.desk_questions.specs.Answer.{Asks, valueReply};
 ghost use Rattle.desk_questions.specs.Questions.{rangeTest};
 
 // There is a formula f, and m is 1 or 2.
@@ -33,6 +35,16 @@ fn in_range(f: u8, m: u8, formulas: u8) -> bool
     m == 2
 }
 
+// The facts of formula f.
+fn facts_of(bytes: &[u8], f: u8, m: u8) -> FormulaFacts
+    requires { ⌜ FormulaOnModel (now bytes) f m ⌝ }
+    ensures { λ r. ⌜ FactsIn (getD (partAt (now (bytes .entry)) m) 1 0) (partAt (now (bytes .entry)) (3 + f)) r ⌝ }
+{
+    let model = casefile::part(bytes, m);
+    let formula = casefile::part(bytes, 3 + f);
+    formula::facts(formula, model[1])
+}
+
 fn whole_of(w: &Codes, l: Lattice, bytes: &[u8], f: u8, m: u8) -> Element
     requires { ⌜ ModelOver (now w) l (partAt (now bytes) m) × FormulaOnModel (now bytes) f m ⌝ }
     ensures { λ r. ⌜ WholeValue (now (w .entry)) l (partAt (now (bytes .entry)) m) (partAt (now (bytes .entry)) (3 + f)) (r .0) ⌝ }
@@ -42,20 +54,22 @@ fn whole_of(w: &Codes, l: Lattice, bytes: &[u8], f: u8, m: u8) -> Element
     valuer::whole(w, l, model, formula)
 }
 
-// A formula's value on model 1 or 2.
-pub fn whole(s: Standing, store: &[u8], first: &[u8], second: &[u8], f: u8, m: u8) -> ElementAnswer
-    ensures { λ r. ⌜ Asks (Question.Whole f m) s (now (store .entry)) (now (first .entry)) (now (second .entry)) (elementReply r) ⌝ }
+// A formula's value on model 1 or 2, with its facts.
+pub fn whole(s: Standing, store: &[u8], first: &[u8], second: &[u8], f: u8, m: u8) -> ValueAnswer
+    ensures { λ r. ⌜ Asks (Question.Whole f m) s (now (store .entry)) (now (first .entry)) (now (second .entry)) (valueReply r) ⌝ }
 {
     let mut w = [0u64; 128];
     match examine(s, store, first, second, &mut w) {
-        Examined::Refused(x) => ElementAnswer::Refused(x),
+        Examined::Refused(x) => ValueAnswer::Refused(x),
         Examined::Held(z) => {
             let l = z.lattice;
             if !in_range(f, m, z.formulas) {
-                return ElementAnswer::Refused(Refusal::OutOfRange);
+                return ValueAnswer::Refused(Refusal::OutOfRange);
             }
             let bytes = &store[..STORE_LENGTH];
-            ElementAnswer::Is(whole_of(&w, l, bytes, f, m))
+            let e = whole_of(&w, l, bytes, f, m);
+            let facts = facts_of(bytes, f, m);
+            ValueAnswer::Is(e, facts)
         }
     }
 }
@@ -78,7 +92,7 @@ fn value_of(w: &Codes, l: Lattice, bytes: &[u8], f: u8, m: u8, q: State) -> Elem
     valuer::value(w, l, model, formula, q)
 }
 
-// A formula's element at a state of model 1 or 2.
+// A formula's element at a state of model 1 or 2, with its facts.
 pub fn value(
     s: Standing,
     store: &[u8],
@@ -87,22 +101,24 @@ pub fn value(
     f: u8,
     m: u8,
     q: State,
-) -> ElementAnswer
-    ensures { λ r. ⌜ Asks (Question.Value f m (q .0)) s (now (store .entry)) (now (first .entry)) (now (second .entry)) (elementReply r) ⌝ }
+) -> ValueAnswer
+    ensures { λ r. ⌜ Asks (Question.Value f m (q .0)) s (now (store .entry)) (now (first .entry)) (now (second .entry)) (valueReply r) ⌝ }
 {
     let mut w = [0u64; 128];
     match examine(s, store, first, second, &mut w) {
-        Examined::Refused(x) => ElementAnswer::Refused(x),
+        Examined::Refused(x) => ValueAnswer::Refused(x),
         Examined::Held(z) => {
             let l = z.lattice;
             if !in_range(f, m, z.formulas) {
-                return ElementAnswer::Refused(Refusal::OutOfRange);
+                return ValueAnswer::Refused(Refusal::OutOfRange);
             }
             let bytes = &store[..STORE_LENGTH];
             if !has_state(bytes, f, m, q) {
-                return ElementAnswer::Refused(Refusal::OutOfRange);
+                return ValueAnswer::Refused(Refusal::OutOfRange);
             }
-            ElementAnswer::Is(value_of(&w, l, bytes, f, m, q))
+            let e = value_of(&w, l, bytes, f, m, q);
+            let facts = facts_of(bytes, f, m);
+            ValueAnswer::Is(e, facts)
         }
     }
 }

@@ -5,6 +5,7 @@ mod formulas;
 mod tables;
 
 use elements::Element;
+use formula::FormulaFacts;
 pub use formulas::value;
 pub use formulas::whole;
 use refusal::Refusal;
@@ -13,10 +14,16 @@ pub use tables::score;
 pub use tables::share;
 pub use tables::show;
 
-// What score, value and whole answer.
+// What score answers.
 pub enum ElementAnswer {
     Refused(Refusal),
     Is(Element),
+}
+
+// What value and whole answer: the element, and the facts of the formula.
+pub enum ValueAnswer {
+    Refused(Refusal),
+    Is(Element, FormulaFacts),
 }
 
 // What share answers.

@@ -24,12 +24,13 @@ pub struct Answer {
     // The refusal's number, and the part that it names.
     pub number: u8,
     pub part: u8,
-    // No kind uses it yet.
+    // The deepest nesting of AX, of kind 9.
     pub byte: u8,
     // The round, T, the element, the per cent, or 1 for yes.
     pub value: u32,
-    // No kind uses these yet.
+    // No kind uses it yet.
     pub second: u32,
+    // A fixpoint occurs; EX occurs; of kind 9.
     pub flag1: bool,
     pub flag2: bool,
 }

@@ -5,11 +5,12 @@ use desk_moves::StepAnswer;
 use desk_questions::ElementAnswer;
 use desk_questions::JudgeAnswer;
 use desk_questions::ShareAnswer;
+use desk_questions::ValueAnswer;
 use refusal::Refusal;
 ghost use mathlib.Core.Path.{_≡_};
 ghost use Rattle.desk.specs.Refused.{numberReply};
 ghost use Rattle.desk_moves.specs.Answer.{stepReply, openReply};
-ghost use Rattle.desk_questions.specs.Answer.{elementReply, shareReply, judgeReply};
+ghost use Rattle.desk_questions.specs.Answer.{elementReply, valueReply, shareReply, judgeReply};
 ghost use Rattle.exports.specs.Numbers.{given, numbers};
 
 pub fn refused(f: Refusal) -> Answer
@@ -74,6 +75,24 @@ pub fn element(a: ElementAnswer) -> Answer
     match a {
         ElementAnswer::Refused(f) => refused(f),
         ElementAnswer::Is(e) => plain(5, wide(e.0)),
+    }
+}
+
+pub fn valued(a: ValueAnswer) -> Answer
+    ensures { λ r. ⌜ r ≡ numbers (valueReply a) ⌝ }
+{
+    match a {
+        ValueAnswer::Refused(f) => refused(f),
+        ValueAnswer::Is(e, facts) => Answer {
+            kind: 9,
+            number: 0,
+            part: 0,
+            byte: facts.nesting,
+            value: wide(e.0),
+            second: 0,
+            flag1: facts.fixpoint,
+            flag2: facts.ex,
+        },
     }
 }
 

@@ -4,6 +4,7 @@ use crate::Shown;
 use crate::numbers::element;
 use crate::numbers::judged;
 use crate::numbers::per_cent;
+use crate::numbers::valued;
 use desk_check::Standing;
 use elements::Element;
 use model::State;
@@ -41,7 +42,7 @@ pub extern "C" fn koelchair_show<'a>(
     }
 }
 
-// A formula's element at a state of model 1 or 2.
+// A formula's element at a state of model 1 or 2, with its facts.
 #[no_mangle]
 pub extern "C" fn koelchair_value(
     s: Standing,
@@ -54,10 +55,10 @@ pub extern "C" fn koelchair_value(
 ) -> Answer
     ensures { λ r. ⌜ AskedInNumbers (Question.Value formula model state) s (now (store .entry)) (now (first .entry)) (now (second .entry)) r ⌝ }
 {
-    element(desk_questions::value(s, store, first, second, formula, model, State(state)))
+    valued(desk_questions::value(s, store, first, second, formula, model, State(state)))
 }
 
-// A formula's value on model 1 or 2.
+// A formula's value on model 1 or 2, with its facts.
 #[no_mangle]
 pub extern "C" fn koelchair_whole(
     s: Standing,
@@ -69,7 +70,7 @@ pub extern "C" fn koelchair_whole(
 ) -> Answer
     ensures { λ r. ⌜ AskedInNumbers (Question.Whole formula model) s (now (store .entry)) (now (first .entry)) (now (second .entry)) r ⌝ }
 {
-    element(desk_questions::whole(s, store, first, second, formula, model))
+    valued(desk_questions::whole(s, store, first, second, formula, model))
 }
 
 // The score of the shown table.

@@ -2,7 +2,8 @@
 -- of φ, at most 255 of them, and φ is allowed. Rests on Bytes and formula_tokens' Sizes.
 --   reading-exactly: a part is read as φ exactly when it is the bytes of φ, at most 255, and φ is allowed
 --   parse-bytes, bytes-parse, bytes-injective: parse and bytes are inverse to one another
---   code-refused: a code from 11 on; parse-code, parse-nil: the parse by the first byte; bytes-least: a formula has a byte
+--   code-refused: a code from 11 on; parse-code, parse-nil: the parse by the first byte
+--   bytes-least: a formula has a byte; nested-fewer: it has more bytes than nested AX
 --   FormulaPart, formula-part: what is known of a part that is read
 use Prim.Native.Nat.{ℕ, zero, suc, _+_, _-_, _≤_, _<_}
 use mathlib.Core.Path.{_≡_, refl, sym, ap, _∙_}
@@ -14,7 +15,7 @@ use native.Mathlib.Omega.{arith}
 use lib.Dec.{leb}
 use lib.ListN.{length, length-append}
 use borrow.Author.Tests.{le-leb, leb-true}
-use Rattle.theory.specs.Formula.{Formula, bottom, top, prop, negated, var, or, and, AX, EX, mu, nu, closed, overProps, nestedBinders}
+use Rattle.theory.specs.Formula.{Formula, bottom, top, prop, negated, var, or, and, AX, EX, mu, nu, closed, overProps, nestedBinders, nestedAX}
 use Rattle.theory.specs.TestLaws.{and-l, and-r}
 use Rattle.formula_tokens.specs.Sizes.{code-past}
 use Rattle.formula.specs.Bytes.{bytesOf, Parsed, parsed, unparsed, numbered, unary, binary, byCode, parse, allowed, whole, FormulaReading, read, refused, formulaReading}
@@ -130,6 +131,21 @@ pub bytes-least : (φ : Formula) → 1 ≤ length (bytesOf φ)
 unfolding parse
 bytes-least φ = let some : ¬ (length (bytesOf φ) ≤ 0) = λ l. never-parsed (parse-bytes φ 0 [] l) in omega arith
 
+-- and more bytes than nested AX, each of which is one of them
+pub nested-fewer : (φ : Formula) → nestedAX φ < length (bytesOf φ)
+unfolding nestedAX bytesOf
+nested-fewer bottom = omega arith
+nested-fewer top = omega arith
+nested-fewer (prop p) = omega arith
+nested-fewer (negated p) = omega arith
+nested-fewer (var v) = omega arith
+nested-fewer (or f g) = omega (arith, length-append (bytesOf f) (bytesOf g), nested-fewer f, nested-fewer g)
+nested-fewer (and f g) = omega (arith, length-append (bytesOf f) (bytesOf g), nested-fewer f, nested-fewer g)
+nested-fewer (AX f) = omega (arith, nested-fewer f)
+nested-fewer (EX f) = omega (arith, nested-fewer f)
+nested-fewer (mu f) = omega (arith, nested-fewer f)
+nested-fewer (nu f) = omega (arith, nested-fewer f)
+
 -- ---- a formula part that is accepted
 
 cond-read : (t : Bool) (x : FormulaReading) (φ : Formula) → cond t x refused ≡ read φ → (t ≡ true) × (x ≡ read φ)
@@ -169,6 +185,7 @@ pub record FormulaPart (k : ℕ) (b : List ℕ) (φ : Formula) : Type 0 where
   pub is-closed : closed φ ≡ true
   pub props : overProps k φ ≡ true
   pub binders : nestedBinders φ ≤ 3
+  pub nesting-most : nestedAX φ ≤ 254
 
 pub formula-part : (k : ℕ) (b : List ℕ) (φ : Formula) → formulaReading k b ≡ read φ → FormulaPart k b φ
 formula-part k b φ e =
@@ -181,4 +198,5 @@ formula-part k b φ e =
       is-closed = and-l (closed φ) (overProps k φ) both;
       props = and-r (closed φ) (overProps k φ) both;
       binders = leb-true _ _ (and-r (closed φ && overProps k φ) (leb (nestedBinders φ) 3) (h .2));
+      nesting-most = omega (arith, nested-fewer φ, h .1, ap length (h .0));
     }

@@ -13,6 +13,8 @@ use lib.ListN.{length}
 use Rattle.theory.specs.Value.{wholeValue}
 use Rattle.theory.specs.Simulation.{SameTable, score}
 use Rattle.theory.specs.Loop.{tab-at}
+use Rattle.formula.specs.declared.FormulaFacts.{FormulaFacts}
+use Rattle.formula.specs.Answer.{factsOf}
 use Rattle.casefile.specs.Reading.{Content}
 use Rattle.rounds.specs.Table.{tableOf}
 use Rattle.rounds.specs.Round.{cell-lt}
@@ -29,13 +31,14 @@ use Rattle.listing.specs.Writing.{each-cong}
 use Rattle.listing.specs.Entries.{rows-cong}
 use Rattle.listing.specs.Settled.{listing-is}
 
--- the answers of a desk that is settled: its round, the table that it shows, its score, and the formulas' values on models 1 and 2
+-- the answers of a desk that is settled: its round, the table that it shows, its score, and the formulas' values on models 1 and 2 with
+-- their facts, which the text leaves out: 'The listing of report is unaltered' (request 102)
 pub record Answers (c : Content) (d : Desk) (T : ℕ) (table : List ℕ) (e : ℕ) (v₁ v₂ : ℕ → ℕ) : Type 0 where
   pub round : d .standing .round ≡ T
   pub show : showAnswer d ≡ Reply.Shown table
   pub score : asked Question.Score d ≡ Reply.Element e
-  pub whole1 : (f : ℕ) → f < length (c .formulas) → asked (Question.Whole f 1) d ≡ Reply.Element (v₁ f)
-  pub whole2 : (f : ℕ) → f < length (c .formulas) → asked (Question.Whole f 2) d ≡ Reply.Element (v₂ f)
+  pub whole1 : (f : ℕ) → f < length (c .formulas) → asked (Question.Whole f 1) d ≡ Reply.Valued (v₁ f) (factsOf (formulaIn c f))
+  pub whole2 : (f : ℕ) → f < length (c .formulas) → asked (Question.Whole f 2) d ≡ Reply.Valued (v₂ f) (factsOf (formulaIn c f))
 
 -- the text of such answers
 abbrev pub textOfAnswers : Content → ℕ → List ℕ → ℕ → (ℕ → ℕ) → (ℕ → ℕ) → List ℕ
@@ -53,6 +56,9 @@ bytes-table c S q₁ l q₂ m =
 same-element : (x : Reply) (a b : ℕ) → x ≡ Reply.Element a → x ≡ Reply.Element b → a ≡ b
 same-element x a b p q = cc
 
+same-value : (x : Reply) (a b : ℕ) (i j : FormulaFacts) → x ≡ Reply.Valued a i → x ≡ Reply.Valued b j → a ≡ b
+same-value x a b i j p q = cc
+
 same-shown : (x : Reply) (a b : List ℕ) → x ≡ Reply.Shown a → x ≡ Reply.Shown b → a ≡ b
 same-shown x a b p q = cc
 
@@ -69,10 +75,10 @@ module _ (c : Content) (T : ℕ) (answers : List Reply) (d : Desk) (w : Claim c 
   score-T : asked Question.Score d ≡ Reply.Element (score (ops c) (model1 c) (model2 c) (roundIn c T))
   score-T = rw at-T at (score-next w)
 
-  whole-1 : (f : ℕ) → f < length (c .formulas) → asked (Question.Whole f 1) d ≡ Reply.Element (wholeValue (ops c) (modelIn c 1) (formulaIn c f))
+  whole-1 : (f : ℕ) → f < length (c .formulas) → asked (Question.Whole f 1) d ≡ Reply.Valued (wholeValue (ops c) (modelIn c 1) (formulaIn c f)) (factsOf (formulaIn c f))
   whole-1 f l = whole-next w f 1 (ranges w (Question.Whole f 1) .1 (l, (inl refl, tt)))
 
-  whole-2 : (f : ℕ) → f < length (c .formulas) → asked (Question.Whole f 2) d ≡ Reply.Element (wholeValue (ops c) (modelIn c 2) (formulaIn c f))
+  whole-2 : (f : ℕ) → f < length (c .formulas) → asked (Question.Whole f 2) d ≡ Reply.Valued (wholeValue (ops c) (modelIn c 2) (formulaIn c f)) (factsOf (formulaIn c f))
   whole-2 f l = whole-next w f 2 (ranges w (Question.Whole f 2) .1 (l, (inr refl, tt)))
 
   answers-T : Answers c d T (tableBytes c (roundIn c T)) (score (ops c) (model1 c) (model2 c) (roundIn c T)) (λ f. wholeValue (ops c) (modelIn c 1) (formulaIn c f)) (λ f. wholeValue (ops c) (modelIn c 2) (formulaIn c f))
@@ -87,7 +93,7 @@ module _ (c : Content) (T : ℕ) (answers : List Reply) (d : Desk) (w : Claim c 
       let pe : score (ops c) (model1 c) (model2 c) S ≡ e = same-element _ _ _ score-T (a .score) in
       ap₂ _++_
       (ap₂ (λ (x : List ℕ) (y : List ℕ). x ++ y) (ap₂ (λ (x : ℕ) (y : List ℕ). lastItem roundsLabel x ++ y) pr (rows-cong (ops c) (model1 c) (model2 c) S (tableOf table (N2 c)) (λ q₁ l q₂ m. sym (bytes-table c S q₁ l q₂ m) ∙ ap (λ (x : List ℕ). tableOf x (N2 c) q₁ q₂) pt))) (ap (lastItem scoreLabel) pe))
-      (each-cong (length (c .formulas)) _ _ (λ f l. ap₂ (formulaText f) (same-element _ _ _ (whole-1 f l) (a .whole1 f l)) (same-element _ _ _ (whole-2 f l) (a .whole2 f l))))
+      (each-cong (length (c .formulas)) _ _ (λ f l. ap₂ (formulaText f) (same-value _ _ _ _ _ (whole-1 f l) (a .whole1 f l)) (same-value _ _ _ _ _ (whole-2 f l) (a .whole2 f l))))
 
 -- for every list of calls from any desk with an accepted opening in it, after which the desk is settled: it has such answers, with T the first
 -- round that equals the one before

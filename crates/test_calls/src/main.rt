@@ -1,4 +1,4 @@
-// The calls by value on the worked examples of document 01 and of request 101. Each line of the input is a call: its word, and the bytes
+// The calls by value on the worked examples of document 01 and of requests 101 and 102. Each line of the input is a call: its word, and the bytes
 // that it takes, in hexadecimal. The table is shown after each step. A line that begins with # is printed as it is.
 use desk_check::Standing;
 use desk_moves::OpenAnswer;
@@ -6,6 +6,7 @@ use desk_moves::StepAnswer;
 use desk_questions::ElementAnswer;
 use desk_questions::JudgeAnswer;
 use desk_questions::ShareAnswer;
+use desk_questions::ValueAnswer;
 use elements::Element;
 use libc::STDIN_FILENO;
 use model::State;
@@ -28,6 +29,16 @@ fn say_element(a: ElementAnswer) {
     match a {
         ElementAnswer::Refused(r) => test_printing::refused(r),
         ElementAnswer::Is(e) => test_printing::byte(e.0),
+    }
+}
+
+fn say_value(a: ValueAnswer) {
+    match a {
+        ValueAnswer::Refused(r) => test_printing::refused(r),
+        ValueAnswer::Is(e, x) => {
+            test_printing::byte(e.0);
+            test_printing::facts(x.nesting, x.fixpoint, x.ex);
+        }
     }
 }
 
@@ -84,7 +95,7 @@ fn step(s: Standing, store: &[u8], first: &mut [u8], second: &mut [u8]) -> Stand
 
 // The value of formula f at state q of model m.
 fn value(s: Standing, f: u8, m: u8, q: u8, store: &[u8], first: &[u8], second: &[u8]) {
-    say_element(desk_questions::value(s, store, first, second, f, m, State(q)));
+    say_value(desk_questions::value(s, store, first, second, f, m, State(q)));
 }
 
 // The calls that only read, by the word's letter.
@@ -95,7 +106,7 @@ fn ask<'a>(s: Standing, letter: u8, bytes: &[u8], store: &[u8], first: &'a [u8],
         b'c' => say_element(desk_questions::score(s, store, first, second)),
         b'h' => say_share(desk_questions::share(s, store, first, second, Element(a))),
         b'j' => say_judge(desk_questions::judge(s, store, first, second, bytes)),
-        b'w' => say_element(desk_questions::whole(s, store, first, second, a, b)),
+        b'w' => say_value(desk_questions::whole(s, store, first, second, a, b)),
         b'v' => value(s, a, b, at(bytes, 2), store, first, second),
         _ => {}
     }

@@ -1,17 +1,18 @@
-// Formula parts at the bounds of each rule, and whether each is accepted, a line for each; there are 2 propositions.
+// Formula parts at the bounds of each rule, and whether each is accepted, with its facts, a line for each; there are 2 propositions.
 use formula::FormulaCheck;
+use test_printing::say;
 
 fn show(name: &[u8], part: &[u8]) {
-    io::write_all(1, name);
+    say(name);
     let answer = formula::check(part, 2);
     match answer {
-        FormulaCheck::Accepted => {
-            io::write_all(1, b": accepted\n");
+        FormulaCheck::Accepted(x) => {
+            say(b": accepted");
+            test_printing::facts(x.nesting, x.fixpoint, x.ex);
         }
-        FormulaCheck::Refused => {
-            io::write_all(1, b": refused 10\n");
-        }
+        FormulaCheck::Refused => say(b": refused 10"),
     }
+    say(b"\n");
 }
 
 // AX over and over, and bottom as the last byte.
@@ -52,9 +53,21 @@ fn forms() {
     show(b"number missing", b"\x08\x02");
 }
 
+// AX in one branch, under EX and under a fixpoint; the last has AX and EX inside one another.
+fn nestings() {
+    show(
+        b"p & AX (q | AX p)",
+        b"\x06\x02\x00\x07\x05\x02\x01\x07\x02\x00",
+    );
+    show(b"AX AX p | q", b"\x05\x07\x07\x02\x00\x02\x01");
+    show(b"nu x. p & AX x", b"\x0a\x06\x02\x00\x07\x04\x00");
+    show(b"AX EX AX p", b"\x07\x08\x07\x02\x00");
+}
+
 fn main() {
     lengths();
     binders();
     propositions();
     forms();
+    nestings();
 }

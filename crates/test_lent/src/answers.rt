@@ -4,6 +4,7 @@ use desk_moves::StepAnswer;
 use desk_questions::ElementAnswer;
 use desk_questions::JudgeAnswer;
 use desk_questions::ShareAnswer;
+use desk_questions::ValueAnswer;
 use test_printing::say;
 
 pub fn say_open(a: OpenAnswer) {
@@ -26,6 +27,16 @@ pub fn say_element(a: ElementAnswer) {
     match a {
         ElementAnswer::Refused(r) => test_printing::refused(r),
         ElementAnswer::Is(e) => test_printing::byte(e.0),
+    }
+}
+
+pub fn say_value(a: ValueAnswer) {
+    match a {
+        ValueAnswer::Refused(r) => test_printing::refused(r),
+        ValueAnswer::Is(e, x) => {
+            test_printing::byte(e.0);
+            test_printing::facts(x.nesting, x.fixpoint, x.ex);
+        }
     }
 }
 

@@ -8,12 +8,14 @@ use answers::say_judge;
 use answers::say_open;
 use answers::say_share;
 use answers::say_step;
+use answers::say_value;
 use desk_check::Standing;
 use desk_moves::Opened;
 use desk_moves::Stepped;
 use desk_questions::ElementAnswer;
 use desk_questions::JudgeAnswer;
 use desk_questions::ShareAnswer;
+use desk_questions::ValueAnswer;
 use elements::Element;
 use libc::STDIN_FILENO;
 use model::State;
@@ -65,14 +67,7 @@ fn judge(mut s: Standing, store: &[u8], first: &[u8], second: &[u8], table: &[u8
     desk_lent::judge(&mut s, store, first, second, table)
 }
 
-fn whole(
-    mut s: Standing,
-    store: &[u8],
-    first: &[u8],
-    second: &[u8],
-    f: u8,
-    m: u8,
-) -> ElementAnswer {
+fn whole(mut s: Standing, store: &[u8], first: &[u8], second: &[u8], f: u8, m: u8) -> ValueAnswer {
     desk_lent::whole(&mut s, store, first, second, f, m)
 }
 
@@ -84,7 +79,7 @@ fn value(
     f: u8,
     m: u8,
     q: State,
-) -> ElementAnswer {
+) -> ValueAnswer {
     desk_lent::value(&mut s, store, first, second, f, m, q)
 }
 
@@ -126,9 +121,9 @@ fn stepped(s: Standing, store: &[u8], first: &mut [u8], second: &mut [u8]) -> St
 // The questions of a formula f and a model m: its value at state 1, and on the whole model.
 fn valued(s: Standing, f: u8, m: u8, store: &[u8], first: &[u8], second: &[u8]) {
     say(b"value");
-    say_element(value(s, store, first, second, f, m, State(1)));
+    say_value(value(s, store, first, second, f, m, State(1)));
     say(b", whole");
-    say_element(whole(s, store, first, second, f, m));
+    say_value(whole(s, store, first, second, f, m));
     say(b"\n");
 }
 

@@ -11,6 +11,7 @@ use Rattle.theory.specs.Part.{ModelShape}
 use Rattle.formula.specs.Bytes.{formulaReading}
 use Rattle.formula.specs.Check.{accepted-read}
 use Rattle.formula.specs.Answer.{checked}
+use Rattle.formula.specs.declared.FormulaFacts.{FormulaFacts}
 use Rattle.formula.specs.declared.FormulaCheck.{FormulaCheck}
 use Rattle.formula.specs.declared.FormulaCheck.the-variants.{Accepted}
 use Rattle.rounds.specs.Table.{Shaped}
@@ -48,5 +49,5 @@ full-shaped m₁ m₂ s f g e =
     }
 
 -- a part that the check accepts is read as a formula
-pub full-reads : (m f : List ℕ) (a : FormulaCheck) → Full m → a ≡ Accepted → a ≡ checked (formulaReading 16 f) → Reads m f
-full-reads m f a k e w = let r = accepted-read (formulaReading 16 f) (sym e ∙ w) in (r .0, rw (k .propositions) (r .1))
+pub full-reads : (m f : List ℕ) (a : FormulaCheck) (x : FormulaFacts) → Full m → a ≡ Accepted x → a ≡ checked (formulaReading 16 f) → Reads m f
+full-reads m f a x k e w = let r = accepted-read (formulaReading 16 f) x (sym e ∙ w) in (r .0, rw (k .propositions) (r .1))

@@ -67,7 +67,7 @@ fn show(name: &[u8], w: &Codes, l: Lattice, m: &[u8], f: &[u8])
     io::write_all(STDOUT_FILENO, name);
     let answer = formula::check(f, 16);
     match answer {
-        FormulaCheck::Accepted => show_value(w, l, m, f),
+        FormulaCheck::Accepted(_) => show_value(w, l, m, f),
         FormulaCheck::Refused => {
             io::write_all(STDOUT_FILENO, b"refused\n");
         }

@@ -36,6 +36,18 @@ pub fn refused(r: Refusal) {
     byte(refusal::part(r));
 }
 
+// The facts of a formula: the deepest nesting of AX, whether a fixpoint occurs and whether EX occurs.
+pub fn facts(nesting: u8, fixpoint: bool, ex: bool) {
+    item(b" (nesting ", nesting as u64);
+    if fixpoint {
+        say(b", fixpoint");
+    }
+    if ex {
+        say(b", EX");
+    }
+    say(b")");
+}
+
 // ---- reading
 
 // The byte at a place of a part, or 0 past its end.

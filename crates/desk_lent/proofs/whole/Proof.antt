@@ -9,11 +9,11 @@ use denote.Enum.Laws as LE
 use Rattle.desk.specs.Desk.{Call, Question}
 use Rattle.desk_check.specs.Read.{deskOf}
 use Rattle.desk_check.specs.Answer.{Does}
-use Rattle.desk_questions.specs.Answer.{elementReply}
+use Rattle.desk_questions.specs.Answer.{valueReply}
 use Rattle.desk_check.specs.declared.Standing.{Standing}
-use Rattle.desk_questions.specs.declared.ElementAnswer.{ElementAnswer}
-use Rattle.desk_questions.proofs.ElementAnswer as R-type
-use Rattle.desk_questions.proofs.ElementAnswer.Laws as R-laws
+use Rattle.desk_questions.specs.declared.ValueAnswer.{ValueAnswer}
+use Rattle.desk_questions.proofs.ValueAnswer as R-type
+use Rattle.desk_questions.proofs.ValueAnswer.Laws as R-laws
 use Rattle.desk_questions.proofs.whole as core
 use Rattle.desk_questions.proofs.whole.Symbol as core-def
 use Rattle.desk_questions.proofs.whole.Symbol.{name as #core}
@@ -73,19 +73,19 @@ module _ {M : Type 1} (𝓤 : URA M) (H : Heap 𝓤) (A : Atoms 𝓤) (W : Given
   to = ((κs′, (q1, (q2, (q3, tt))), tt, given′, passed), tt)
 
   -- what `desk_questions::whole` says of its result
-  abbrev Says : ElementAnswer → Type 0
-  Says r = Does (Call.Ask (Question.Whole x4 x5)) (deskOf h (x1 .now) (x2 .now) (x3 .now)) (elementReply r) (deskOf h (x1 .now) (x2 .now) (x3 .now))
+  abbrev Says : ValueAnswer → Type 0
+  Says r = Does (Call.Ask (Question.Whole x4 x5)) (deskOf h (x1 .now) (x2 .now) (x3 .now)) (valueReply r) (deskOf h (x1 .now) (x2 .now) (x3 .now))
 
-  said : (r : ElementAnswer) → ent 𝓤 (ensured 𝓤 H A core.ended (core.clauses 𝓤 H A at-mem run) κs′ given′ tt r) (fact 𝓤 (Says r))
+  said : (r : ValueAnswer) → ent 𝓤 (ensured 𝓤 H A core.ended (core.clauses 𝓤 H A at-mem run) κs′ given′ tt r) (fact 𝓤 (Says r))
   said r = exE 𝓤 _ (λ ws. snd∗ 𝓤 (sem 𝓤 H A (lasts core.ended κs′ given′ ws)) (fact 𝓤 (Says r)))
 
   asked : ent 𝓤 (onEntry 𝓤 H A core.signature κs′ (q1, (q2, (q3, tt))) given′ passed) (Core 𝓤 H A at-mem run .pre to)
   asked = qed W (CoreToks ∷ ‵ (owns (St ∷ Slice 0 κ1 ∷ Slice 1 κ2 ∷ Slice 2 κ3 ∷ u8 ∷ u8 ∷ []) given′ passed) ∷ []) ∵ join ! $ frame ! $ done !
 
-  res-typed : (r : ElementAnswer) (w : Val) → Is Res r (w ∷ []) → Holds (hasTy R-laws.mir w) × WT w
+  res-typed : (r : ValueAnswer) (w : Val) → Is Res r (w ∷ []) → Holds (hasTy R-laws.mir w) × WT w
   res-typed r w i = LE.lawful R-type.the-type R-laws.the-laws 𝓤 H A W tt .typed r _ i .0
 
-  exits : (r : ElementAnswer) (w : Val) → Says r
+  exits : (r : ValueAnswer) (w : Val) → Says r
       → ent 𝓤 (⋆ 𝓤 H A (‵ (Res .own r (w ∷ [])) ∷ seen x0 h ∷ borrowed κ0 x0 ∷ ‵ (flft κ0 q0) ∷ ‵ (flft κ1 q1) ∷ ‵ (flft κ2 q2) ∷ ‵ (flft κ3 q3) ∷ slice 1 κ1 x1 ∷ slice 2 κ2 x2 ∷ slice 3 κ3 x3 ∷ [])) (Post w)
   exits r w e =
       qed W (‵ (Res .own r (w ∷ [])) ∷ seen x0 h ∷ borrowed κ0 x0 ∷ ‵ (flft κ0 q0) ∷ ‵ (flft κ1 q1) ∷ ‵ (flft κ2 q2) ∷ ‵ (flft κ3 q3) ∷ slice 1 κ1 x1 ∷ slice 2 κ2 x2 ∷ slice 3 κ3 x3 ∷ []) ∵
@@ -122,7 +122,7 @@ module _ {M : Type 1} (𝓤 : URA M) (H : Heap 𝓤) (A : Atoms 𝓤) (W : Given
         move ! (3 ∷ 0 ∷ []) $ fjoin ! $ owned ! St (Is St) (standing-makes 𝓤 H A) h _ is $ fjoin ! $ nothing ! $ move ! (8 ∷ 0 ∷ []) $
         join ! $ move ! (8 ∷ 0 ∷ []) $ join ! $ move ! (8 ∷ 0 ∷ []) $ join ! $ use2 W (raw (Core 𝓤 H A at-mem run .pre to)) asked $
         calls-at ! fm (Core 𝓤 H A at-mem run) known to (and-then ! (load ! (from ! (stop !)) (look ! 7 refl)) (and-then ! (load ! (from ! (stop !)) (look ! 17 refl)) (and-then ! (load ! (from ! (stop !)) (look ! 15 refl)) (and-then ! (load ! (from ! (stop !)) (look ! 13 refl)) (and-then ! (load ! (from ! (stop !)) (look ! 11 refl)) (and-then ! (load ! (from ! (stop !)) (look ! 9 refl)) (no-more !))))))) (λ w.
-        use1 W (later (some (λ (r : ElementAnswer). (CoreToks ⊛ ‵ (Res .own r (w ∷ []))) ⊛ raw (ensured 𝓤 H A core.ended (core.clauses 𝓤 H A at-mem run) κs′ given′ tt r)))) (id⊢ 𝓤 _) $
+        use1 W (later (some (λ (r : ValueAnswer). (CoreToks ⊛ ‵ (Res .own r (w ∷ []))) ⊛ raw (ensured 𝓤 H A core.ended (core.clauses 𝓤 H A at-mem run) κs′ given′ tt r)))) (id⊢ 𝓤 _) $
         await ! tt $ pick ! (λ r.
         split ! $ move ! (1 ∷ []) $ use1 W (raw (fact 𝓤 (Says r))) (said r) $ heard ! (Says r) (λ e. split ! $ move ! (1 ∷ []) $
         peeks ! Res (Is Res) (shows 𝓤 H A Res) r (w ∷ []) (λ ir.

@@ -6,7 +6,8 @@ use Rattle.formula.proofs.check.Tie as tie
 
 returns : tie.Need-returns
 returns c =
-    used-up _ _ (c .before .before .before .before .before .before .if1 .taken) _ (told (c .before .before .before .before .before .node .ensures) (c .before .before .before .whole .given .1)) (c .if2 .taken)
+    let a = c .before in
+    used-up _ _ (a .before .before .before .before .before .before .if1 .taken) _ (told (a .before .before .before .before .before .node .ensures) (a .before .before .before .whole .given .1)) (a .if2 .taken)
 
 returns-2 : tie.Need-returns-2
 returns-2 c =

@@ -8,9 +8,9 @@ use Rattle.test_lent.proofs.Lending.{RattleType, owns, mem, Is, shows, 
 use denote.Struct.Laws as LL
 use denote.Enum.Laws as LE
 use Rattle.desk_check.specs.declared.Standing.{Standing}
-use Rattle.desk_questions.specs.declared.ElementAnswer.{ElementAnswer}
-use Rattle.desk_questions.proofs.ElementAnswer as R-type
-use Rattle.desk_questions.proofs.ElementAnswer.Laws as R-laws
+use Rattle.desk_questions.specs.declared.ValueAnswer.{ValueAnswer}
+use Rattle.desk_questions.proofs.ValueAnswer as R-type
+use Rattle.desk_questions.proofs.ValueAnswer.Laws as R-laws
 use Rattle.model.specs.declared.State.{State}
 use Rattle.model.proofs.State as State-type
 use Rattle.model.proofs.State.Laws as State-laws
@@ -74,7 +74,7 @@ module _ {M : Type 1} (𝓤 : URA M) (H : Heap 𝓤) (A : Atoms 𝓤) (W : Given
     asked : ent 𝓤 (onEntry 𝓤 H A core.signature (κs′ α) (fullShare, qs) given′ passed) (Core 𝓤 H A at-mem run .pre to)
     asked = qed W (CoreToks α ∷ ‵ (owns (MutRef (named 0) (α ∷ []) St ∷ Slice 1 κ0 ∷ Slice 2 κ1 ∷ Slice 3 κ2 ∷ u8 ∷ u8 ∷ State-type.the-row ∷ []) given′ passed) ∷ []) ∵ join ! $ frame ! $ done !
 
-  exits : (r : ElementAnswer) (w : Val)
+  exits : (r : ValueAnswer) (w : Val)
       → ent 𝓤 (⋆ 𝓤 H A (‵ (Res .own r (w ∷ [])) ∷ ‵ (flft κ0 q0) ∷ ‵ (flft κ1 q1) ∷ ‵ (flft κ2 q2) ∷ held 0 κ0 x1 ∷ held 1 κ1 x2 ∷ held 2 κ2 x3 ∷ [])) (Post w)
   exits r w =
       qed W (‵ (Res .own r (w ∷ [])) ∷ ‵ (flft κ0 q0) ∷ ‵ (flft κ1 q1) ∷ ‵ (flft κ2 q2) ∷ held 0 κ0 x1 ∷ held 1 κ1 x2 ∷ held 2 κ2 x3 ∷ []) ∵
@@ -111,7 +111,7 @@ module _ {M : Type 1} (𝓤 : URA M) (H : Heap 𝓤) (A : Atoms 𝓤) (W : Given
         move ! (7 ∷ 0 ∷ []) $ join ! $ move ! (7 ∷ 0 ∷ []) $ join ! $ move ! (7 ∷ 0 ∷ []) $ join ! $ move ! (6 ∷ 0 ∷ []) $ join ! $
         use2 W (raw (Core 𝓤 H A at-mem run .pre (to l8 α γ))) (asked l8 α γ) $
         calls-at ! fm (Core 𝓤 H A at-mem run) known (to l8 α γ) (and-then ! (load ! (from ! (stop !)) (look ! 5 refl)) (and-then ! (load ! (from ! (stop !)) (look ! 18 refl)) (and-then ! (load ! (from ! (stop !)) (look ! 16 refl)) (and-then ! (load ! (from ! (stop !)) (look ! 14 refl)) (and-then ! (load ! (from ! (stop !)) (look ! 12 refl)) (and-then ! (load ! (from ! (stop !)) (look ! 10 refl)) (and-then ! (load ! (from ! (stop !)) (look ! 8 refl)) (no-more !)))))))) (λ w.
-        use1 W (later (some (λ (r : ElementAnswer). (CoreToks α ⊛ ‵ (Res .own r (w ∷ []))) ⊛ raw (ensured 𝓤 H A core.ended (core.clauses 𝓤 H A at-mem run) (κs′ α) (given′ l8 α γ) tt r)))) (id⊢ 𝓤 _) $
+        use1 W (later (some (λ (r : ValueAnswer). (CoreToks α ⊛ ‵ (Res .own r (w ∷ []))) ⊛ raw (ensured 𝓤 H A core.ended (core.clauses 𝓤 H A at-mem run) (κs′ α) (given′ l8 α γ) tt r)))) (id⊢ 𝓤 _) $
         await ! tt $ pick ! (λ r.
         -- the lifetime is ended, and the standing is taken back
         split ! $ move ! (1 ∷ []) $

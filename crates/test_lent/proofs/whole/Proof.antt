@@ -7,9 +7,9 @@ use Rattle.test_lent.proofs.Lending.{look, init, forget, stop, from, lo
 use Rattle.test_lent.proofs.Lending.{RattleType, owns, mem, Is, shows, uint-makes, uint-vals, uint-tells, u8, RefT, MutRef, slice-vals, shr-slice-tells, ref-back, owned, peeks, nothing, onEntry, Args, Vals, Meets, tripleOf, Contract, Triple, calls-at, ensured, lasts, atExit, entered, cited, Stays, stay-none, stay-none-slice, walkOf, goes-none, goes-none-slice, Walks, ends-at, walked, walk-meets, yes}
 use denote.Enum.Laws as LE
 use Rattle.desk_check.specs.declared.Standing.{Standing}
-use Rattle.desk_questions.specs.declared.ElementAnswer.{ElementAnswer}
-use Rattle.desk_questions.proofs.ElementAnswer as R-type
-use Rattle.desk_questions.proofs.ElementAnswer.Laws as R-laws
+use Rattle.desk_questions.specs.declared.ValueAnswer.{ValueAnswer}
+use Rattle.desk_questions.proofs.ValueAnswer as R-type
+use Rattle.desk_questions.proofs.ValueAnswer.Laws as R-laws
 use Rattle.desk_lent.proofs.whole as core
 use Rattle.desk_lent.proofs.whole.Symbol as core-def
 use Rattle.desk_lent.proofs.whole.Symbol.{name as #core}
@@ -70,7 +70,7 @@ module _ {M : Type 1} (𝓤 : URA M) (H : Heap 𝓤) (A : Atoms 𝓤) (W : Given
     asked : ent 𝓤 (onEntry 𝓤 H A core.signature (κs′ α) (fullShare, qs) given′ passed) (Core 𝓤 H A at-mem run .pre to)
     asked = qed W (CoreToks α ∷ ‵ (owns (MutRef (named 0) (α ∷ []) St ∷ Slice 1 κ0 ∷ Slice 2 κ1 ∷ Slice 3 κ2 ∷ u8 ∷ u8 ∷ []) given′ passed) ∷ []) ∵ join ! $ frame ! $ done !
 
-  exits : (r : ElementAnswer) (w : Val)
+  exits : (r : ValueAnswer) (w : Val)
       → ent 𝓤 (⋆ 𝓤 H A (‵ (Res .own r (w ∷ [])) ∷ ‵ (flft κ0 q0) ∷ ‵ (flft κ1 q1) ∷ ‵ (flft κ2 q2) ∷ held 0 κ0 x1 ∷ held 1 κ1 x2 ∷ held 2 κ2 x3 ∷ [])) (Post w)
   exits r w =
       qed W (‵ (Res .own r (w ∷ [])) ∷ ‵ (flft κ0 q0) ∷ ‵ (flft κ1 q1) ∷ ‵ (flft κ2 q2) ∷ held 0 κ0 x1 ∷ held 1 κ1 x2 ∷ held 2 κ2 x3 ∷ []) ∵
@@ -103,7 +103,7 @@ module _ {M : Type 1} (𝓤 : URA M) (H : Heap 𝓤) (A : Atoms 𝓤) (W : Given
         move ! (7 ∷ 0 ∷ []) $ join ! $ move ! (7 ∷ 0 ∷ []) $ join ! $ move ! (7 ∷ 0 ∷ []) $ join ! $ move ! (6 ∷ 0 ∷ []) $ join ! $
         use2 W (raw (Core 𝓤 H A at-mem run .pre (to l7 α γ))) (asked l7 α γ) $
         calls-at ! fm (Core 𝓤 H A at-mem run) known (to l7 α γ) (and-then ! (load ! (from ! (stop !)) (look ! 5 refl)) (and-then ! (load ! (from ! (stop !)) (look ! 16 refl)) (and-then ! (load ! (from ! (stop !)) (look ! 14 refl)) (and-then ! (load ! (from ! (stop !)) (look ! 12 refl)) (and-then ! (load ! (from ! (stop !)) (look ! 10 refl)) (and-then ! (load ! (from ! (stop !)) (look ! 8 refl)) (no-more !))))))) (λ w.
-        use1 W (later (some (λ (r : ElementAnswer). (CoreToks α ⊛ ‵ (Res .own r (w ∷ []))) ⊛ raw (ensured 𝓤 H A core.ended (core.clauses 𝓤 H A at-mem run) (κs′ α) (given′ l7 α γ) tt r)))) (id⊢ 𝓤 _) $
+        use1 W (later (some (λ (r : ValueAnswer). (CoreToks α ⊛ ‵ (Res .own r (w ∷ []))) ⊛ raw (ensured 𝓤 H A core.ended (core.clauses 𝓤 H A at-mem run) (κs′ α) (given′ l7 α γ) tt r)))) (id⊢ 𝓤 _) $
         await ! tt $ pick ! (λ r.
         -- the lifetime is ended, and the standing is taken back
         split ! $ move ! (1 ∷ []) $

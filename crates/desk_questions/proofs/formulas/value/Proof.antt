@@ -46,12 +46,18 @@ value-of-requires c κs =
 returns-3 : tie.Need-returns-3
 returns-3 c = refused-call (Call.Ask (Question.Value (c .before .before .before .before .before .before .before .before .args .f) (c .before .before .before .before .before .before .before .before .args .m) (c .before .before .before .before .before .before .before .before .args .q .0))) (desk (c .before .before .before)) _ _ _ refl (c .before .before .before .examine .ensures) (c .before .x .given .1)
 
+facts-of-requires : tie.Need-facts-of-requires
+facts-of-requires c κs =
+    let z = c .before .before .before .before .before .before .before .before .before in
+    formula-on-model (held z) _ _ (sym (c .before .before .before .before .before .before .in-range .ensures) ∙ not-false _ (c .before .before .before .before .before .if1 .left))
+
 returns-4 : tie.Need-returns-4
 returns-4 c =
-    let z = c .before .before .before .before .before .before .before .before .before in
-    held-value (held z) _ _ _ _ (sym (c .before .before .before .before .before .before .in-range .ensures) ∙ not-false _ (c .before .before .before .before .before .if1 .left)) (sym (c .before .before .before .has-state .ensures) ∙ not-false _ (c .before .before .if2 .left)) (c .value-of .ensures)
+    let a = c .before in
+    let z = a .before .before .before .before .before .before .before .before .before in
+    held-value (held z) _ _ _ _ _ (sym (a .before .before .before .before .before .before .in-range .ensures) ∙ not-false _ (a .before .before .before .before .before .if1 .left)) (sym (a .before .before .before .has-state .ensures) ∙ not-false _ (a .before .before .if2 .left)) (a .value-of .ensures) (c .facts-of .ensures)
 
 pub value-spec : {M : Type 1} → statement M
 value-spec =
     tie.close (tie.spec (λ c κs. search needs) (λ c. search needs) (λ c. search needs) (λ c κs. search needs) returns
-    slice-aggregate-bytes has-state-requires returns-2 value-of-requires returns-3 returns-4)
+    slice-aggregate-bytes has-state-requires returns-2 value-of-requires facts-of-requires returns-3 returns-4)

@@ -36,12 +36,18 @@ whole-of-requires c κs =
 returns-2 : tie.Need-returns-2
 returns-2 c = refused-call (Call.Ask (Question.Whole (c .before .before .before .before .before .before .before .before .args .f) (c .before .before .before .before .before .before .before .before .args .m))) (desk (c .before .before .before)) _ _ _ refl (c .before .before .before .examine .ensures) (c .before .x .given .1)
 
+facts-of-requires : tie.Need-facts-of-requires
+facts-of-requires c κs =
+    let z = c .before .before .before .before .before .before .before in
+    formula-on-model (held z) _ _ (sym (c .before .before .before .before .in-range .ensures) ∙ not-false _ (c .before .before .before .if1 .left))
+
 returns-3 : tie.Need-returns-3
 returns-3 c =
-    let z = c .before .before .before .before .before .before .before in
-    held-whole (held z) _ _ _ (sym (c .before .before .before .before .in-range .ensures) ∙ not-false _ (c .before .before .before .if1 .left)) (c .whole-of .ensures)
+    let a = c .before in
+    let z = a .before .before .before .before .before .before .before in
+    held-whole (held z) _ _ _ _ (sym (a .before .before .before .before .in-range .ensures) ∙ not-false _ (a .before .before .before .if1 .left)) (a .whole-of .ensures) (c .facts-of .ensures)
 
 pub whole-spec : {M : Type 1} → statement M
 whole-spec =
     tie.close (tie.spec (λ c κs. search needs) (λ c. search needs) (λ c. search needs) (λ c κs. search needs) returns
-    slice-aggregate-bytes whole-of-requires returns-2 returns-3)
+    slice-aggregate-bytes whole-of-requires facts-of-requires returns-2 returns-3)
