@@ -10,11 +10,11 @@ use native.Mathlib.Omega.{arith}
 use borrow.Author.Tests.{eqb-true}
 use lib.Dec.{eqb}
 use lib.ListN.{length, getD}
-use Rattle.theory.specs.Formula.{Formula}
 use Rattle.theory.specs.Model.{Valued}
 use Rattle.theory.specs.Part.{opsOf, modelOf, ModelShape}
 use Rattle.elements.specs.Words.{opsIn}
 use Rattle.formula.specs.Bytes.{read, formulaReading}
+use Rattle.formula.specs.Answer.{IsFormula}
 use Rattle.casefile.specs.declared.Sizes.{Sizes}
 use Rattle.casefile.specs.Directory.{partCount, partAt}
 use Rattle.casefile.specs.Conditions.{Placed}
@@ -30,7 +30,7 @@ pub record FormulaOnModel (b : List ℕ) (f m : ℕ) : Type 0 where
   pub formula-in : 3 + f < partCount b
   pub few : partCount b ≤ 11
   pub shape : ModelShape (partAt b m)
-  pub reads : (φ : Formula) × (formulaReading (getD (partAt b m) 1 0) (partAt b (3 + f)) ≡ read φ)
+  pub reads : IsFormula (getD (partAt b m) 1 0) (partAt b (3 + f))
 
 -- part m of the case b is model m of its content c
 pub record ModelPart (b : List ℕ) (c : Content) (m : ℕ) : Type 0 where

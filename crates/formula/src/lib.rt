@@ -1,6 +1,6 @@
 // Formula parts: whether the rules of the formula are obeyed, and the facts of the formula, in one pass over the tokens (tokens).
 //   check: both of any part; facts: the facts of a part that is known to be a formula
-//   two, next_of, fixpoint_of: what is known of a formula, from what is known of the formulas directly within it
+//   two_of, next_of, fixpoint_of: what is known of a formula, from what is known of the formulas directly within it
 ghost use mathlib.Core.Path.{_≡_};
 ghost use Prim.Native.Nat.{max, _≤_, _<_};
 ghost use mathlib.Core.Bool.{true};
@@ -42,17 +42,24 @@ enum NodeEnd {
     Broken,
 }
 
+// The facts of a formula of one token.
+fn leaf_facts() -> FormulaFacts
+    ensures { λ r. ⌜ r ≡ leafFacts ⌝ }
+{
+    FormulaFacts {
+        nesting: 0,
+        fixpoint: false,
+        ex: false,
+    }
+}
+
 // A formula of one token.
 fn leaf(end: usize) -> NodeEnd
     ensures { λ r. ⌜ r ≡ endIf true end leafFacts ⌝ }
 {
     NodeEnd::At(NodeFacts {
         end: end,
-        facts: FormulaFacts {
-            nesting: 0,
-            fixpoint: false,
-            ex: false,
-        },
+        facts: leaf_facts(),
     })
 }
 
@@ -67,6 +74,7 @@ fn number_below(number: u8, limit: u8, end: usize) -> NodeEnd
     }
 }
 
+// The greater of two numbers.
 fn greater(a: u8, b: u8) -> u8
     ensures { λ r. ⌜ r ≡ max a b ⌝ }
 {
@@ -77,7 +85,7 @@ fn greater(a: u8, b: u8) -> u8
 }
 
 // Or and and, from the facts of the first formula within and from what is known of the second.
-fn two(first: FormulaFacts, second: NodeEnd) -> NodeEnd
+fn two_of(first: FormulaFacts, second: NodeEnd) -> NodeEnd
     ensures { λ r. ⌜ r ≡ mapFacts (twoFacts first) second ⌝ }
 {
     match second {
@@ -145,7 +153,7 @@ fn node(f: &[u8], at: usize, k: u8, depth: u8) -> NodeEnd
             match first {
                 NodeEnd::At(x) => {
                     let facts = x.facts;
-                    two(facts, node(f, x.end, k, depth))
+                    two_of(facts, node(f, x.end, k, depth))
                 }
                 NodeEnd::Broken => NodeEnd::Broken,
             }
@@ -192,10 +200,7 @@ pub fn facts(part: &[u8], k: u8) -> FormulaFacts
 {
     match check(part, k) {
         FormulaCheck::Accepted(facts) => facts,
-        FormulaCheck::Refused => FormulaFacts {
-            nesting: 0,
-            fixpoint: false,
-            ex: false,
-        },
+        // Not met.
+        FormulaCheck::Refused => leaf_facts(),
     }
 }

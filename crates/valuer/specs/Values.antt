@@ -1,4 +1,4 @@
--- What the valuer answers for a formula part. Rests on theory's Model, Part and Value, elements' Words, formula's Bytes.
+-- What the valuer answers for a formula part. Rests on theory's Model, Part and Value, elements' Words, formula's Bytes and Answer.
 --   ModelOver: words are a lattice's codes, and a part is a model over it
 --   Reads: the part is read as some formula
 --   fromInitial: the meet over all states of initial value → value
@@ -15,6 +15,7 @@ use Rattle.theory.specs.Part.{modelOf, ModelShape}
 use Rattle.elements.specs.Words.{opsIn, Coded}
 use Rattle.elements.specs.declared.Lattice.{Lattice}
 use Rattle.formula.specs.Bytes.{read, formulaReading}
+use Rattle.formula.specs.Answer.{IsFormula}
 
 -- w is the codes of a lattice with the numbers l, and m a model part over it: 'Every value is an element.'
 pub record ModelOver (w : List ℕ) (l : Lattice) (m : List ℕ) : Type 0 where
@@ -24,7 +25,7 @@ pub record ModelOver (w : List ℕ) (l : Lattice) (m : List ℕ) : Type 0 where
 
 -- the formula part f is accepted, beside a model part m, and read as some formula
 abbrev pub Reads : List ℕ → List ℕ → Type 0
-Reads m f = (φ : Formula) × (formulaReading (getD m 1 0) f ≡ read φ)
+Reads m f = IsFormula (getD m 1 0) f
 
 -- the meet over q of Q0(q) → x at q
 abbrev pub fromInitial : Ops ℕ → Model ℕ → (ℕ → ℕ) → ℕ

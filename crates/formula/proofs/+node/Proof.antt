@@ -17,7 +17,7 @@ use Rattle.formula.proofs.fixpoint_of.Reads as fixpoint-of-reads
 use Rattle.formula.proofs.leaf.Reads as leaf-reads
 use Rattle.formula.proofs.next_of.Reads as next-of-reads
 use Rattle.formula.proofs.number_below.Reads as number-below-reads
-use Rattle.formula.proofs.two.Reads as two-reads
+use Rattle.formula.proofs.two_of.Reads as two-of-reads
 use Rattle.formula_tokens.proofs.size.Reads as size-reads
 use Rattle.formula_tokens.proofs.token_at.Reads as token-at-reads
 use Rattle.formula.proofs.+node.{statement}
@@ -45,8 +45,8 @@ claims t = (
   number-below-reads.Learnt,
   node-below t,
   node.Post,
-  two-reads.Asked,
-  two-reads.Learnt,
+  two-of-reads.Asked,
+  two-of-reads.Learnt,
   next-of-reads.Asked,
   next-of-reads.Learnt,
   fixpoint-of-reads.Asked,
@@ -105,7 +105,7 @@ node-returns-4 t c = let s = c .before .before .before .before in rw (c .number-
 node-returns-5 : (t : ℕ) → node-lts.Need-returns-5 (claims t) (node-at t) node.Post
 node-returns-5 t c =
     let a = c .before .before .before .before in
-    rw (c .two .ensures)
+    rw (c .two-of .ensures)
     (at-two _ (stood t (a .before .before .before .before .before) _ (a .before .before .before .enum-told3 .given .1)) _ (told (a .before .before .node .ensures) (a .first .given .1)) (c .before .node2 .ensures))
 
 node-returns-6 : (t : ℕ) → node-lts.Need-returns-6 (claims t) (node-at t) node.Post

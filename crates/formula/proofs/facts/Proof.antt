@@ -14,10 +14,10 @@ returns c = record { is = accepted-facts _ _ (sym (c .before .facts .given .1) �
 -- the part is read as a formula, so that it is not refused
 returns-2 : tie.Need-returns-2
 returns-2 c =
-    let h = c .before .before .before .before .pre in
-    let e : refused ≡ read (h .0) = sym (refused-read _ (sym (c .enum-told .given .1) ∙ c .before .before .check .ensures)) ∙ h .1 in
+    let h = c .before .before .before .before .before .pre in
+    let e : refused ≡ read (h .0) = sym (refused-read _ (sym (c .before .enum-told .given .1) ∙ c .before .before .before .check .ensures)) ∙ h .1 in
     let z : _≡_ {A = ℕ} 0 1 = cc in
     absurd (omega arith)
 
 pub facts-spec : {M : Type 1} → statement M
-facts-spec = tie.close (tie.spec (λ c κs. search needs) (λ c. search needs) (λ c. search needs) returns returns-2)
+facts-spec = tie.close (tie.spec (λ c κs. search needs) (λ c. search needs) (λ c. search needs) (λ c κs. search needs) returns returns-2)
