@@ -298,30 +298,32 @@ fn fixpoints_of_known_value() {
         model.extend((0..5).map(|state| u8::from(state == to)));
     }
     // Each with its nested AX, and whether it has EX.
-    let formulas: [(&[u8], [u8; 5], (u8, bool)); 8] = [
+    let formulas: [(&[u8], [u8; 5], u8, bool); 8] = [
         // On some path, p again and again; on some path, p always from some state on.
         (
             &[10, 9, 5, 6, 2, 0, 8, 4, 1, 8, 4, 0],
             [1, 1, 0, 1, 1],
-            (0, true),
+            0,
+            true,
         ),
         (
             &[9, 10, 5, 6, 2, 0, 8, 4, 0, 8, 4, 1],
             [0, 0, 0, 1, 1],
-            (0, true),
+            0,
+            true,
         ),
         // p on all paths some time; p on all paths always.
-        (&[9, 5, 2, 0, 7, 4, 0], [1, 1, 0, 1, 1], (1, false)),
-        (&[10, 6, 2, 0, 7, 4, 0], [0, 0, 0, 0, 1], (1, false)),
-        (&[9, 7, 4, 0], [0; 5], (1, false)),
-        (&[10, 7, 4, 0], [1; 5], (1, false)),
-        (&[9, 10, 4, 1], [0; 5], (0, false)),
-        (&[9, 10, 4, 0], [1; 5], (0, false)),
+        (&[9, 5, 2, 0, 7, 4, 0], [1, 1, 0, 1, 1], 1, false),
+        (&[10, 6, 2, 0, 7, 4, 0], [0, 0, 0, 0, 1], 1, false),
+        (&[9, 7, 4, 0], [0; 5], 1, false),
+        (&[10, 7, 4, 0], [1; 5], 1, false),
+        (&[9, 10, 4, 1], [0; 5], 0, false),
+        (&[9, 10, 4, 0], [1; 5], 0, false),
     ];
     let mut parts = vec![L2, &model, &model];
     parts.extend(formulas.iter().map(|(formula, ..)| *formula));
     let desk = Desk::opened(&parts);
-    for (number, (_, values, (nesting, ex))) in (0..).zip(formulas) {
+    for (number, (_, values, nesting, ex)) in (0..).zip(formulas) {
         for (state, value) in (0..).zip(values) {
             let answer = desk.value(number, 2, state);
             let expected = valued(value, (nesting, true, ex));

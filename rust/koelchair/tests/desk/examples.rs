@@ -122,24 +122,24 @@ fn example_4_lent() {
     assert_eq!(lent.lent_mut().shared().score(), Ok(Element(1)));
 }
 
-/// Formulas over propositions 0 to 10, with their facts. Operands that are the codes of AX, EX and fixpoints are none.
-const FACTS: [(&[u8], (u8, bool, bool)); 8] = [
+/// Formulas over propositions 0 to 10: their nested AX, whether a fixpoint and whether EX occurs. Operands that are the codes of AX, EX and fixpoints are none.
+const FACTS: [(&[u8], u8, bool, bool); 8] = [
     // p & AX (q | AX p)
-    (&[6, 2, 0, 7, 5, 2, 1, 7, 2, 0], (2, false, false)),
+    (&[6, 2, 0, 7, 5, 2, 1, 7, 2, 0], 2, false, false),
     // AX EX AX p
-    (&[7, 8, 7, 2, 0], (2, false, true)),
+    (&[7, 8, 7, 2, 0], 2, false, true),
     // AX p | EX q
-    (&[5, 7, 2, 0, 8, 2, 1], (1, false, true)),
+    (&[5, 7, 2, 0, 8, 2, 1], 1, false, true),
     // nu z. p & AX z, which is not unrolled
-    (&[10, 6, 2, 0, 7, 4, 0], (1, true, false)),
+    (&[10, 6, 2, 0, 7, 4, 0], 1, true, false),
     // AX mu z. AX z
-    (&[7, 9, 7, 4, 0], (2, true, false)),
+    (&[7, 9, 7, 4, 0], 2, true, false),
     // mu z. nu y. z, and EX in another branch
-    (&[5, 9, 10, 4, 1, 8, 1], (0, true, true)),
+    (&[5, 9, 10, 4, 1, 8, 1], 0, true, true),
     // propositions 7 and 8, and the negated 9 and 10
-    (&[6, 5, 2, 7, 2, 8, 5, 3, 9, 3, 10], (0, false, false)),
+    (&[6, 5, 2, 7, 2, 8, 5, 3, 9, 3, 10], 0, false, false),
     // p
-    (&[2, 0], (0, false, false)),
+    (&[2, 0], 0, false, false),
 ];
 
 #[test]
@@ -147,10 +147,10 @@ fn facts_of_formulas() {
     let mut model = vec![1, 11];
     model.extend([1; 13]);
     let mut parts: Vec<&[u8]> = vec![&cases::L2, &model, &model];
-    parts.extend(FACTS.iter().map(|(formula, _)| *formula));
+    parts.extend(FACTS.iter().map(|(formula, ..)| *formula));
     let case = cases::case(&parts);
     let (desk, lent) = (Desk::open(&case).unwrap(), Lent::opened(&case));
-    for (f, (formula, (nesting, fixpoint, ex))) in (0..).zip(FACTS) {
+    for (f, (formula, nesting, fixpoint, ex)) in (0..).zip(FACTS) {
         let facts = FormulaFacts {
             nesting,
             fixpoint,
