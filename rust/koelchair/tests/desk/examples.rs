@@ -1,4 +1,5 @@
-//! Worked examples 1, 2, 4 and 6 of document 01 (the shares as of request 101) and its listing, by the desk that owns its buffers and by the one that is lent them.
+//! Worked examples 1, 2, 4 and 6 of document 01 (the shares as of request 101), its listing, and the facts of formulas, by the desk that
+//! owns its buffers and by the one that is lent them.
 
 use crate::cases::{self, Lent};
 use koelchair::{CoveredFrom, Desk, Element, FormulaFacts, Sizes, State, StepAnswer, Valued};
@@ -122,7 +123,7 @@ fn example_4_lent() {
     assert_eq!(lent.lent_mut().shared().score(), Ok(Element(1)));
 }
 
-/// Formulas over propositions 0 to 10: their nested AX, whether a fixpoint and whether EX occurs. Operands that are the codes of AX, EX and fixpoints are none.
+/// Formulas over propositions 0 to 10: their nested AX, whether a fixpoint and whether EX occurs.
 const FACTS: [(&[u8], u8, bool, bool); 8] = [
     // p & AX (q | AX p)
     (&[6, 2, 0, 7, 5, 2, 1, 7, 2, 0], 2, false, false),
@@ -136,7 +137,7 @@ const FACTS: [(&[u8], u8, bool, bool); 8] = [
     (&[7, 9, 7, 4, 0], 2, true, false),
     // mu z. nu y. z, and EX in another branch
     (&[5, 9, 10, 4, 1, 8, 1], 0, true, true),
-    // propositions 7 and 8, and the negated 9 and 10
+    // propositions 7 and 8, and the negated 9 and 10: operands, and no codes of AX, EX and fixpoints
     (&[6, 5, 2, 7, 2, 8, 5, 3, 9, 3, 10], 0, false, false),
     // p
     (&[2, 0], 0, false, false),
