@@ -1,10 +1,21 @@
-// The formulas with their values on both whole models and at each state.
+// The formulas with their values on both whole models and at each state, and whether the shown round covers them.
 
-// From which round on a formula is covered, in words.
+// From when on a table covers a formula, and what the formula has as it is written.
 function coveredFrom(formula) {
-  if (!formula.universal) return "never, it has EX";
-  if (formula.fixpoints) return "once settled, it has a fixpoint";
-  return `from round ${formula.nestedAx + 1} on, ${formula.nestedAx} nested AX`;
+  const from = formula.coveredFrom;
+  const words = from === null ? "never" : from === "settled" ? "once settled" : `from round ${from} on, or once settled`;
+  return `${words}: ${formula.written}`;
+}
+
+// For each formula whether the shown round covers it.
+const coveredMarks = data.formulas.map(() => make("span"));
+
+function showCovered() {
+  data.formulas.forEach((formula, f) => {
+    const [isCovered, why] = covered(formula);
+    coveredMarks[f].className = isCovered ? "covered" : "";
+    coveredMarks[f].textContent = why.split(":")[0];
+  });
 }
 
 function showFormulas() {
@@ -12,14 +23,15 @@ function showFormulas() {
     at("formulas").append(make("p", {}, "The case has no formulas."));
     return;
   }
-  const whole = data.formulas.map((formula) => [
+  const whole = data.formulas.map((formula, f) => [
     formula.name,
     make("code", {}, formula.text),
     chip(formula.whole[0]),
     chip(formula.whole[1]),
+    coveredMarks[f],
     coveredFrom(formula),
   ]);
-  const head = ["Name", "Formula", capital(modelName(0)), capital(modelName(1)), "Covered"];
+  const head = ["Name", "Formula", capital(modelName(0)), capital(modelName(1)), "Covered by this round?", "Covered"];
   const wholeTable = scrolling("formulas on the whole models", tableOf("On the whole models", [head, ...whole]));
   wholeTable.id = "whole";
   at("formulas").append(wholeTable);
