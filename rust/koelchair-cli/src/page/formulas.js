@@ -1,16 +1,23 @@
 // The formulas with their values on both whole models and at each state, and whether the shown round covers them.
 
-// From when on a table covers a formula, and what the formula has as it is written.
-function coveredFrom(formula) {
-  const from = formula.coveredFrom;
-  const words = from === null ? "never" : from === "settled" ? "once settled" : `from round ${from} on, or once settled`;
-  return `${words}: ${formula.written}`;
+// A formula as it is written, and below it what it has.
+function formulaText(formula) {
+  return make("div", {}, make("code", {}, formula.text), make("div", { class: "facts" }, formula.written));
 }
 
-// For each formula whether the shown round covers it.
+// From when on a table covers a formula, in words.
+function coveredFrom(formula) {
+  const from = formula.coveredFrom;
+  if (from === null) return "never";
+  return from === "settled" ? "once settled" : `from round ${from} on, or once settled`;
+}
+
+// For each formula whether the shown round covers it, below a heading with that round.
+const coveredHead = make("span");
 const coveredMarks = data.formulas.map(() => make("span"));
 
 function showCovered() {
+  coveredHead.textContent = `In round ${shownRound}`;
   data.formulas.forEach((formula, f) => {
     const [isCovered, why] = covered(formula);
     coveredMarks[f].className = isCovered ? "covered" : "";
@@ -25,13 +32,13 @@ function showFormulas() {
   }
   const whole = data.formulas.map((formula, f) => [
     formula.name,
-    make("code", {}, formula.text),
+    formulaText(formula),
     chip(formula.whole[0]),
     chip(formula.whole[1]),
     coveredMarks[f],
     coveredFrom(formula),
   ]);
-  const head = ["Name", "Formula", capital(modelName(0)), capital(modelName(1)), "Covered by this round?", "Covered"];
+  const head = ["Name", "Formula", capital(modelName(0)), capital(modelName(1)), coveredHead, "Covered"];
   const wholeTable = scrolling("formulas on the whole models", tableOf("On the whole models", [head, ...whole]));
   wholeTable.id = "whole";
   at("formulas").append(wholeTable);
