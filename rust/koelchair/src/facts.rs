@@ -29,14 +29,15 @@ pub struct FormulaFacts {
 pub enum CoveredFrom {
     /// From this round on, and in the settled table also where that is of an earlier round.
     Round(u32),
-    /// In the settled table alone.
+    /// In the settled table; of earlier ones it is not promised, since the formula has a fixpoint.
     Settled,
-    /// In no table: the formula has EX.
+    /// It is promised of no table, since the formula has EX.
     Never,
 }
 
 impl FormulaFacts {
-    /// Whether the shown table covers the formula; its round, and whether it is settled, are those of the standing.
+    /// Whether the shown table covers the formula, so that its entries bound the formula's values. Its round, and whether it is
+    /// settled, are those of the standing. Demand 3 promises it of a desk that only its calls moved on.
     pub fn covered_in(self, round: u32, settled: bool) -> bool {
         let fewer = !self.fixpoint && u32::from(self.nesting) < round;
         !self.ex && (settled || fewer)
