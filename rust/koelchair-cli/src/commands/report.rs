@@ -36,24 +36,31 @@ pub fn report(arguments: &[String], input: &mut dyn Read) -> Outcome {
     let shares = shares_of(&mut opened, &shares)?;
     let facts = opened.facts()?;
     let list = warnings(&opened.text, &opened.case, &facts);
-    let values = arguments.has("--values");
-    let printed = match (arguments.has("--json"), arguments.has("--names")) {
-        (true, _) => json(&opened, &facts, &shares, values, &list)?,
-        (false, names) => {
-            let mut printed = match names {
-                true => named_listing(&opened, &facts)?,
-                false => koelchair::listing(&bytes),
-            };
-            if values {
-                printed.push_str(&values_text(&opened));
-            }
-            for (element, share) in shares {
-                let _ = writeln!(printed, "share {}: {share} %", opened.case.element(element));
-            }
-            printed
-        }
+    let printed = match arguments.has("--json") {
+        true => json(&opened, &facts, &shares, arguments.has("--values"), &list)?,
+        false => lines(&opened, &facts, &shares, &arguments)?,
     };
     Ok(Printed::new(printed).with_warnings(&opened.text, &list, &arguments))
+}
+
+/// The listing as text, by names if they are wanted, with the values and shares that are.
+fn lines(
+    opened: &Opened,
+    facts: &[FormulaFacts],
+    shares: &[(u8, u8)],
+    arguments: &Arguments,
+) -> Result<String, Failure> {
+    let mut lines = match arguments.has("--names") {
+        true => named_listing(opened, facts)?,
+        false => koelchair::listing(&opened.text.bytes),
+    };
+    if arguments.has("--values") {
+        lines.push_str(&values_text(opened));
+    }
+    for (element, share) in shares {
+        let _ = writeln!(lines, "share {}: {share} %", opened.case.element(*element));
+    }
+    Ok(lines)
 }
 
 /// The numbers of the library's listing.
