@@ -25,6 +25,7 @@ run() {
 {
     run "example 1" examples/c/example1.bytes
     run "example 4" examples/c/example4.bytes
+    run "examples/covered-from.case" examples/c/covered-from.bytes
     run "example 1 without its last byte" "$work/cut.bytes"
     run "no input" /dev/null
 } > "$work/output.txt"

@@ -1,5 +1,5 @@
-/* Reads a case from standard input, prints its listing, works its rounds to the end, and prints every answer: the table at each round,
-   the score, the share, and the formulas' values. A refusal is said in words, with its number and part.
+/* Reads a case from standard input, prints its listing, works its rounds to the end, and prints every answer: the table at each round and
+   which formulas it covers, the score, the share, and the formulas' values. A refusal is said in words, with its number and part.
 
    From the repository's root, after `rt staticlib exports`:
 
@@ -37,9 +37,41 @@ static void unless_refused(const char *call, koelchair_answer answer)
     exit(EXIT_FAILURE);
 }
 
+/* ---- formulas */
+
+/* A formula's value on a whole model; false where there is no such formula. */
+static bool formula_whole(const struct desk *d, uint8_t formula, uint8_t model, koelchair_answer *whole)
+{
+    *whole = koelchair_whole(LENT(d), formula, model);
+    if (whole->number != KOELCHAIR_REFUSED_OUT_OF_RANGE)
+        unless_refused("whole", *whole);
+    return whole->kind == KOELCHAIR_VALUED;
+}
+
+/* Whether the table shown covers a formula, by the facts that value and whole give: its entries then bound the formula's values. */
+static bool covered(const struct desk *d, koelchair_answer valued)
+{
+    bool fixpoint = valued.flag1, ex = valued.flag2;
+    return !ex && (d->standing.settled || (!fixpoint && valued.byte < d->standing.round));
+}
+
+static void print_covered(const struct desk *d)
+{
+    koelchair_answer whole;
+    printf("  covers formulas:");
+    bool none = true;
+    for (uint8_t formula = 0; formula_whole(d, formula, 1, &whole); formula++) {
+        if (!covered(d, whole))
+            continue;
+        printf(" %d", formula);
+        none = false;
+    }
+    printf("%s\n", none ? " none" : "");
+}
+
 /* ---- rounds */
 
-/* Prints the table that the desk shows, a line for each state of model 1. */
+/* Prints the table that the desk shows, a line for each state of model 1, and which formulas it covers. */
 static void print_table(const struct desk *d)
 {
     koelchair_shown shown = koelchair_show(LENT(d));
@@ -48,6 +80,7 @@ static void print_table(const struct desk *d)
     printf("round %lu is in the %s table:\n", (unsigned long)d->standing.round, shown.table == 2 ? "second" : "first");
     for (size_t i = 0; i < shown.length; i++)
         printf("%s%d%s", i % columns == 0 ? "    " : " ", table[i], i % columns == columns - 1 ? "\n" : "");
+    print_covered(d);
 }
 
 /* Works one row and prints the answer, and the table after the last row of a round. */
@@ -83,22 +116,32 @@ static void print_judged(const struct desk *d)
     printf("the table is a simulation: %s\n", says.value == 1 ? "yes" : "no");
 }
 
-/* Prints a formula's value on a model and at each of its states; false where there is no such formula. */
-static bool print_formula(const struct desk *d, uint8_t formula, uint8_t model)
+/* Prints what a formula is as it is written; false where there is no such formula. */
+static bool print_facts(const struct desk *d, uint8_t formula)
 {
-    koelchair_answer whole = koelchair_whole(LENT(d), formula, model);
-    if (whole.kind == KOELCHAIR_REFUSED && whole.number == KOELCHAIR_REFUSED_OUT_OF_RANGE)
+    koelchair_answer whole;
+    if (!formula_whole(d, formula, 1, &whole))
         return false;
-    unless_refused("whole", whole);
-    printf("formula %d on model %d: %lu; at its states:", formula, model, (unsigned long)whole.value);
+    printf("formula %d: %d nested AX, fixpoint: %s, EX: %s\n", formula, whole.byte, whole.flag1 ? "yes" : "no", whole.flag2 ? "yes" : "no");
+    return true;
+}
+
+/* Prints a formula's value on a model and at each of its states. */
+static void print_values(const struct desk *d, uint8_t formula, uint8_t model)
+{
+    koelchair_answer whole;
+    if (!formula_whole(d, formula, model, &whole))
+        return;
+    printf("  on model %d: %lu; at its states:", model, (unsigned long)whole.value);
     uint8_t states = model == 1 ? d->standing.states1 : d->standing.states2;
     for (uint8_t state = 0; state < states; state++) {
         koelchair_answer value = koelchair_value(LENT(d), formula, model, state);
         unless_refused("value", value);
         printf(" %lu", (unsigned long)value.value);
+        if (value.byte != whole.byte || value.flag1 != whole.flag1 || value.flag2 != whole.flag2)
+            printf(" with other facts than on the whole model");
     }
     printf("\n");
-    return true;
 }
 
 /* Prints what the desk holds, or why it is refused. */
@@ -141,7 +184,9 @@ int main(void)
         print_step(&d);
     print_score(&d);
     print_judged(&d);
-    for (uint8_t formula = 0; print_formula(&d, formula, 1); formula++)
-        print_formula(&d, formula, 2);
+    for (uint8_t formula = 0; print_facts(&d, formula); formula++) {
+        print_values(&d, formula, 1);
+        print_values(&d, formula, 2);
+    }
     return EXIT_SUCCESS;
 }

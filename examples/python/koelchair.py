@@ -7,12 +7,16 @@
     print("settled after", desk.settle(), "rounds, score", desk.score())
     for row in desk.rows():
         print(*row)
+    for formula in range(desk.sizes().formulas):
+        valued = desk.whole(formula, 1)
+        print("formula", formula, "is", valued.element, "and covered from", valued.facts.covered_from())
 
 `build.sh` makes the shared library libkoelchair.so, which stands beside this file, from the proved archive. This module passes
 arguments on and reads answers, and adds no rule of its own. How a case is laid out byte for byte is said in
 docs/SPECIFICATION.md. Elements, states and formulas are numbers from 0, models are 1 and 2.
 
     Desk(case)      a desk with an accepted case; its calls are methods
+    Valued          a formula's element with its Facts, which say from which round on a table covers the formula
     listing(case)   the whole result as text, without a desk
     Refused         the exception by which a call says that it is refused
     VERSION         the library's version
@@ -93,7 +97,7 @@ _FUNCTIONS = {
 _STRUCTS = {"standing": Standing, "answer": _Answer, "moved": _Moved, "shown": _Shown, "desk_sizes": _DeskSizes}
 
 # Kinds of answers, and what step calls its own.
-_REFUSED = 0
+_REFUSED, _VALUED = 0, 9
 _STEPS = {2: "row", 3: "round", 4: "settled"}
 
 
@@ -140,6 +144,31 @@ class Step(NamedTuple):
     round: Optional[int]
 
 
+class Facts(NamedTuple):
+    """A formula as it is written: the deepest nesting of AX, whether a fixpoint and whether EX occurs."""
+
+    nesting: int
+    fixpoint: bool
+    ex: bool
+
+    def covered_in(self, round, settled):
+        """Whether the shown table covers the formula; its round, and whether it is settled, are those of the standing."""
+        return not self.ex and (settled or (not self.fixpoint and self.nesting < round))
+
+    def covered_from(self):
+        """From when on a table covers the formula: a round, "settled", or None where no table does."""
+        if self.ex:
+            return None
+        return "settled" if self.fixpoint else self.nesting + 1
+
+
+class Valued(NamedTuple):
+    """What value and whole answer: the formula's element, and the facts that say which tables cover the formula."""
+
+    element: int
+    facts: Facts
+
+
 class Sizes(NamedTuple):
     """What a desk holds: elements of the lattice, propositions, states of models 1 and 2, formulas."""
 
@@ -151,9 +180,11 @@ class Sizes(NamedTuple):
 
 
 def _accepted(answer):
-    """The value of an answer; raises Refused."""
+    """The value of an answer, with the formula's facts where it has them; raises Refused."""
     if answer.kind == _REFUSED:
         raise Refused(answer.number, answer.part)
+    if answer.kind == _VALUED:
+        return Valued(answer.value, Facts(answer.byte, answer.flag1, answer.flag2))
     return answer.value
 
 
@@ -221,11 +252,11 @@ class Desk:
         return [list(table[i : i + columns]) for i in range(0, len(table), columns)]
 
     def value(self, formula, model, state):
-        """A formula's element at a state of model 1 or 2; refused with 13."""
+        """A formula's element at a state of model 1 or 2, and its facts, as a Valued; refused with 13."""
         return self._asked(_library.koelchair_value, _byte(formula), _byte(model), _byte(state))
 
     def whole(self, formula, model):
-        """A formula's element on the whole of model 1 or 2; refused with 13."""
+        """A formula's element on the whole of model 1 or 2, and its facts, as a Valued; refused with 13."""
         return self._asked(_library.koelchair_whole, _byte(formula), _byte(model))
 
     def score(self):

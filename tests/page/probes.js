@@ -23,6 +23,12 @@ window.probe = {
     return { whole: this.chips("whole"), values: { 1: this.chips("values1"), 2: this.chips("values2") } };
   },
 
+  // For the heading and each formula: its text with its facts, whether the shown round covers it, and from when on a table does.
+  covered() {
+    const rows = [...document.querySelectorAll("#whole tr")].map((row) => [...row.querySelectorAll("th, td")]);
+    return rows.map((row) => [row[1], row[4], row[5]].map((cell) => cell.innerText.trim()));
+  },
+
   pair() {
     const cells = [...document.querySelectorAll('.cell[aria-pressed="true"]')];
     return cells.flatMap((cell) => [cell.dataset.row, cell.dataset.column]);

@@ -1,4 +1,4 @@
-"""Tests of the Python module on worked examples 1 and 4 of examples/c, and on what it refuses. check.sh runs them."""
+"""Tests of the Python module on the cases of examples/c, and on what it refuses. check.sh runs them."""
 
 import pathlib
 import re
@@ -10,9 +10,18 @@ ROOT = pathlib.Path(__file__).resolve().parents[3]
 
 
 def example(number):
+    """The bytes of a worked example."""
+    return case(f"example{number}")
+
+
+def case(name):
     """The bytes of a case of examples/c."""
-    (file,) = (ROOT / "examples/c").glob(f"example{number}.*")
-    return file.read_bytes()
+    return (ROOT / "examples/c" / f"{name}.bytes").read_bytes()
+
+
+def valued(element, nesting, fixpoint=False, ex=False):
+    """What value and whole answer."""
+    return koelchair.Valued(element, koelchair.Facts(nesting, fixpoint, ex))
 
 
 class Examples(unittest.TestCase):
@@ -24,7 +33,7 @@ class Examples(unittest.TestCase):
         self.assertEqual(desk.step(), koelchair.Step("settled", 2))
         self.assertEqual(desk.step(), koelchair.Step("settled", 2))
         self.assertEqual((desk.rows(), desk.score()), ([[1]], 1))
-        self.assertEqual((desk.value(0, 1, 0), desk.whole(0, 2)), (1, 1))
+        self.assertEqual((desk.value(0, 1, 0), desk.whole(0, 2)), (valued(1, 0), valued(1, 0)))
         self.assertEqual((desk.share(1), desk.share(2)), (100, 0))
         self.assertEqual((desk.judge(desk.show()), desk.judge([2])), (True, False))
 
@@ -38,7 +47,27 @@ class Examples(unittest.TestCase):
         self.assertEqual(desk.settle(), 3)
         self.assertEqual(desk.show(), bytes(4))
         self.assertEqual((desk.standing.settled, standing.settled), (True, False))
-        self.assertEqual((desk.whole(0, 1), desk.whole(0, 2)), (0, 1))
+        self.assertEqual((desk.whole(0, 1), desk.whole(0, 2)), (valued(0, 1), valued(1, 1)))
+
+    def test_facts_of_formulas(self):
+        # p & !q; AX !q; p & AX (q | AX p); AG p; AX EX AX p
+        desk = koelchair.Desk(case("covered-from"))
+        expected = [(0, False, False), (1, False, False), (2, False, False), (1, True, False), (2, False, True)]
+        self.assertEqual([desk.whole(f, 1).facts for f in range(5)], expected)
+        self.assertEqual([desk.value(f, 2, 0).facts for f in range(5)], expected)
+        self.assertEqual((desk.value(2, 1, 0), desk.value(2, 2, 0)), (valued(0, 2), valued(1, 2)))
+
+    def test_which_rounds_cover_a_formula(self):
+        desk = koelchair.Desk(case("covered-from"))
+        facts = [desk.whole(f, 1).facts for f in range(5)]
+        self.assertEqual([f.covered_from() for f in facts], [1, 2, 3, "settled", None])
+        covered = []
+        while not desk.standing.settled:
+            covered.append([i for i, f in enumerate(facts) if f.covered_in(desk.standing.round, False)])
+            while desk.step().kind == "row":
+                pass
+        self.assertEqual(covered, [[], [0], [0, 1], [0, 1, 2]])
+        self.assertEqual([f.covered_in(desk.standing.round, True) for f in facts], [True, True, True, True, False])
 
     def test_another_case_replaces_the_former(self):
         desk = koelchair.Desk(example(4))

@@ -56,6 +56,9 @@ impl Pair<'_> {
             return Err(self.difference(&call, &proved, &second));
         }
         self.counts.call(&call, &proved, &before);
+        if let (Some(formula), Reply::Valued { facts, .. }) = (formula(&call), &proved) {
+            self.counts.formula(self.proved.formula(formula), facts);
+        }
         self.place += 1;
         Ok(proved)
     }
@@ -82,6 +85,14 @@ fn first_difference(name: &str, proved: &[u8], second: &[u8]) -> String {
     match proved.iter().zip(second).position(|(a, b)| a != b) {
         Some(at) => format!("; {name} byte {at}: {} and {}", proved[at], second[at]),
         None => String::new(),
+    }
+}
+
+/// The formula that a call asks for.
+fn formula(call: &Call) -> Option<u8> {
+    match *call {
+        Call::Value { formula, .. } | Call::Whole { formula, .. } => Some(formula),
+        _ => None,
     }
 }
 

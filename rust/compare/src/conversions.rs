@@ -1,7 +1,7 @@
 //! What the proved library takes and gives, in the types of the second implementation: standings both ways, and answers.
 
-use koelchair::{Element, Refusal, StepAnswer};
-use second::Reply;
+use koelchair::{Element, FormulaFacts, Refusal, StepAnswer, Valued};
+use second::{Facts, Reply};
 
 /// The standing for the second implementation.
 pub fn to_second(standing: koelchair::Standing) -> second::Standing {
@@ -71,6 +71,26 @@ pub fn stepped(answer: Result<StepAnswer, Refusal>) -> Reply {
 
 pub fn shown(answer: &[u8]) -> Reply {
     Reply::Shown(answer.to_vec())
+}
+
+pub fn valued(answer: Result<Valued, Refusal>) -> Reply {
+    reply(answer, |Valued { element, facts }| Reply::Valued {
+        element: element.0,
+        facts: to_second_facts(facts),
+    })
+}
+
+fn to_second_facts(facts: FormulaFacts) -> Facts {
+    let FormulaFacts {
+        nesting,
+        fixpoint,
+        ex,
+    } = facts;
+    Facts {
+        nesting,
+        fixpoint,
+        ex,
+    }
 }
 
 pub fn element(answer: Result<Element, Refusal>) -> Reply {

@@ -1,8 +1,9 @@
-//! How often each refusal and each answer was met. Rests on calls.
+//! How often each refusal, each answer and each fact of a formula was met. Rests on calls and shapes.
 
 use crate::calls::Call;
+use crate::shapes::{self, SHAPES};
 use koelchair::Standing;
-use second::Reply;
+use second::{Facts, Reply};
 
 const REFUSALS: [&str; 13] = [
     "refusal 1",
@@ -19,7 +20,7 @@ const REFUSALS: [&str; 13] = [
     "refusal 12",
     "refusal 13",
 ];
-const ANSWERS: [&str; 10] = [
+const ANSWERS: [&str; 11] = [
     "Opened",
     "Row",
     "Round",
@@ -27,10 +28,19 @@ const ANSWERS: [&str; 10] = [
     "Shown",
     "Shown empty",
     "Element",
+    "Valued",
     "PerCent",
     "Says yes",
     "Says no",
 ];
+const NO_AX: &str = "value or whole of a formula without AX";
+const ONE_AX: &str = "value or whole of a formula with AX, none nested";
+const NESTED_AX: &str = "value or whole of a formula with nested AX";
+const FIXPOINT: &str = "value or whole of a formula with a fixpoint";
+const NO_FIXPOINT: &str = "value or whole of a formula without a fixpoint";
+const EX: &str = "value or whole of a formula with EX";
+const NO_EX: &str = "value or whole of a formula without EX";
+const FACTS: [&str; 7] = [NO_AX, ONE_AX, NESTED_AX, FIXPOINT, NO_FIXPOINT, EX, NO_EX];
 const SETTLED_EARLY: &str = "desk settled at round 1 or 2";
 const SETTLED_LATE: &str = "desk settled at a later round";
 const SETTLED_AGAIN: &str = "settled desk stepped again";
@@ -54,7 +64,8 @@ pub struct Counts {
 
 impl Default for Counts {
     fn default() -> Counts {
-        let names = REFUSALS.iter().chain(&ANSWERS).chain(&OTHERS);
+        let answers = REFUSALS.iter().chain(&ANSWERS);
+        let names = answers.chain(&FACTS).chain(&SHAPES).chain(&OTHERS);
         Counts {
             met: names.map(|&name| (name, 0)).collect(),
         }
@@ -71,10 +82,27 @@ fn name(reply: &Reply) -> &'static str {
         Reply::Shown(bytes) if bytes.is_empty() => "Shown empty",
         Reply::Shown(_) => "Shown",
         Reply::Element(_) => "Element",
+        Reply::Valued { .. } => "Valued",
         Reply::PerCent(_) => "PerCent",
         Reply::Says(true) => "Says yes",
         Reply::Says(false) => "Says no",
     }
+}
+
+/// What a formula's facts are counted as.
+fn facts(facts: &Facts) -> [&'static str; 3] {
+    let nesting = match facts.nesting {
+        0 => NO_AX,
+        1 => ONE_AX,
+        _ => NESTED_AX,
+    };
+    let fixpoint = if facts.fixpoint {
+        FIXPOINT
+    } else {
+        NO_FIXPOINT
+    };
+    let ex = if facts.ex { EX } else { NO_EX };
+    [nesting, fixpoint, ex]
 }
 
 fn settled(round: u32, before: bool) -> &'static str {
@@ -102,6 +130,13 @@ impl Counts {
         if matches!(call, Call::FinishRound) && finished {
             let half = before.row > 0;
             self.add(if half { FINISHED_HALF } else { FINISHED }, 1);
+        }
+    }
+
+    /// Counts the facts of a formula that was valued, and the shapes of its part.
+    pub fn formula(&mut self, part: &[u8], met: &Facts) {
+        for name in facts(met).into_iter().chain(shapes::of(part)) {
+            self.add(name, 1);
         }
     }
 

@@ -48,6 +48,16 @@ impl Desk {
         }
     }
 
+    /// A formula's part in the store, by the directory there; the desk has such a formula.
+    pub fn formula(&self, number: u8) -> &[u8] {
+        let pair = 1 + 4 * (3 + usize::from(number));
+        let u16_at = |place: usize| {
+            let bytes = [self.store[place], self.store[place + 1]];
+            usize::from(u16::from_le_bytes(bytes))
+        };
+        &self.store[u16_at(pair)..][..u16_at(pair + 2)]
+    }
+
     /// One table or the other.
     pub fn table(&mut self, second: bool) -> &mut Vec<u8> {
         if second {

@@ -4,6 +4,8 @@ use crate::generator::Random;
 
 const PROPOSITION: u8 = 2;
 const VARIABLE: u8 = 4;
+const AX: u8 = 7;
+const EX: u8 = 8;
 const MOST_BINDERS: usize = 3;
 
 /// A formula of exactly `length` bytes over k propositions, inside `binders` binders, with at most `more` binders nested in it.
@@ -102,10 +104,50 @@ fn alternating(random: &mut Random, k: usize) -> Vec<u8> {
     formula
 }
 
+/// A formula of `length` bytes in which many AX stand one within another, with EX, fixpoints and short sides of or and and between them.
+fn nested(random: &mut Random, length: usize, k: usize, binders: usize) -> Vec<u8> {
+    if length < 6 {
+        return exact(random, length, k, binders, 0);
+    }
+    match random.below(10) {
+        0 => [vec![EX], nested(random, length - 1, k, binders)].concat(),
+        1 if binders < MOST_BINDERS => {
+            let fixpoint = vec![random.between(9, 10) as u8];
+            [fixpoint, nested(random, length - 1, k, binders + 1)].concat()
+        }
+        2..=3 => {
+            let length_beside = random.between(1, 3);
+            let beside = exact(random, length_beside, k, binders, 0);
+            let deep = nested(random, length - 1 - length_beside, k, binders);
+            let either = vec![random.between(5, 6) as u8];
+            match random.one_in(2) {
+                true => [either, beside, deep].concat(),
+                false => [either, deep, beside].concat(),
+            }
+        }
+        _ => [vec![AX], nested(random, length - 1, k, binders)].concat(),
+    }
+}
+
+/// Such a formula of at most `longest` bytes, or as many AX as these allow.
+fn nested_up_to(random: &mut Random, k: usize, longest: usize) -> Vec<u8> {
+    match random.below(3) {
+        0 => [vec![AX; longest - 1], vec![random.below(2) as u8]].concat(),
+        1 => nested(random, longest, k, 0),
+        _ => {
+            let length = random.between(6, longest);
+            nested(random, length, k, 0)
+        }
+    }
+}
+
 /// A closed formula of at most `longest` bytes, 20 or more.
 pub fn random(random: &mut Random, k: usize, longest: usize) -> Vec<u8> {
     if random.one_in(8) {
         return alternating(random, k);
+    }
+    if random.one_in(12) {
+        return nested_up_to(random, k, longest);
     }
     if random.one_in(2) {
         let formula = fixpoint(random, k, 0);

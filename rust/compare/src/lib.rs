@@ -4,6 +4,7 @@
 //!
 //! - generator: numbers from a seed
 //! - lattices, non_lattices, models, formulas: the parts of a case, within the rules and not
+//! - shapes: what is looked for in a formula that was valued
 //! - cases, damage: whole cases, within the rules, and aimed at the refusals 1 to 10
 //! - desks, alterations: desks of any content, and desks altered from outside
 //! - conversions: standings and answers of the one implementation in the types of the other, which the benchmark takes too
@@ -28,3 +29,4 @@ pub mod lattices;
 pub mod lists;
 pub mod models;
 pub mod non_lattices;
+pub mod shapes;

@@ -119,31 +119,6 @@ impl Formula {
         }
     }
 
-    /// Whether no EX occurs.
-    pub fn universal(&self) -> bool {
-        let some = match self {
-            Formula::SomeNext(_) => true,
-            Formula::Ways(ways, _) => !ways.all(),
-            _ => false,
-        };
-        !some && self.within().iter().all(|f| f.universal())
-    }
-
-    /// The most AX that stand one within another.
-    pub fn nested_ax(&self) -> usize {
-        let inner = self
-            .within()
-            .iter()
-            .map(|f| f.nested_ax())
-            .max()
-            .unwrap_or(0);
-        match self {
-            Formula::AllNext(_) => inner + 1,
-            Formula::Ways(ways, _) if ways.all() => inner.max(1),
-            _ => inner,
-        }
-    }
-
     /// The most binders that stand one within another.
     pub fn nested_binders(&self) -> usize {
         let inner = self

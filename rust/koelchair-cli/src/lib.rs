@@ -1,7 +1,7 @@
 //! The tool `koelchair`: a readable text form of a case (docs/TEXT-FORM.md), its bytes, and what the proved desk says of it.
 //!
-//! Entries, values, T, score, share and the listing come from the crate `koelchair`, that is from the proved library. The tool's
-//! own are the text form, the bytes of a case, warnings about a drawing (`warnings`), and the parts of an entry that `explain`
+//! Entries, values, facts of formulas, T, score, share and the listing come from the crate `koelchair`, that is from the proved library.
+//! The tool's own are the text form, the bytes of a case, warnings about a drawing (`warnings`), and the parts of an entry that `explain`
 //! and `why` show (`tables`, `reasons`), which are checked to meet to the library's entry.
 #![forbid(unsafe_code)]
 #![deny(missing_docs)]
@@ -13,6 +13,7 @@ pub mod decode;
 pub mod encode;
 pub mod encoding;
 pub mod errors;
+pub mod facts;
 pub mod formula;
 pub mod formula_print;
 pub mod formula_text;

@@ -40,7 +40,7 @@ pub fn page(arguments: &[String], input: &mut dyn Read) -> Outcome {
     let arguments = Arguments::read(arguments, &flags, &["--course"])?;
     let [file] = arguments.exactly(["FILE"])?;
     let opened = open(read_text(file, &arguments, input)?)?;
-    let list = warnings(&opened.text, &opened.case);
+    let list = warnings(&opened.text, &opened.case, &opened.facts()?);
     let surroundings = Surroundings {
         warnings: &list,
         ..Surroundings::default()

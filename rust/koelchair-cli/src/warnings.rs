@@ -1,11 +1,12 @@
 //! Warnings about a case that the desk accepts: what a drawing has or has not that is seldom meant. They are this tool's own and
-//! change nothing that the library says.
+//! change nothing that the library says. Whether a formula has EX is said by the library.
 
 use crate::case::Case;
 use crate::errors::{marked_line, Span, MOST_ERRORS};
 use crate::json::{object, string};
 use crate::model::Model;
 use crate::parse::Text;
+use koelchair::{CoveredFrom, FormulaFacts};
 
 /// Something that is seldom meant.
 #[derive(Clone, Debug, PartialEq, Eq)]
@@ -30,11 +31,13 @@ pub const NO_INITIAL: &str = "no-initial-state";
 /// Whose models they are.
 const OWNERS: [&str; 2] = ["student", "course"];
 
-/// All warnings about a text's case. Of a course's file alone, those about model 2.
-pub fn warnings(text: &Text, case: &Case) -> Vec<Warning> {
+/// All warnings about a text's case, whose formulas have these facts; without facts none about formulas. Of a course's file alone, those
+/// about model 2.
+pub fn warnings(text: &Text, case: &Case, facts: &[FormulaFacts]) -> Vec<Warning> {
     let drawing = Drawing { text, case };
-    let formulas = (0..case.formulas.len()).filter_map(|f| drawing.formula(f));
-    let mut list: Vec<Warning> = formulas.collect();
+    let formulas = facts.iter().enumerate();
+    let never = formulas.filter(|(_, facts)| facts.covered_from() == CoveredFrom::Never);
+    let mut list: Vec<Warning> = never.map(|(f, _)| drawing.not_covered(f)).collect();
     // In a lattice of one element everything is top and bottom at once.
     if case.lattice.size() > 1 {
         let first = usize::from(text.course_alone);
@@ -162,19 +165,19 @@ impl Drawing<'_> {
         })
     }
 
-    fn formula(&self, f: usize) -> Option<Warning> {
-        let named = &self.case.formulas[f];
-        (!named.formula.universal()).then(|| Warning {
+    /// A formula that no round covers.
+    fn not_covered(&self, f: usize) -> Warning {
+        let name = &self.case.formulas[f].name;
+        Warning {
             kind: "not-covered",
             model: None,
             message: format!(
-                "no round covers the formula `{}`, since it says that something is possible (EX, EF or EG)",
-                named.name
+                "no round covers the formula `{name}`, since it says that something is possible (EX, EF or EG)"
             ),
-            short: format!("no round covers `{}`", named.name),
+            short: format!("no round covers `{name}`"),
             span: self.text.places.parts.get(3 + f).copied(),
             note: "the table and the score say nothing of it; its values do".to_string(),
-        })
+        }
     }
 }
 

@@ -53,7 +53,8 @@ fn usage_error(arguments: &[&str], message: &str) {
 
 #[test]
 fn wrong_commands_are_said() {
-    let example = examples()[0].display().to_string();
+    let example = folder("../../examples/error-compared-with-itself.case");
+    let example = example.display().to_string();
     usage_error(&[], "expected a sub-command");
     usage_error(&["chek"], "`chek` is no sub-command; did you mean `check`?");
     usage_error(&["frobnicate"], "`frobnicate` is no sub-command");

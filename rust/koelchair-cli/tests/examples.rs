@@ -70,7 +70,7 @@ fn every_example_gets_its_listing_from_report() {
 }
 
 /// Other commands whose output stands beside an example.
-const OTHERS: [(&str, &[&str], &[&str]); 23] = [
+const OTHERS: [(&str, &[&str], &[&str]); 24] = [
     (
         "label-one-field-after-the-other.names",
         &["report", "--names", "--values"],
@@ -98,6 +98,7 @@ const OTHERS: [(&str, &[&str], &[&str]); 23] = [
         &[],
     ),
     ("form-order.explain", &["explain"], &["old", "old"]),
+    ("covered-from.names", &["report", "--names"], &[]),
     ("error-half-worked-table.check", &["check"], &[]),
     ("error-half-worked-table.step", &["step"], &[]),
     ("example-4-round-1.step", &["step"], &[]),

@@ -129,7 +129,7 @@ fn value_in_1_to_value_in_2_is_no_bound() {
         let (case, desk, _) = settled(name);
         let operations = operations(&case);
         let [first, second] =
-            [1, 2].map(|model| desk.value(0, model, State(0)).expect("a value").0);
+            [1, 2].map(|model| desk.value(0, model, State(0)).expect("a value").element.0);
         let entry = desk.show()[0];
         assert!(
             operations.at_most(entry, operations.implies(second, first)),
@@ -150,7 +150,7 @@ fn propositions_compared_one_way_lose_negated_ones() {
     let one_way = operations.implies(second, first);
     assert_ne!(one_way, desk.show()[0]);
     let [negated1, negated2] =
-        [1, 2].map(|model| desk.value(1, model, State(0)).expect("a value").0);
+        [1, 2].map(|model| desk.value(1, model, State(0)).expect("a value").element.0);
     assert!(
         !operations.at_most(one_way, operations.implies(negated2, negated1)),
         "!flashing is not bounded by it"
@@ -170,7 +170,7 @@ fn ax_without_middle_transitions_is_another_value() {
             )
         })
     };
-    let library = desk.value(0, 1, State(0)).expect("a value").0;
+    let library = desk.value(0, 1, State(0)).expect("a value").element.0;
     assert_eq!(value(false), library);
     assert_ne!(value(true), library);
 }

@@ -1,6 +1,6 @@
 //! What the calls answer, and how it is read from the numbers that the archive gives.
 
-use crate::{raw, Refusal};
+use crate::{raw, FormulaFacts, Refusal, Valued};
 use std::fmt;
 
 /// A number of an element of the lattice.
@@ -75,12 +75,28 @@ pub(crate) fn stepped(answer: raw::Answer) -> Result<StepAnswer, Refusal> {
     }
 }
 
-/// The answer of value, whole and score.
+/// The answer of value and whole.
+pub(crate) fn valued(answer: raw::Answer) -> Result<Valued, Refusal> {
+    match (answer.kind, u8::try_from(answer.value)) {
+        (0, _) => Err(Refusal::read(answer.number, answer.part)),
+        (9, Ok(value)) => Ok(Valued {
+            element: Element(value),
+            facts: FormulaFacts {
+                nesting: answer.byte,
+                fixpoint: answer.flag1,
+                ex: answer.flag2,
+            },
+        }),
+        _ => impossible("value or whole", answer),
+    }
+}
+
+/// The answer of score.
 pub(crate) fn element(answer: raw::Answer) -> Result<Element, Refusal> {
     match (answer.kind, u8::try_from(answer.value)) {
         (0, _) => Err(Refusal::read(answer.number, answer.part)),
         (5, Ok(value)) => Ok(Element(value)),
-        _ => impossible("value, whole or score", answer),
+        _ => impossible("score", answer),
     }
 }
 
@@ -148,6 +164,28 @@ mod tests {
         assert_eq!(says(given(7, 1)), Ok(true));
     }
 
+    /// The facts by their fields: a number that is not 0, and each flag without the other.
+    #[test]
+    fn facts_are_read() {
+        for (byte, flag1, flag2) in [(0, false, false), (254, true, false), (2, false, true)] {
+            let answer = raw::Answer {
+                byte,
+                flag1,
+                flag2,
+                ..given(9, 63)
+            };
+            let expected = Valued {
+                element: Element(63),
+                facts: FormulaFacts {
+                    nesting: byte,
+                    fixpoint: flag1,
+                    ex: flag2,
+                },
+            };
+            assert_eq!(valued(answer), Ok(expected));
+        }
+    }
+
     #[test]
     fn refusals_are_read() {
         let refused = raw::Answer {
@@ -157,6 +195,7 @@ mod tests {
         };
         assert_eq!(opened(refused), Err(Refusal::BadModel(2)));
         assert_eq!(stepped(refused), Err(Refusal::BadModel(2)));
+        assert_eq!(valued(refused), Err(Refusal::BadModel(2)));
         assert_eq!(element(refused), Err(Refusal::BadModel(2)));
         assert_eq!(per_cent(refused), Err(Refusal::BadModel(2)));
         assert_eq!(says(refused), Err(Refusal::BadModel(2)));
@@ -178,5 +217,23 @@ mod tests {
     #[should_panic(expected = "which it has not")]
     fn no_element_is_over_a_byte() {
         let _ = element(given(5, 256));
+    }
+
+    #[test]
+    #[should_panic(expected = "which it has not")]
+    fn no_value_is_over_a_byte() {
+        let _ = valued(given(9, 256));
+    }
+
+    #[test]
+    #[should_panic(expected = "which it has not")]
+    fn an_element_alone_is_no_value() {
+        let _ = valued(given(5, 1));
+    }
+
+    #[test]
+    #[should_panic(expected = "which it has not")]
+    fn a_score_has_no_facts() {
+        let _ = element(given(9, 1));
     }
 }

@@ -1,6 +1,6 @@
 //! A desk that owns its standing, its store and both tables.
 
-use crate::{DeskMut, DeskRef, Element, Refusal, Sizes, Standing, State, StepAnswer};
+use crate::{DeskMut, DeskRef, Element, Refusal, Sizes, Standing, State, StepAnswer, Valued};
 use crate::{STORE_LENGTH, TABLE_LENGTH};
 use std::fmt;
 
@@ -65,17 +65,18 @@ impl Desk {
         self.lent().show()
     }
 
-    /// A formula's element at a state of model 1 or 2. Formulas are numbered from 0.
+    /// A formula's element at a state of model 1 or 2, and the facts that say which tables cover the formula. Formulas are
+    /// numbered from 0.
     ///
     /// Refused with 13 where the formula, the model or the state is not in the case.
-    pub fn value(&self, formula: u8, model: u8, state: State) -> Result<Element, Refusal> {
+    pub fn value(&self, formula: u8, model: u8, state: State) -> Result<Valued, Refusal> {
         self.lent().value(formula, model, state)
     }
 
-    /// A formula's element on the whole of model 1 or 2.
+    /// A formula's element on the whole of model 1 or 2, and the same facts as by [`Desk::value`].
     ///
     /// Refused with 13 where the formula or the model is not in the case.
-    pub fn whole(&self, formula: u8, model: u8) -> Result<Element, Refusal> {
+    pub fn whole(&self, formula: u8, model: u8) -> Result<Valued, Refusal> {
         self.lent().whole(formula, model)
     }
 

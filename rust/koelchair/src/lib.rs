@@ -1,7 +1,7 @@
 //! The proved desk for latticed simulation, called from Rust.
 //!
 //! ```
-//! use koelchair::{Desk, Element, StepAnswer};
+//! use koelchair::{CoveredFrom, Desk, Element, StepAnswer};
 //!
 //! // A lattice of three elements, 0 below 1 below 2, whose middle element is its own complement; two models of one state, whose
 //! // one proposition has the middle element there, without transitions; and the formula that is this proposition.
@@ -23,7 +23,10 @@
 //! assert_eq!(rounds, 2);
 //! assert_eq!(desk.show(), [1]);
 //! assert_eq!(desk.score(), Element(1));
-//! assert_eq!(desk.whole(0, 1)?, Element(1));
+//! let valued = desk.whole(0, 1)?;
+//! assert_eq!(valued.element, Element(1));
+//! // The formula has no AX, no fixpoint and no EX, so that the entries bound it from round 1 on.
+//! assert_eq!(valued.facts.covered_from(), CoveredFrom::Round(1));
 //! # Ok::<(), koelchair::Refusal>(())
 //! ```
 //!
@@ -35,6 +38,7 @@
 //! - [`Desk`] owns what the calls need.
 //! - [`DeskRef`] and [`DeskMut`] borrow a standing, a store and two tables of any content and length, for callers that keep these
 //!   themselves: the calls that only read, and all of them.
+//! - [`Valued`] is a formula's element with its [`FormulaFacts`], which say from which round on a table covers the formula.
 //! - [`listing`] gives the whole result of a case as text, without a desk.
 //! - [`Refusal`] says why a call was refused; [`REFUSALS`] is the table of all refusals.
 //!
@@ -47,6 +51,7 @@
 
 mod answer;
 mod desk;
+mod facts;
 mod lent;
 #[allow(unsafe_code)]
 mod raw;
@@ -54,6 +59,7 @@ mod refusal;
 
 pub use answer::{Element, Sizes, State, StepAnswer};
 pub use desk::Desk;
+pub use facts::{CoveredFrom, FormulaFacts, Valued};
 pub use lent::{DeskMut, DeskRef, Standing};
 pub use refusal::{Refusal, RefusalEntry, NO_PART, REFUSALS};
 

@@ -5,8 +5,8 @@
 
 use crate::{DeskMut, DeskRef, Standing, LISTING_LENGTH};
 
-/// An answer in numbers: `kind` says which, and the fields that this kind does not use are 0 or false. No kind uses `byte`, `second`,
-/// `flag1` and `flag2` yet.
+/// An answer in numbers: `kind` says which, and the fields that this kind does not use are 0 or false. Kind 9, that of value and whole,
+/// has in `byte` the deepest nesting of AX, in `flag1` whether a fixpoint occurs, in `flag2` whether EX occurs. No kind uses `second` yet.
 #[repr(C)]
 #[derive(Clone, Copy, Debug, Default)]
 pub struct Answer {

@@ -1,7 +1,9 @@
-//! The eight calls on a desk: a standing, a store and two tables. Rests on `case`, `formula` and `rounds`.
+//! The eight calls on a desk: a standing, a store and two tables. Rests on `case`, `formula`, `facts` and `rounds`.
 
 use crate::case::{self, Content, Refusal};
+use crate::facts::{self, Facts};
 use crate::formula::{Formula, Valuer};
+use crate::lattice::Element;
 use crate::model::{Model, State};
 use crate::rounds::{self, Table};
 
@@ -50,8 +52,15 @@ pub enum Reply {
     Settled(u32),
     /// The first N1·N2 bytes of the whole table; none where show is refused.
     Shown(Vec<u8>),
-    /// An element.
+    /// The score, an element.
     Element(u8),
+    /// A formula's value, and the facts of the formula.
+    Valued {
+        /// The element.
+        element: u8,
+        /// The facts.
+        facts: Facts,
+    },
     /// A share in per cent.
     PerCent(u8),
     /// Whether judge's table is a simulation.
@@ -144,6 +153,14 @@ pub fn show(standing: &Standing, store: &[u8], first: &[u8], second: &[u8]) -> R
     }
 }
 
+/// "Value and whole pass these three on with the element."
+fn valued(formula: &Formula, element: Element) -> Reply {
+    Reply::Valued {
+        element: element.byte(),
+        facts: facts::of(formula),
+    }
+}
+
 /// "value gives a formula's element at a state of model 1 or 2".
 pub fn value(
     standing: &Standing,
@@ -160,7 +177,7 @@ pub fn value(
         let state = model.state(state).ok_or(OUT_OF_RANGE)?;
         let lattice = &desk.content.lattice;
         let element = Valuer { lattice, model }.at(formula, state);
-        Ok(Reply::Element(element.byte()))
+        Ok(valued(formula, element))
     }))
 }
 
@@ -178,7 +195,7 @@ pub fn whole(
         let model = desk.model(model)?;
         let lattice = &desk.content.lattice;
         let element = Valuer { lattice, model }.whole(formula);
-        Ok(Reply::Element(element.byte()))
+        Ok(valued(formula, element))
     }))
 }
 

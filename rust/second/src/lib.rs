@@ -4,14 +4,16 @@
 //! It is simple rather than fast. Every call reads the store anew, meets and joins are found by search in the order, and
 //! fixpoints by iteration until nothing changes. No call panics, whatever its arguments hold.
 //!
-//! Modules: `lattice`, `model`, `formula` (the parts of a case and their values), `case` (directory, refusals 1 to 10, layout of
-//! the store), `rounds` (F and what is read off a table), `desk` (the eight calls), `report` (the listing).
+//! Modules: `lattice`, `model`, `formula` (the parts of a case and their values), `facts` (of a formula as it is written), `case`
+//! (directory, refusals 1 to 10, layout of the store), `rounds` (F and what is read off a table), `desk` (the eight calls), `report`
+//! (the listing).
 
 #![forbid(unsafe_code)]
 #![deny(missing_docs)]
 
 mod case;
 mod desk;
+mod facts;
 mod formula;
 mod lattice;
 mod model;
@@ -22,4 +24,5 @@ pub use desk::{
     judge, open, score, share, show, step, value, whole, Reply, Standing, STORE_LENGTH,
     TABLE_LENGTH,
 };
+pub use facts::Facts;
 pub use report::report;

@@ -1,8 +1,8 @@
-//! Document 01's worked examples, and the shares of request 101, by running the calls.
+//! Document 01's worked examples, the shares of request 101 and the facts of request 102, by running the calls.
 
 mod common;
 
-use common::{case, chain, lattice, Desk, Numbers, L2, L3, LOOP, STILL};
+use common::{case, chain, lattice, valued, Desk, Numbers, L2, L3, LOOP, STILL};
 use second::{report, Reply, Standing};
 
 /// The bytes of the report example.
@@ -68,8 +68,9 @@ fn example_4_three_rounds() {
     assert_eq!(desk.standing, half);
     assert_eq!(desk.step(), Reply::Round(1));
     assert_eq!(desk.show(), [1, 0, 0, 0]);
-    assert_eq!(desk.value(0, 2, 0), Reply::Element(1));
-    assert_eq!(desk.value(0, 1, 0), Reply::Element(0));
+    let one_ax = (1, false, false);
+    assert_eq!(desk.value(0, 2, 0), valued(1, one_ax));
+    assert_eq!(desk.value(0, 1, 0), valued(0, one_ax));
     assert_eq!(desk.step(), Reply::Row);
     assert_eq!(desk.step(), Reply::Round(2));
     assert_eq!(desk.show(), [0, 0, 0, 0]);
@@ -84,9 +85,9 @@ fn example_5_subsets_of_three() {
     let subsets = lattice(8, |e| 7 - e, |i, j| i & j == i);
     let model: &[u8] = &[3, 1, 7, 0, 0, 0, 2, 6, 0, 6, 6, 0, 0, 0, 0, 0, 0];
     let desk = Desk::opened(&[&subsets, model, model, &[7, 2, 0], &[8, 2, 0]]);
-    assert_eq!(desk.value(0, 1, 0), Reply::Element(3));
-    assert_eq!(desk.value(1, 1, 0), Reply::Element(6));
-    assert_eq!(desk.whole(0, 2), Reply::Element(3));
+    assert_eq!(desk.value(0, 1, 0), valued(3, (1, false, false)));
+    assert_eq!(desk.value(1, 1, 0), valued(6, (0, false, true)));
+    assert_eq!(desk.whole(0, 2), valued(3, (1, false, false)));
 }
 
 #[test]
@@ -296,29 +297,37 @@ fn fixpoints_of_known_value() {
         model.resize(12 + 5 * from, 0);
         model.extend((0..5).map(|state| u8::from(state == to)));
     }
-    let formulas: [(&[u8], [u8; 5]); 8] = [
+    // Each with its nested AX, and whether it has EX.
+    let formulas: [(&[u8], [u8; 5], u8, bool); 8] = [
         // On some path, p again and again; on some path, p always from some state on.
-        (&[10, 9, 5, 6, 2, 0, 8, 4, 1, 8, 4, 0], [1, 1, 0, 1, 1]),
-        (&[9, 10, 5, 6, 2, 0, 8, 4, 0, 8, 4, 1], [0, 0, 0, 1, 1]),
+        (
+            &[10, 9, 5, 6, 2, 0, 8, 4, 1, 8, 4, 0],
+            [1, 1, 0, 1, 1],
+            0,
+            true,
+        ),
+        (
+            &[9, 10, 5, 6, 2, 0, 8, 4, 0, 8, 4, 1],
+            [0, 0, 0, 1, 1],
+            0,
+            true,
+        ),
         // p on all paths some time; p on all paths always.
-        (&[9, 5, 2, 0, 7, 4, 0], [1, 1, 0, 1, 1]),
-        (&[10, 6, 2, 0, 7, 4, 0], [0, 0, 0, 0, 1]),
-        (&[9, 7, 4, 0], [0; 5]),
-        (&[10, 7, 4, 0], [1; 5]),
-        (&[9, 10, 4, 1], [0; 5]),
-        (&[9, 10, 4, 0], [1; 5]),
+        (&[9, 5, 2, 0, 7, 4, 0], [1, 1, 0, 1, 1], 1, false),
+        (&[10, 6, 2, 0, 7, 4, 0], [0, 0, 0, 0, 1], 1, false),
+        (&[9, 7, 4, 0], [0; 5], 1, false),
+        (&[10, 7, 4, 0], [1; 5], 1, false),
+        (&[9, 10, 4, 1], [0; 5], 0, false),
+        (&[9, 10, 4, 0], [1; 5], 0, false),
     ];
     let mut parts = vec![L2, &model, &model];
-    parts.extend(formulas.iter().map(|(formula, _)| *formula));
+    parts.extend(formulas.iter().map(|(formula, ..)| *formula));
     let desk = Desk::opened(&parts);
-    for (number, (_, values)) in (0..).zip(formulas) {
+    for (number, (_, values, nesting, ex)) in (0..).zip(formulas) {
         for (state, value) in (0..).zip(values) {
             let answer = desk.value(number, 2, state);
-            assert_eq!(
-                answer,
-                Reply::Element(value),
-                "formula {number}, state {state}"
-            );
+            let expected = valued(value, (nesting, true, ex));
+            assert_eq!(answer, expected, "formula {number}, state {state}");
         }
     }
 }
@@ -332,5 +341,5 @@ fn what_students_write_instead() {
     assert_eq!(Desk::settled(&[L3, with, without]).show(), [0]);
     let middle: &[u8] = &[1, 1, 2, 0, 1];
     let desk = Desk::opened(&[L3, middle, middle, &[7, 2, 0]]);
-    assert_eq!(desk.value(0, 1, 0), Reply::Element(1));
+    assert_eq!(desk.value(0, 1, 0), valued(1, (1, false, false)));
 }

@@ -1,12 +1,13 @@
 //! `check`: is the case accepted, and what does it hold.
 
 use super::{document, open, read_course, Arguments, Opened, Outcome, Printed};
-use crate::formula::Formula;
+use crate::facts;
 use crate::formula_text;
 use crate::json::{array, object, string, strings};
 use crate::listing;
 use crate::model::Model;
 use crate::warnings::{self, ends, warnings};
+use koelchair::FormulaFacts;
 use std::fmt::Write;
 use std::io::Read;
 
@@ -19,15 +20,16 @@ pub fn check(arguments: &[String], input: &mut dyn Read) -> Outcome {
     )?;
     let [file] = arguments.exactly(["FILE"])?;
     let opened = open(read_course(file, &arguments, input)?)?;
-    let list = warnings(&opened.text, &opened.case);
+    let facts = opened.facts()?;
+    let list = warnings(&opened.text, &opened.case, &facts);
     let printed = match arguments.has("--json") {
         true => {
-            let mut fields = fields(&opened);
+            let mut fields = fields(&opened, &facts);
             let said = list.iter().map(|w| warnings::json(&opened.text, w));
             fields.push(("warnings", array(said)));
             document("check", fields)
         }
-        false => contents(&opened),
+        false => contents(&opened, &facts),
     };
     Ok(Printed::new(printed).with_warnings(&opened.text, &list, &arguments))
 }
@@ -44,7 +46,7 @@ fn models(opened: &Opened) -> impl Iterator<Item = (usize, &Model)> {
     models.skip(usize::from(opened.text.course_alone))
 }
 
-fn contents(opened: &Opened) -> String {
+fn contents(opened: &Opened, facts: &[FormulaFacts]) -> String {
     let case = &opened.case;
     let mut text = match ceiling(opened) {
         None => format!("accepted, {} bytes\n", opened.text.bytes.len()),
@@ -70,9 +72,9 @@ fn contents(opened: &Opened) -> String {
         let (number, states) = (i + 1, model.size());
         let _ = writeln!(text, "model {number}{title}, states: {states}{ends}");
     }
-    for named in &case.formulas {
+    for (named, facts) in case.formulas.iter().zip(facts) {
         let formula = formula_text::print(&named.formula, &case.propositions);
-        let (name, bounded) = (&named.name, bounded(&named.formula));
+        let (name, bounded) = (&named.name, facts::bounded(*facts));
         let _ = writeln!(text, "formula {name}: {formula}\n  {bounded}");
     }
     text
@@ -88,7 +90,7 @@ fn end_states<'a>(opened: &Opened, model: &'a Model) -> Vec<&'a str> {
         .collect()
 }
 
-fn fields(opened: &Opened) -> Vec<(&'static str, String)> {
+fn fields(opened: &Opened, facts: &[FormulaFacts]) -> Vec<(&'static str, String)> {
     let case = &opened.case;
     let or_null = |said: Option<&str>| said.map_or("null".to_string(), string);
     let model = |(i, model): (usize, &Model)| {
@@ -99,13 +101,11 @@ fn fields(opened: &Opened) -> Vec<(&'static str, String)> {
             ("leadsNowhere", strings(end_states(opened, model))),
         ])
     };
-    let formulas = case.formulas.iter().map(|named| {
+    let formulas = case.formulas.iter().zip(facts).map(|(named, facts)| {
         let text = formula_text::print(&named.formula, &case.propositions);
-        object(&[
-            ("name", string(&named.name)),
-            ("formula", string(&text)),
-            ("coveredFrom", covered_from(&named.formula)),
-        ])
+        let mut fields = vec![("name", string(&named.name)), ("formula", string(&text))];
+        fields.extend(facts::fields(*facts));
+        object(&fields)
     });
     let n = case.lattice.size();
     vec![
@@ -118,27 +118,4 @@ fn fields(opened: &Opened) -> Vec<(&'static str, String)> {
         ("formulas", array(formulas)),
         ("ceiling", or_null(ceiling(opened).as_deref())),
     ]
-}
-
-/// From when on a pair's entry is at most 'not its value in model 2, joined with its value in model 1' (demand 3).
-fn bounded(formula: &Formula) -> String {
-    if !formula.universal() {
-        return "entries do not bound it, since it has EX".to_string();
-    }
-    match (formula.nested_binders(), formula.nested_ax()) {
-        (0, nested) => format!(
-            "entries bound it from round {} on, or once settled",
-            nested + 1
-        ),
-        _ => "entries bound it once settled".to_string(),
-    }
-}
-
-/// The same as JSON: a round, `"settled"`, or null.
-fn covered_from(formula: &Formula) -> String {
-    match (formula.universal(), formula.nested_binders()) {
-        (false, _) => "null".to_string(),
-        (true, 0) => (formula.nested_ax() + 1).to_string(),
-        _ => string("settled"),
-    }
 }

@@ -7,7 +7,7 @@ use crate::encoding;
 use crate::errors::{Source, TextError};
 use crate::include::Loader;
 use crate::parse::{parse, parse_course, Places, Text};
-use koelchair::Desk;
+use koelchair::{Desk, FormulaFacts};
 use std::io::{ErrorKind, Read};
 
 /// An accepted case on a desk.
@@ -18,6 +18,19 @@ pub struct Opened {
     pub case: Case,
     /// The desk, at round 0.
     pub desk: Desk,
+}
+
+impl Opened {
+    /// The library's facts of each formula. They are the same on both models, and model 1 is there in a course's file alone too, since
+    /// its model 2 stands for both.
+    pub fn facts(&self) -> Result<Vec<FormulaFacts>, Failure> {
+        let formulas = 0..self.case.formulas.len();
+        let facts = |f: usize| match self.desk.whole(f as u8, 1) {
+            Ok(valued) => Ok(valued.facts),
+            Err(refusal) => Err(Failure::Other(refusal.to_string())),
+        };
+        formulas.map(facts).collect()
+    }
 }
 
 /// All bytes of a file, or of standard input for `-`.

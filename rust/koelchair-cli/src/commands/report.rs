@@ -2,13 +2,14 @@
 
 use super::{document, open, read_text, table, Arguments, Failure, Opened, Outcome, Printed};
 use crate::errors::Source;
+use crate::facts;
 use crate::json::{array, object, string, strings};
 use crate::lattice_text;
 use crate::lexer::{lex, Cursor};
 use crate::listing::{self, Listing};
 use crate::rounds::settle;
 use crate::warnings::{self, warnings, Warning};
-use koelchair::{Element, State};
+use koelchair::{Element, FormulaFacts, State};
 use std::fmt::Write;
 use std::io::Read;
 
@@ -33,25 +34,33 @@ pub fn report(arguments: &[String], input: &mut dyn Read) -> Outcome {
     })?;
     let shares: Vec<&str> = arguments.values("--share").collect();
     let shares = shares_of(&mut opened, &shares)?;
-    let list = warnings(&opened.text, &opened.case);
-    let values = arguments.has("--values");
-    let printed = match (arguments.has("--json"), arguments.has("--names")) {
-        (true, _) => json(&opened, &shares, values, &list)?,
-        (false, names) => {
-            let mut printed = match names {
-                true => named_listing(&opened)?,
-                false => koelchair::listing(&bytes),
-            };
-            if values {
-                printed.push_str(&values_text(&opened));
-            }
-            for (element, share) in shares {
-                let _ = writeln!(printed, "share {}: {share} %", opened.case.element(element));
-            }
-            printed
-        }
+    let facts = opened.facts()?;
+    let list = warnings(&opened.text, &opened.case, &facts);
+    let printed = match arguments.has("--json") {
+        true => json(&opened, &facts, &shares, arguments.has("--values"), &list)?,
+        false => lines(&opened, &facts, &shares, &arguments)?,
     };
     Ok(Printed::new(printed).with_warnings(&opened.text, &list, &arguments))
+}
+
+/// The listing as text, by names if they are wanted, with the values and shares that are.
+fn lines(
+    opened: &Opened,
+    facts: &[FormulaFacts],
+    shares: &[(u8, u8)],
+    arguments: &Arguments,
+) -> Result<String, Failure> {
+    let mut lines = match arguments.has("--names") {
+        true => named_listing(opened, facts)?,
+        false => koelchair::listing(&opened.text.bytes),
+    };
+    if arguments.has("--values") {
+        lines.push_str(&values_text(opened));
+    }
+    for (element, share) in shares {
+        let _ = writeln!(lines, "share {}: {share} %", opened.case.element(*element));
+    }
+    Ok(lines)
 }
 
 /// The numbers of the library's listing.
@@ -60,8 +69,8 @@ fn numbers(opened: &Opened) -> Result<Listing, Failure> {
     listing::of(&opened.text.bytes).ok_or_else(unread)
 }
 
-/// The listing with names in place of numbers.
-fn named_listing(opened: &Opened) -> Result<String, Failure> {
+/// The listing with names in place of numbers, and below each formula from which round on entries bound it.
+fn named_listing(opened: &Opened, facts: &[FormulaFacts]) -> Result<String, Failure> {
     let (case, listing) = (&opened.case, numbers(opened)?);
     let name = |e: &u8| case.element(*e);
     let mut rows = vec![vec!["columns:".to_string()]];
@@ -74,11 +83,13 @@ fn named_listing(opened: &Opened) -> Result<String, Failure> {
     let mut text = format!("rounds {}\n", listing.rounds);
     text.push_str(&table::aligned(&rows, ""));
     let _ = writeln!(text, "score {}", name(&listing.score));
-    for (named, [student, course]) in case.formulas.iter().zip(&listing.formulas) {
+    let formulas = case.formulas.iter().zip(&listing.formulas);
+    for ((named, [student, course]), facts) in formulas.zip(facts) {
         let (formula, student, course) = (&named.name, name(student), name(course));
+        let bounded = facts::bounded(*facts);
         let _ = writeln!(
             text,
-            "formula {formula}: student {student}, course {course}"
+            "formula {formula}: student {student}, course {course}\n  {bounded}"
         );
     }
     Ok(text)
@@ -88,7 +99,7 @@ fn named_listing(opened: &Opened) -> Result<String, Failure> {
 fn values_of(opened: &Opened, formula: usize, model: usize) -> Vec<String> {
     let (case, desk) = (&opened.case, &opened.desk);
     let value = |q: usize| match desk.value(formula as u8, model as u8 + 1, State(q as u8)) {
-        Ok(element) => case.element(element.0),
+        Ok(valued) => case.element(valued.element.0),
         Err(_) => "refused".to_string(),
     };
     (0..case.models[model].size()).map(value).collect()
@@ -150,6 +161,7 @@ pub fn element(opened: &Opened, written: &str) -> Result<u8, Failure> {
 
 fn json(
     opened: &Opened,
+    facts: &[FormulaFacts],
     shares: &[(u8, u8)],
     values: bool,
     list: &[Warning],
@@ -160,8 +172,9 @@ fn json(
     let share = |(element, share): &(u8, u8)| {
         object(&[("element", name(*element)), ("percent", share.to_string())])
     };
-    let formulas = listing.formulas.iter().enumerate();
-    let formulas = formulas.map(|(f, whole)| formula_json(opened, f, *whole, values));
+    let formulas = listing.formulas.iter().zip(facts).enumerate();
+    let formulas =
+        formulas.map(|(f, (whole, facts))| formula_json(opened, f, *whole, *facts, values));
     let fields = vec![
         ("accepted", "true".to_string()),
         ("rounds", listing.rounds.to_string()),
@@ -179,14 +192,21 @@ fn json(
     Ok(document("report", fields))
 }
 
-/// A formula with its values on both models, and at their states where these are wanted.
-fn formula_json(opened: &Opened, f: usize, [student, course]: [u8; 2], values: bool) -> String {
+/// A formula with its values on both models and its facts, and with its values at their states where these are wanted.
+fn formula_json(
+    opened: &Opened,
+    f: usize,
+    [student, course]: [u8; 2],
+    facts: FormulaFacts,
+    values: bool,
+) -> String {
     let case = &opened.case;
     let mut fields = vec![
         ("name", string(&case.formulas[f].name)),
         ("student", string(&case.element(student))),
         ("course", string(&case.element(course))),
     ];
+    fields.extend(facts::fields(facts));
     if values {
         let [of_student, of_course] = [0, 1].map(|m| strings(values_of(opened, f, m)));
         fields.extend([("studentStates", of_student), ("courseStates", of_course)]);

@@ -1,4 +1,4 @@
-//! What the page shows, as JSON. Entries of every round, scores, T and the formulas' values come from the library. Names,
+//! What the page shows, as JSON. Entries of every round, scores, T, the formulas' values and their facts come from the library. Names,
 //! transitions and the order are those of the case. Levels, covering pairs and the table of (not a) joined with b come from the
 //! order, by `tables` as in `explain`: the library has no call for a single operation of the lattice. Reasons are those of `why`.
 
@@ -6,6 +6,7 @@ use super::why;
 use crate::case::{Case, NamedFormula};
 use crate::commands::why::{ceiling, OWNERS};
 use crate::commands::Failure;
+use crate::facts;
 use crate::formula_text;
 use crate::json::{array, numbers, object, string, strings};
 use crate::lattice::Lattice;
@@ -15,7 +16,7 @@ use crate::progress::Progress;
 use crate::reasons::Reasoning;
 use crate::rounds::{finish_round, History};
 use crate::tables::Operations;
-use koelchair::{Desk, Element, State, StepAnswer};
+use koelchair::{Desk, State, StepAnswer, Valued};
 
 /// The JSON of an accepted case, its bytes, and whose the two models are; the ceiling is what the course's scores against itself.
 pub fn of(case: &Case, bytes: &[u8], owners: [&str; 2]) -> Result<String, Failure> {
@@ -163,13 +164,12 @@ fn model(model: &Model, bottom: u8) -> String {
     ])
 }
 
-/// A formula with its values on both whole models and at each of their states.
+/// A formula with its values on both whole models and at each of their states, and its facts.
 fn formula(case: &Case, desk: &Desk, f: usize, named: &NamedFormula) -> Result<String, Failure> {
     let refused = |refusal: koelchair::Refusal| Failure::Other(refusal.to_string());
-    let elements = |list: Vec<Element>| numbers(list.iter().map(|e| e.0));
-    let whole: Vec<Element> = (1..=2)
-        .map(|m| desk.whole(f as u8, m).map_err(refused))
-        .collect::<Result<_, _>>()?;
+    let elements = |list: Vec<Valued>| numbers(list.iter().map(|v| v.element.0));
+    let whole = |m: u8| desk.whole(f as u8, m).map_err(refused);
+    let (student, course) = (whole(1)?, whole(2)?);
     let values = |m: u8| {
         let states = 0..case.models[usize::from(m) - 1].size();
         let values = states.map(|q| desk.value(f as u8, m, State(q as u8)));
@@ -179,16 +179,13 @@ fn formula(case: &Case, desk: &Desk, f: usize, named: &NamedFormula) -> Result<S
             .map_err(refused)
     };
     let text = formula_text::print(&named.formula, &case.propositions);
-    Ok(object(&[
+    let mut fields = vec![
         ("name", string(&named.name)),
         ("text", string(&text)),
-        ("universal", named.formula.universal().to_string()),
-        (
-            "fixpoints",
-            (named.formula.nested_binders() > 0).to_string(),
-        ),
-        ("nestedAx", named.formula.nested_ax().to_string()),
-        ("whole", elements(whole)),
+        ("written", string(&facts::written(student.facts))),
+        ("whole", elements(vec![student, course])),
         ("values", array([values(1)?, values(2)?])),
-    ]))
+    ];
+    fields.extend(facts::fields(student.facts));
+    Ok(object(&fields))
 }

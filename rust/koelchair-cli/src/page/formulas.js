@@ -1,10 +1,28 @@
-// The formulas with their values on both whole models and at each state.
+// The formulas with their values on both whole models and at each state, and whether the shown round covers them.
 
-// From which round on a formula is covered, in words.
+// A formula as it is written, and below it what it has.
+function formulaText(formula) {
+  return make("div", {}, make("code", {}, formula.text), make("div", { class: "facts" }, formula.written));
+}
+
+// From when on a table covers a formula, in words.
 function coveredFrom(formula) {
-  if (!formula.universal) return "never, it has EX";
-  if (formula.fixpoints) return "once settled, it has a fixpoint";
-  return `from round ${formula.nestedAx + 1} on, ${formula.nestedAx} nested AX`;
+  const from = formula.coveredFrom;
+  if (from === null) return "never";
+  return from === "settled" ? "once settled" : `from round ${from} on, or once settled`;
+}
+
+// For each formula whether the shown round covers it, below a heading with that round.
+const coveredHead = make("span");
+const coveredMarks = data.formulas.map(() => make("span"));
+
+function showCovered() {
+  coveredHead.textContent = `In round ${shownRound}`;
+  data.formulas.forEach((formula, f) => {
+    const [isCovered, why] = covered(formula);
+    coveredMarks[f].className = isCovered ? "covered" : "";
+    coveredMarks[f].textContent = why.split(":")[0];
+  });
 }
 
 function showFormulas() {
@@ -12,14 +30,15 @@ function showFormulas() {
     at("formulas").append(make("p", {}, "The case has no formulas."));
     return;
   }
-  const whole = data.formulas.map((formula) => [
+  const whole = data.formulas.map((formula, f) => [
     formula.name,
-    make("code", {}, formula.text),
+    formulaText(formula),
     chip(formula.whole[0]),
     chip(formula.whole[1]),
+    coveredMarks[f],
     coveredFrom(formula),
   ]);
-  const head = ["Name", "Formula", capital(modelName(0)), capital(modelName(1)), "Covered"];
+  const head = ["Name", "Formula", capital(modelName(0)), capital(modelName(1)), coveredHead, "Covered"];
   const wholeTable = scrolling("formulas on the whole models", tableOf("On the whole models", [head, ...whole]));
   wholeTable.id = "whole";
   at("formulas").append(wholeTable);

@@ -87,12 +87,13 @@ function atMost(a, b) {
 
 // Whether the shown round covers a formula, and why, in words.
 function covered(formula) {
-  if (!formula.universal) return [false, "never: has EX"];
+  const from = formula.coveredFrom;
+  if (from === null) return [false, "never: has EX"];
   if (shownRound === T) return [true, "covered: settled, no EX"];
-  if (formula.fixpoints) return [false, "not yet: has a fixpoint, only once settled"];
+  if (from === "settled") return [false, "not yet: has a fixpoint, only once settled"];
   const nested = `${formula.nestedAx} nested AX`;
-  if (formula.nestedAx < shownRound) return [true, `covered: ${nested}, fewer than ${shownRound}`];
-  return [false, `not yet: ${nested}, from round ${formula.nestedAx + 1} on`];
+  if (from <= shownRound) return [true, `covered: ${nested}, fewer than ${shownRound}`];
+  return [false, `not yet: ${nested}, from round ${from} on`];
 }
 
 // A formula's line: values of both, the bound, whether the entry keeps it, whether it must.

@@ -124,6 +124,7 @@ function goTo(round) {
   touched.forEach(showCell);
   showStanding();
   showOverview();
+  showCovered();
   showPair();
   writeAddress();
 }

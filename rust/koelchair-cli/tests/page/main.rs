@@ -276,7 +276,7 @@ fn values_are_the_librarys() {
         for (f, formula) in data.get("formulas").items().iter().enumerate() {
             for model in 1..=2u8 {
                 let at = usize::from(model) - 1;
-                let whole = desk.whole(f as u8, model).expect("in range").0;
+                let whole = desk.whole(f as u8, model).expect("in range").element.0;
                 assert_eq!(
                     formula.get("whole").items()[at],
                     Json::Number(usize::from(whole)),
@@ -290,6 +290,7 @@ fn values_are_the_librarys() {
                     let expected = desk
                         .value(f as u8, model, State(q as u8))
                         .expect("in range")
+                        .element
                         .0;
                     assert_eq!(*value, usize::from(expected), "{name}");
                 }
@@ -298,11 +299,33 @@ fn values_are_the_librarys() {
     }
 }
 
+#[test]
+fn facts_are_the_librarys() {
+    let mut formulas = 0;
+    for Example {
+        name, text, data, ..
+    } in examples()
+    {
+        let desk = Desk::open(&bytes(text)).expect("accepted");
+        for (f, formula) in data.get("formulas").items().iter().enumerate() {
+            let facts = desk.whole(f as u8, 2).expect("in range").facts;
+            let nesting = usize::from(facts.nesting);
+            assert_eq!(formula.get("nestedAx").number(), nesting, "{name}");
+            assert_eq!(*formula.get("fixpoint"), Json::Bool(facts.fixpoint));
+            assert_eq!(*formula.get("ex"), Json::Bool(facts.ex), "{name}");
+            formulas += 1;
+        }
+    }
+    assert!(formulas > 20, "{formulas} formulas");
+}
+
 /// Whether a round covers a formula, by the page's words about it.
 fn covered(formula: &Json, round: usize, settled: bool) -> bool {
-    let plain = *formula.get("fixpoints") == Json::Bool(false);
-    let fewer = formula.get("nestedAx").number() < round;
-    *formula.get("universal") == Json::Bool(true) && (settled || plain && fewer)
+    match formula.get("coveredFrom") {
+        Json::Null => false,
+        Json::Number(from) => settled || *from <= round,
+        _ => settled,
+    }
 }
 
 #[test]

@@ -50,13 +50,14 @@ fn bytes_and_text_are_told_apart() {
 }
 
 #[test]
-fn the_cases_for_c_are_bytes() {
-    for name in ["c/example1.bytes", "c/example4.bytes"] {
-        assert_eq!(
-            run(&["check", "--bytes", &example(name)], &[]).status,
-            0,
-            "{name}"
-        );
+fn the_cases_for_c_are_the_bytes_of_the_examples() {
+    for (name, case) in [
+        ("c/example1.bytes", "example-1-unsure.case"),
+        ("c/example4.bytes", "example-4-round-1.case"),
+        ("c/covered-from.bytes", "covered-from.case"),
+    ] {
+        let bytes = std::fs::read(example(name)).expect("the bytes");
+        assert!(run(&["encode", &example(case)], &[]).out == bytes, "{name}");
     }
 }
 

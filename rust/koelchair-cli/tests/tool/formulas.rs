@@ -63,10 +63,23 @@ fn they_are_printed_as_written() {
 #[test]
 fn they_count_as_the_fixpoints_for_what_covers_them() {
     for (formula, said) in [
-        ("AG p", "entries bound it once settled"),
-        ("AF AX p", "entries bound it once settled"),
-        ("EF p", "entries do not bound it, since it has EX"),
-        ("AG EG p", "entries do not bound it, since it has EX"),
+        (
+            "AG p",
+            "1 nested AX, a fixpoint, no EX: entries bound it once settled",
+        ),
+        (
+            "AF AX p",
+            "1 nested AX, a fixpoint, no EX: entries bound it once settled",
+        ),
+        (
+            "AX AF AX p",
+            "2 nested AX, a fixpoint, no EX: entries bound it once settled",
+        ),
+        ("EF p", "no AX, a fixpoint, EX: entries do not bound it"),
+        (
+            "AG EG p",
+            "1 nested AX, a fixpoint, EX: entries do not bound it",
+        ),
     ] {
         let text = CLEAN.replace("AG p", formula);
         let checked = run(&["check", "-"], text.as_bytes()).text();

@@ -124,6 +124,40 @@ fn check_says_what_the_case_holds() {
     assert_eq!(said.get("models").items().len(), 1);
 }
 
+/// Nested AX, whether there is a fixpoint, whether there is EX.
+fn facts(formula: &Json) -> (usize, bool, bool) {
+    let is = |name: &str| *formula.get(name) == Json::Bool(true);
+    (formula.get("nestedAx").number(), is("fixpoint"), is("ex"))
+}
+
+#[test]
+fn check_and_report_say_the_facts_of_formulas() {
+    // p & !q; AX !q; p & AX (q | AX p); AG p; AX EX AX p
+    let expected = [
+        (0, false, false),
+        (1, false, false),
+        (2, false, false),
+        (1, true, false),
+        (2, false, true),
+    ];
+    let settled = Json::String("settled".to_string());
+    let number = Json::Number;
+    let from = [number(1), number(2), number(3), settled, Json::Null];
+    for command in ["check", "report"] {
+        let (_, said) = json(&[command, "--json", &example("covered-from.case")], "");
+        let formulas = said.get("formulas").items();
+        let found: Vec<_> = formulas.iter().map(facts).collect();
+        assert_eq!(found, expected, "{command}");
+        for (formula, from) in formulas.iter().zip(&from) {
+            assert_eq!(formula.get("coveredFrom"), from, "{command}");
+        }
+    }
+    // Of a course's file alone too.
+    let (_, said) = json(&["check", "--json", &example("class/course.case")], "");
+    let found: Vec<_> = said.get("formulas").items().iter().map(facts).collect();
+    assert_eq!(found, [(1, true, false), (1, true, false), (0, true, true)]);
+}
+
 #[test]
 fn step_says_every_round_and_which_is_a_result() {
     let file = example("error-half-worked-table.case");

@@ -1,7 +1,8 @@
-//! Worked examples 1, 2, 4 and 6 of document 01 (the shares as of request 101) and its listing, by the desk that owns its buffers and by the one that is lent them.
+//! Worked examples 1, 2, 4 and 6 of document 01 (the shares as of request 101), its listing, and the facts of formulas, by the desk that
+//! owns its buffers and by the one that is lent them.
 
 use crate::cases::{self, Lent};
-use koelchair::{Desk, Element, Sizes, State, StepAnswer};
+use koelchair::{CoveredFrom, Desk, Element, FormulaFacts, Sizes, State, StepAnswer, Valued};
 
 /// The answers of all steps up to the settling one, each with the table shown after it. The desk and one that is lent
 /// longer buffers with other content must give the same.
@@ -36,6 +37,18 @@ fn assert_kept_beyond(lent: &Lent) {
     assert!(beyond.iter().all(|&byte| byte == 0xA5));
 }
 
+/// The answer for a formula of this element and so many nested AX, without fixpoint and EX.
+fn valued(element: u8, nesting: u8) -> Valued {
+    Valued {
+        element: Element(element),
+        facts: FormulaFacts {
+            nesting,
+            fixpoint: false,
+            ex: false,
+        },
+    }
+}
+
 #[test]
 fn example_1() {
     let case = cases::example_1();
@@ -51,8 +64,8 @@ fn example_1() {
     assert_eq!(desk.show(), [2]);
     assert_eq!(desk.settle(), 2);
     assert_eq!(desk.score(), Element(1));
-    assert_eq!(desk.value(0, 1, State(0)), Ok(Element(1)));
-    assert_eq!(desk.whole(0, 2), Ok(Element(1)));
+    assert_eq!(desk.value(0, 1, State(0)), Ok(valued(1, 0)));
+    assert_eq!(desk.whole(0, 2), Ok(valued(1, 0)));
     assert_eq!(desk.share(Element(1)), Ok(100));
     assert_eq!(desk.share(Element(2)), Ok(0));
     assert_eq!(desk.judge(&[1]), Ok(true));
@@ -90,8 +103,8 @@ fn example_4() {
         ]
     );
     let desk = Desk::open(&case).unwrap();
-    assert_eq!(desk.value(0, 2, State(0)), Ok(Element(1)));
-    assert_eq!(desk.value(0, 1, State(0)), Ok(Element(0)));
+    assert_eq!(desk.value(0, 2, State(0)), Ok(valued(1, 1)));
+    assert_eq!(desk.value(0, 1, State(0)), Ok(valued(0, 1)));
 }
 
 #[test]
@@ -99,15 +112,69 @@ fn example_4_lent() {
     let mut lent = Lent::opened(&cases::example_4());
     let desk = lent.lent();
     let value = |model| desk.value(0, model, State(0));
-    assert_eq!(value(2), Ok(Element(1)));
-    assert_eq!(value(1), Ok(Element(0)));
+    assert_eq!(value(2), Ok(valued(1, 1)));
+    assert_eq!(value(1), Ok(valued(0, 1)));
     let whole = |model| desk.whole(0, model);
-    assert_eq!(whole(2), Ok(Element(1)));
-    assert_eq!(whole(1), Ok(Element(0)));
+    assert_eq!(whole(2), Ok(valued(1, 1)));
+    assert_eq!(whole(1), Ok(valued(0, 1)));
     assert_eq!(desk.score(), Ok(Element(1)));
     assert_eq!(desk.judge(&[0; 4]), Ok(true));
     assert_eq!(desk.judge(&[1, 0, 0, 0]), Ok(false));
     assert_eq!(lent.lent_mut().shared().score(), Ok(Element(1)));
+}
+
+/// Formulas over propositions 0 to 10: their nested AX, whether a fixpoint and whether EX occurs.
+const FACTS: [(&[u8], u8, bool, bool); 8] = [
+    // p & AX (q | AX p)
+    (&[6, 2, 0, 7, 5, 2, 1, 7, 2, 0], 2, false, false),
+    // AX EX AX p
+    (&[7, 8, 7, 2, 0], 2, false, true),
+    // AX p | EX q
+    (&[5, 7, 2, 0, 8, 2, 1], 1, false, true),
+    // nu z. p & AX z, which is not unrolled
+    (&[10, 6, 2, 0, 7, 4, 0], 1, true, false),
+    // AX mu z. AX z
+    (&[7, 9, 7, 4, 0], 2, true, false),
+    // mu z. nu y. z, and EX in another branch
+    (&[5, 9, 10, 4, 1, 8, 1], 0, true, true),
+    // propositions 7 and 8, and the negated 9 and 10: operands, and no codes of AX, EX and fixpoints
+    (&[6, 5, 2, 7, 2, 8, 5, 3, 9, 3, 10], 0, false, false),
+    // p
+    (&[2, 0], 0, false, false),
+];
+
+#[test]
+fn facts_of_formulas() {
+    let mut model = vec![1, 11];
+    model.extend([1; 13]);
+    let mut parts: Vec<&[u8]> = vec![&cases::L2, &model, &model];
+    parts.extend(FACTS.iter().map(|(formula, ..)| *formula));
+    let case = cases::case(&parts);
+    let (desk, lent) = (Desk::open(&case).unwrap(), Lent::opened(&case));
+    for (f, (formula, nesting, fixpoint, ex)) in (0..).zip(FACTS) {
+        let facts = FormulaFacts {
+            nesting,
+            fixpoint,
+            ex,
+        };
+        for model in [1, 2] {
+            assert_eq!(desk.whole(f, model).unwrap().facts, facts, "{formula:?}");
+            let value = lent.lent().value(f, model, State(0)).unwrap();
+            assert_eq!(value.facts, facts, "{formula:?}");
+            assert_eq!(lent.lent().whole(f, model).unwrap().facts, facts);
+        }
+    }
+}
+
+#[test]
+fn the_deepest_nesting() {
+    let mut formula = vec![7; 254];
+    formula.push(1);
+    let model: &[u8] = &[1, 0, 1, 1];
+    let desk = Desk::open(&cases::case(&[&cases::L2, model, model, &formula])).unwrap();
+    let facts = desk.whole(0, 1).unwrap().facts;
+    assert_eq!(facts, valued(1, 254).facts);
+    assert_eq!(facts.covered_from(), CoveredFrom::Round(255));
 }
 
 #[test]

@@ -2,7 +2,7 @@
 
 #![allow(dead_code)]
 
-use second::{Reply, Standing, STORE_LENGTH, TABLE_LENGTH};
+use second::{Facts, Reply, Standing, STORE_LENGTH, TABLE_LENGTH};
 
 /// 0 below 1.
 pub const L2: &[u8] = &[2, 1, 0, 1, 1, 0, 1];
@@ -27,6 +27,16 @@ pub fn case(parts: &[&[u8]]) -> Vec<u8> {
     }
     bytes.extend(parts.concat());
     bytes
+}
+
+/// What value and whole answer for a formula: its element, the deepest nesting of AX, whether a fixpoint and whether EX occurs.
+pub fn valued(element: u8, (nesting, fixpoint, ex): (u8, bool, bool)) -> Reply {
+    let facts = Facts {
+        nesting,
+        fixpoint,
+        ex,
+    };
+    Reply::Valued { element, facts }
 }
 
 /// A chain of n elements, each the complement of its opposite.

@@ -77,7 +77,10 @@ impl Marks {
     /// Of a settled desk with so many formulas.
     fn of(desk: &Desk, formulas: usize, shared: u8) -> Result<Marks, Failure> {
         let refused = |refusal: koelchair::Refusal| Failure::Other(refusal.to_string());
-        let whole = |f: usize| desk.whole(f as u8, 1).map(|e| e.0).map_err(refused);
+        let whole = |f: usize| {
+            let valued = desk.whole(f as u8, 1).map_err(refused)?;
+            Ok(valued.element.0)
+        };
         Ok(Marks {
             score: desk.score().0,
             formulas: (0..formulas).map(whole).collect::<Result<_, _>>()?,
@@ -103,7 +106,7 @@ impl Course {
             letters,
             shared,
             ceiling: Marks::of(&opened.desk, opened.case.formulas.len(), shared)?,
-            warnings: warnings(&opened.text, &opened.case),
+            warnings: warnings(&opened.text, &opened.case, &opened.facts()?),
             opened,
         })
     }

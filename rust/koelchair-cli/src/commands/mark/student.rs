@@ -92,7 +92,8 @@ impl Marked {
         let formulas = opened.case.formulas.len();
         let answer = Answer::of(&mut opened, None)?;
         let marks = Marks::of(&opened.desk, formulas, course.shared)?;
-        let all = warnings(&opened.text, &opened.case);
+        // The formulas are the course's, and are warned of there.
+        let all = warnings(&opened.text, &opened.case, &[]);
         Ok(Marked {
             marks,
             rounds: answer.rounds,
