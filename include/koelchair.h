@@ -53,15 +53,15 @@ extern "C" {
 
 /* ---- kinds of answers */
 
-#define KOELCHAIR_REFUSED 0  /* number and part say why */
+#define KOELCHAIR_REFUSED 0       /* number and part say why */
 #define KOELCHAIR_OPENED 1
 #define KOELCHAIR_ROW 2
-#define KOELCHAIR_ROUND 3    /* value is the round */
-#define KOELCHAIR_SETTLED 4  /* value is T, the first round that equals the one before */
-#define KOELCHAIR_ELEMENT 5  /* value is the element */
-#define KOELCHAIR_PER_CENT 6 /* value is 0 to 100 */
-#define KOELCHAIR_SAYS 7     /* value is 1 for yes, 0 for no */
-#define KOELCHAIR_VALUED 9   /* value is the element, byte, flag1 and flag2 are facts of the formula; no call here answers 8 */
+#define KOELCHAIR_ROUND 3         /* value is the round */
+#define KOELCHAIR_SETTLED 4       /* value is T, the first round that equals the one before */
+#define KOELCHAIR_ELEMENT 5       /* value is the element */
+#define KOELCHAIR_PER_CENT 6      /* value is 0 to 100 */
+#define KOELCHAIR_SAYS 7          /* value is 1 for yes, 0 for no */
+#define KOELCHAIR_FORMULA_VALUE 9 /* value is the element; byte, flag1 and flag2 are facts of the formula */
 
 /* ---- numbers of refusals; koelchair_refusal_words says what each means. The part is that of the case, or KOELCHAIR_NO_PART. */
 
@@ -132,7 +132,7 @@ typedef struct koelchair_standing {
     bool second_whole;
 } koelchair_standing;
 
-/* number and part are those of a refusal, value is as the kind says. byte, flag1 and flag2 are used by KOELCHAIR_VALUED alone and are facts
+/* number and part are those of a refusal, value is as the kind says. byte, flag1 and flag2 are used by KOELCHAIR_FORMULA_VALUE alone and are facts
    of the formula as it is written: byte is the deepest nesting of AX, 0 to 254, flag1 says that a fixpoint occurs, flag2 that EX occurs.
    A field that a kind does not name is 0 or false: second is so in every answer of today, so that a kind to come does not alter the
    layout. */
@@ -206,7 +206,7 @@ koelchair_shown koelchair_show(koelchair_standing standing,
                                const uint8_t *first, size_t first_length,
                                const uint8_t *second, size_t second_length);
 
-/* The value of a formula, numbered from 0, at a state of model 1 or 2, and the facts of the formula: KOELCHAIR_VALUED, or
+/* The value of a formula, numbered from 0, at a state of model 1 or 2, and the facts of the formula: KOELCHAIR_FORMULA_VALUE, or
    KOELCHAIR_REFUSED with 11, 12 or 13. The nesting counts the AX that stand one within another, also with or, and, EX or a fixpoint
    between them; a fixpoint is not unrolled. The facts say which tables cover the formula: where nothing but the calls wrote the desk,
    each entry of the table shown is at most 'not the value at the state of model 2, joined with the value at the state of model 1' if EX
@@ -217,7 +217,7 @@ koelchair_answer koelchair_value(koelchair_standing standing,
                                  const uint8_t *second, size_t second_length,
                                  uint8_t formula, uint8_t model, uint8_t state);
 
-/* The value of a formula on the whole of model 1 or 2, and the same facts: KOELCHAIR_VALUED, or KOELCHAIR_REFUSED with 11, 12 or 13. */
+/* The value of a formula on the whole of model 1 or 2, and the same facts: KOELCHAIR_FORMULA_VALUE, or KOELCHAIR_REFUSED with 11, 12 or 13. */
 koelchair_answer koelchair_whole(koelchair_standing standing,
                                  const uint8_t *store, size_t store_length,
                                  const uint8_t *first, size_t first_length,

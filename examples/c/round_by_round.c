@@ -45,7 +45,7 @@ static bool formula_whole(const struct desk *d, uint8_t formula, uint8_t model, 
     *whole = koelchair_whole(LENT(d), formula, model);
     if (whole->number != KOELCHAIR_REFUSED_OUT_OF_RANGE)
         unless_refused("whole", *whole);
-    return whole->kind == KOELCHAIR_VALUED;
+    return whole->kind == KOELCHAIR_FORMULA_VALUE;
 }
 
 /* Whether the table shown covers a formula, by the facts that value and whole give: its entries then bound the formula's values. */

@@ -16,7 +16,7 @@ arguments on and reads answers, and adds no rule of its own. How a case is laid 
 docs/SPECIFICATION.md. Elements, states and formulas are numbers from 0, models are 1 and 2.
 
     Desk(case)      a desk with an accepted case; its calls are methods
-    Valued          a formula's element with its Facts, which say from which round on a table covers the formula
+    FormulaValue    a formula's element with its Facts, which say from which round on a table covers the formula
     listing(case)   the whole result as text, without a desk
     Refused         the exception by which a call says that it is refused
     VERSION         the library's version
@@ -97,7 +97,7 @@ _FUNCTIONS = {
 _STRUCTS = {"standing": Standing, "answer": _Answer, "moved": _Moved, "shown": _Shown, "desk_sizes": _DeskSizes}
 
 # Kinds of answers, and what step calls its own.
-_REFUSED, _VALUED = 0, 9
+_REFUSED, _FORMULA_VALUE = 0, 9
 _STEPS = {2: "row", 3: "round", 4: "settled"}
 
 
@@ -162,7 +162,7 @@ class Facts(NamedTuple):
         return "settled" if self.fixpoint else self.nesting + 1
 
 
-class Valued(NamedTuple):
+class FormulaValue(NamedTuple):
     """What value and whole answer: the formula's element, and the facts that say which tables cover the formula."""
 
     element: int
@@ -183,8 +183,8 @@ def _accepted(answer):
     """The value of an answer, with the formula's facts where it has them; raises Refused."""
     if answer.kind == _REFUSED:
         raise Refused(answer.number, answer.part)
-    if answer.kind == _VALUED:
-        return Valued(answer.value, Facts(answer.byte, answer.flag1, answer.flag2))
+    if answer.kind == _FORMULA_VALUE:
+        return FormulaValue(answer.value, Facts(answer.byte, answer.flag1, answer.flag2))
     return answer.value
 
 
@@ -252,11 +252,11 @@ class Desk:
         return [list(table[i : i + columns]) for i in range(0, len(table), columns)]
 
     def value(self, formula, model, state):
-        """A formula's element at a state of model 1 or 2, and its facts, as a Valued; refused with 13."""
+        """A formula's element at a state of model 1 or 2, and its facts, as a FormulaValue; refused with 13."""
         return self._asked(_library.koelchair_value, _byte(formula), _byte(model), _byte(state))
 
     def whole(self, formula, model):
-        """A formula's element on the whole of model 1 or 2, and its facts, as a Valued; refused with 13."""
+        """A formula's element on the whole of model 1 or 2, and its facts, as a FormulaValue; refused with 13."""
         return self._asked(_library.koelchair_whole, _byte(formula), _byte(model))
 
     def score(self):

@@ -1,5 +1,5 @@
 -- Formula f and model m of an accepted case, as parts of its bytes: for the proofs of the code that values them. Rests on Case, Refused and
--- casefile's Caller.
+-- casefile's Caller, and on formula's Answer.
 --   FormulaOnModel: what valuing formula f on model m asks of a case; parts-formula-on-model: an accepted case fulfils it
 --   ModelPart, model-part: part m of an accepted case is model m of its content; model-valued: its values are elements; formula-part: part 3 + f is read as formula f
 use Prim.Native.Nat.{ℕ, _+_, _≤_, _<_}

@@ -1,7 +1,7 @@
 -- Demand 2, of the desk after every list of calls with an accepted opening in it. Rests on Run, and for the proof on Demand3Holds, Listed,
 -- RefusedLaws, theory's Rounds and Fixpoint.
 --   Demand2: the settled table is the greatest latticed simulation (settled-table), and values are those of the latticed mu-calculus: what the
---     calls answer (values, wholes; beside the value the facts of the formula), that there is this calculus (calculus-is), and every closed formula's values (values-are)
+--     calls answer (values, wholes), with the formula's facts, that there is this calculus (calculus-is), and every closed formula's values (values-are)
 --   demand2: the demand holds after every such list
 --   is-calculus, value-of: the last two, of any content that is sound; value-asked, whole-asked: the answers, of any desk where they are accepted
 use Prim.Native.Nat.{ℕ, _<_}
@@ -43,14 +43,14 @@ pub record Demand2 (c : Content) (d : Desk) : Type 0 where
   -- 'Formula values are those of the latticed mu-calculus': u is whatever function gives these, and a closed formula has no outer
   -- variables, so that any values of these will do
   pub values : (f m q : ℕ) → accepted (Call.Ask (Question.Value f m q)) d ≡ true → (u : Formula → (ℕ → ℕ → ℕ) → ℕ → ℕ) → Calculus (ops c) (modelIn c m) u
-      → asked (Question.Value f m q) d ≡ Reply.Valued (u (formulaIn c f) (λ v i. ops c .bot) q) (factsOf (formulaIn c f))
+      → asked (Question.Value f m q) d ≡ Reply.FormulaValue (u (formulaIn c f) (λ v i. ops c .bot) q) (factsOf (formulaIn c f))
   -- there is such a function, and every closed formula over the case's propositions, in the case or not, has these values
   pub calculus-is : (m : ℕ) → Calculus (ops c) (modelIn c m) (eval (ops c) (modelIn c m) (enough (ops c) (modelIn c m)))
   pub values-are : (m : ℕ) (φ : Formula) → closed φ ≡ true → overProps (model1 c .propositions) φ ≡ true → (u : Formula → (ℕ → ℕ → ℕ) → ℕ → ℕ)
       → Calculus (ops c) (modelIn c m) u → SameMap (ops c) (modelIn c m) (valueAt (ops c) (modelIn c m) φ) (u φ (λ v i. ops c .bot))
   -- 'A formula's value on a whole model is the meet over q of Q0(q) → value at q'
   pub wholes : (f m : ℕ) → accepted (Call.Ask (Question.Whole f m)) d ≡ true → (u : Formula → (ℕ → ℕ → ℕ) → ℕ → ℕ) → Calculus (ops c) (modelIn c m) u
-      → asked (Question.Whole f m) d ≡ Reply.Valued (bigMeet (ops c) (modelIn c m .states) (λ q. imp (ops c) (modelIn c m .initial q) (u (formulaIn c f) (λ v i. ops c .bot) q))) (factsOf (formulaIn c f))
+      → asked (Question.Whole f m) d ≡ Reply.FormulaValue (bigMeet (ops c) (modelIn c m .states) (λ q. imp (ops c) (modelIn c m .initial q) (u (formulaIn c f) (λ v i. ops c .bot) q))) (factsOf (formulaIn c f))
 
 -- ==== the proof
 
@@ -91,21 +91,25 @@ module _ (c : Content) (h : ContentSound c) where
       let p = formula-part (model1 c .propositions) _ (formulaIn c f) (h .formulas .each f k) in
       value-of m (formulaIn c f) (p .is-closed) (p .props) u a
 
-pub value-asked : (f m q : ℕ) (d : Desk) (c : Content) → examined (Call.Ask (Question.Value f m q)) d ≡ content c → (u : Formula → (ℕ → ℕ → ℕ) → ℕ → ℕ) → Calculus (ops c) (modelIn c m) u → asked (Question.Value f m q) d ≡ Reply.Valued (u (formulaIn c f) (λ v i. ops c .bot) q) (factsOf (formulaIn c f))
+-- a value of formula f, with its facts
+abbrev withFacts : Content → ℕ → ℕ → Reply
+withFacts c f x = Reply.FormulaValue x (factsOf (formulaIn c f))
+
+pub value-asked : (f m q : ℕ) (d : Desk) (c : Content) → examined (Call.Ask (Question.Value f m q)) d ≡ content c → (u : Formula → (ℕ → ℕ → ℕ) → ℕ → ℕ) → Calculus (ops c) (modelIn c m) u → asked (Question.Value f m q) d ≡ Reply.FormulaValue (u (formulaIn c f) (λ v i. ops c .bot) q) (factsOf (formulaIn c f))
 unfolding answer
 value-asked f m q d c e u a =
     let k = other-accepted (Call.Ask (Question.Value f m q)) d c refl e in
     let i = range-exactly (Question.Value f m q) (viewOf c d) .0 (k .range) in
-    ap (λ x. x .reply) (perform-accepted (Call.Ask (Question.Value f m q)) d c e) ∙ ap (λ (e : ℕ). Reply.Valued e (factsOf (formulaIn c f))) (value-by c (content-sound (take 24576 (d .store)) c (k .held .rules .reads)) f m (i .0) u a q (i .1 .1 .0))
+    ap (λ x. x .reply) (perform-accepted (Call.Ask (Question.Value f m q)) d c e) ∙ ap (withFacts c f) (value-by c (content-sound (take 24576 (d .store)) c (k .held .rules .reads)) f m (i .0) u a q (i .1 .1 .0))
 
 -- 'A formula's value on a whole model is the meet over q of Q0(q) → value at q'
-pub whole-asked : (f m : ℕ) (d : Desk) (c : Content) → examined (Call.Ask (Question.Whole f m)) d ≡ content c → (u : Formula → (ℕ → ℕ → ℕ) → ℕ → ℕ) → Calculus (ops c) (modelIn c m) u → asked (Question.Whole f m) d ≡ Reply.Valued (bigMeet (ops c) (modelIn c m .states) (λ q. imp (ops c) (modelIn c m .initial q) (u (formulaIn c f) (λ v i. ops c .bot) q))) (factsOf (formulaIn c f))
+pub whole-asked : (f m : ℕ) (d : Desk) (c : Content) → examined (Call.Ask (Question.Whole f m)) d ≡ content c → (u : Formula → (ℕ → ℕ → ℕ) → ℕ → ℕ) → Calculus (ops c) (modelIn c m) u → asked (Question.Whole f m) d ≡ Reply.FormulaValue (bigMeet (ops c) (modelIn c m .states) (λ q. imp (ops c) (modelIn c m .initial q) (u (formulaIn c f) (λ v i. ops c .bot) q))) (factsOf (formulaIn c f))
 unfolding answer wholeValue
 whole-asked f m d c e u a =
     let k = other-accepted (Call.Ask (Question.Whole f m)) d c refl e in
     let i = range-exactly (Question.Whole f m) (viewOf c d) .0 (k .range) in
     ap (λ x. x .reply) (perform-accepted (Call.Ask (Question.Whole f m)) d c e)
-    ∙ ap (λ (e : ℕ). Reply.Valued e (factsOf (formulaIn c f))) (bigMeet-cong (ops c) (modelIn c m .states) _ _ (λ q l. ap (imp (ops c) (modelIn c m .initial q)) (value-by c (content-sound (take 24576 (d .store)) c (k .held .rules .reads)) f m (i .0) u a q l)))
+    ∙ ap (withFacts c f) (bigMeet-cong (ops c) (modelIn c m .states) _ _ (λ q l. ap (imp (ops c) (modelIn c m .initial q)) (value-by c (content-sound (take 24576 (d .store)) c (k .held .rules .reads)) f m (i .0) u a q l)))
 
 -- ---- the two together
 

@@ -1,5 +1,5 @@
 -- Demand 3: one claim about every list of calls from any desk, refused ones included, with an accepted opening in it. Rests on Run.
---   FactsAnswered: value or whole answered these facts of a formula
+--   FactsAnswered: value or whole answered these facts of a formula; BoundedBy: the shown entries bound a formula; Covers: when this is promised
 --   Claim: the claim, a field for each part of it; Demand3: there are a last accepted opening and a T of which it holds
 -- Demand3Holds proves it.
 use Prim.Native.Nat.{ℕ, _+_, _*_, _-_, _%_, _≤_, _<_}
@@ -24,8 +24,8 @@ use Rattle.desk.specs.Run.{run, LastOpening, answersSince, roundAfter, a
 
 -- 'Value and whole pass these three on with the element' (request 102): one of them, on the desk d, answered x of formula f
 pub data FactsAnswered (d : Desk) (f : ℕ) (x : FormulaFacts) : Type 0 where
-  by-value : (m q e : ℕ) → asked (Question.Value f m q) d ≡ Reply.Valued e x → FactsAnswered d f x
-  by-whole : (m e : ℕ) → asked (Question.Whole f m) d ≡ Reply.Valued e x → FactsAnswered d f x
+  by-value : (m q e : ℕ) → asked (Question.Value f m q) d ≡ Reply.FormulaValue e x → FactsAnswered d f x
+  by-whole : (m e : ℕ) → asked (Question.Whole f m) d ≡ Reply.FormulaValue e x → FactsAnswered d f x
 
 -- c is what the case holds, `answers` are those of the accepted steps since it was opened, d is the desk after the list
 module _ (c : Content) (T : ℕ) (answers : List Reply) (d : Desk) where
@@ -44,11 +44,11 @@ module _ (c : Content) (T : ℕ) (answers : List Reply) (d : Desk) where
   Below = AtMostTable (ops c) (model1 c) (model2 c)
 
   -- 'A pair's entry is at most "not the formula's value at the pair's state of model 2, joined with its value at the pair's state of model 1"'
-  abbrev BoundedBy : Formula → Type 0
+  abbrev pub BoundedBy : Formula → Type 0
   BoundedBy φ = Bounds (ops c) (model1 c) (model2 c) (shownTable c d) (valueAt (ops c) (model1 c) φ) (valueAt (ops c) (model2 c) φ)
 
-  -- the conditions of that sentence, of a formula with the facts x: no EX, and either no fixpoint and fewer than r nested AX, or r = T
-  abbrev Covers : FormulaFacts → Type 0
+  -- the conditions under which demand 3 promises it, of a formula with the facts x: no EX, and either no fixpoint and fewer than r nested AX, or r = T
+  abbrev pub Covers : FormulaFacts → Type 0
   Covers x = (x .ex ≡ false) × (((x .fixpoint ≡ false) × (x .nesting < r)) ⊎ (r ≡ T))
 
   pub record Claim : Type 0 where
@@ -68,7 +68,8 @@ module _ (c : Content) (T : ℕ) (answers : List Reply) (d : Desk) where
     -- 'for every closed universal formula without fixpoints and with fewer than r nested AX, and once r = T for every closed universal formula'
     pub bounded-by-round : (φ : Formula) → UniversalSentence (model1 c .propositions) φ → fixpointFree φ ≡ true → nestedAX φ < r → BoundedBy φ
     pub bounded-at-T : r ≡ T → (φ : Formula) → UniversalSentence (model1 c .propositions) φ → BoundedBy φ
-    -- request 102: whether the shown entries bound a formula of the case is seen from the facts that value or whole answered of it
+    -- request 102: that the shown entries bound a formula of the case is known from the facts that value or whole answers of it. By
+    -- `question-next` these are the same after every list with this last accepted opening, so that one answer serves for all later rounds.
     pub covered : (f : ℕ) (x : FormulaFacts) → FactsAnswered d f x → Covers x → BoundedBy (formulaIn c f)
     -- 'T is at most N1·N2·(h − 1) + 1, h being the number of elements in the lattice's longest chain'; there is such an h
     pub h-exists : (h : ℕ) × LongestChain (ops c) h

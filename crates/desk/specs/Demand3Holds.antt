@@ -1,18 +1,19 @@
--- Demand 3 holds. Rests on Demand3, Listed, Next, Stands, RefusedLaws, and theory's Rounds, Preservation, Height and Sharp.
+-- Demand 3 holds. Rests on Demand3, Listed, Next, Stands, RefusedLaws, formula's RoundTrip, and theory's Rounds, Preservation, Height and Sharp.
 --   demand3: every list of calls with an accepted opening in it has the demand; listed: the claim holds for whatever last accepted opening and T
---   claimed: the claim from the invariant; T-most-sharp: another limit of T
+--   claimed: the claim from the invariant; facts-own, covered-shown: the facts that value and whole answer, and the bound that follows; T-most-sharp:
+--   another limit of T
 --   ranges, asked-next; value-next, whole-next, score-next, share-next, judge-yes, judge-no: what it says of the questions one by one
 use Prim.Native.Nat.{ℕ, suc, _+_, _-_, _≤_, _<_}
 use mathlib.Core.Path.{_≡_, refl, sym, ap, _∙_, subst}
 use mathlib.Core.Bool.{Bool, true, false}
-use mathlib.Core.Logic.{_⊎_, inl, inr, _↔_}
+use mathlib.Core.Logic.{⊎-elim, _↔_}
 use mathlib.Core.List.{List, _∷_}
 use native.Mathlib.Omega.{arith}
 use borrow.Author.Tests.{not-false}
 use lib.ListN.{length, getD}
 use Rattle.theory.specs.Value.{valueAt, wholeValue}
 use Rattle.theory.specs.Formula.{Formula, fixpointFree, nestedAX, UniversalSentence}
-use Rattle.theory.specs.Simulation.{Bounds, Simulation, score, share}
+use Rattle.theory.specs.Simulation.{Simulation, score, share}
 use Rattle.theory.specs.Height.{longest-chain}
 use Rattle.theory.specs.Rounds.{T-at-most, settled-greatest, below-rounds, fixed-below, F-mono}
 use Rattle.theory.specs.Preservation.{bounded-by-round, bounded-at-T}
@@ -31,7 +32,7 @@ use Rattle.desk.specs.Desk.{Desk, Question, Call, Reply}
 use Rattle.desk.specs.Case.{ops, model1, model2, N2, tableSize, modelIn, formulaIn, operator, roundIn, IsT, entryAt}
 use Rattle.desk.specs.Refused.{InRange, accepted, numberReply}
 use Rattle.desk.specs.Moved.{opened}
-use Rattle.desk.specs.View.{View, shownTable}
+use Rattle.desk.specs.View.{View}
 use Rattle.desk.specs.Perform.{perform, asked, answerTo, moved}
 use Rattle.desk.specs.Run.{run, openings, LastOpening, answersSince, roundAfter, answerAfter, viewAfter}
 use Rattle.desk.specs.RefusedLaws.{perform-refused, perform-accepted, refused-refusal, OpenAccepted, open-long, open-accepted}
@@ -39,33 +40,33 @@ use Rattle.desk.specs.RulesLaws.{spoiled-exactly}
 use Rattle.desk.specs.Stands.{known-sound, Stands, opening-starts}
 use Rattle.desk.specs.Next.{at, stands-unspoiled, never-11-or-12, ranges-are, shows, below-shown, shown-below, show-is, answered-from}
 use Rattle.desk.specs.Listed.{run-append, last-opening, opening-T, Since, since}
-use Rattle.desk.specs.Demand3.{FactsAnswered, by-value, by-whole, Claim, Demand3}
+use Rattle.desk.specs.Demand3.{FactsAnswered, by-value, by-whole, BoundedBy, Covers, Claim, Demand3}
 
 -- ---- the bounds, and the facts that value and whole answer
 
-valued-accepted : (q : Question) (d : Desk) (e : ℕ) (x : FormulaFacts) → asked q d ≡ Reply.Valued e x → accepted (Call.Ask q) d ≡ true
+valued-accepted : (q : Question) (d : Desk) (e : ℕ) (x : FormulaFacts) → asked q d ≡ Reply.FormulaValue e x → accepted (Call.Ask q) d ≡ true
 valued-accepted q d e x p = not-failed _ (λ a. let r = refused-refusal (Call.Ask q) d a in never (r .0) (sym (ap (λ y. y .reply) (perform-refused (Call.Ask q) d (r .0) (r .1))) ∙ p))
   where
-    never : (r : Refusal) → numberReply r ≡ Reply.Valued e x → ⊥
+    never : (r : Refusal) → numberReply r ≡ Reply.FormulaValue e x → ⊥
     never r h = let z : _≡_ {A = ℕ} 0 1 = cc in omega arith
 
-module _ {c : Content} {T s : ℕ} {d : Desk} (w : Stands c T s d) where
-  abbrev Bounded : Formula → Type 0
-  Bounded φ = Bounds (ops c) (model1 c) (model2 c) (shownTable c d) (valueAt (ops c) (model1 c) φ) (valueAt (ops c) (model2 c) φ)
+module _ {c : Content} {T : ℕ} (answers : List Reply) (d : Desk) (w : Stands c T (length answers) d) where
+  abbrev view-now : View
+  view-now = viewAfter c T (length answers)
 
-  shown-by-round : (φ : Formula) → UniversalSentence (model1 c .propositions) φ → fixpointFree φ ≡ true → nestedAX φ < roundAfter c T s → Bounded φ
-  shown-by-round φ u x l = shown-below w _ (bounded-by-round (known-sound (w .known) .laws) (model1 c) (model2 c) φ u x (roundAfter c T s) l)
+  shown-by-round : (φ : Formula) → UniversalSentence (model1 c .propositions) φ → fixpointFree φ ≡ true → nestedAX φ < roundAfter c T (length answers) → BoundedBy c T answers d φ
+  shown-by-round φ u x l = shown-below w _ (bounded-by-round (known-sound (w .known) .laws) (model1 c) (model2 c) φ u x (roundAfter c T (length answers)) l)
 
-  shown-at-T : roundAfter c T s ≡ T → (φ : Formula) → UniversalSentence (model1 c .propositions) φ → Bounded φ
+  shown-at-T : roundAfter c T (length answers) ≡ T → (φ : Formula) → UniversalSentence (model1 c .propositions) φ → BoundedBy c T answers d φ
   shown-at-T z φ u = shown-below w _ (rw z (bounded-at-T (known-sound (w .known) .laws) (model1 c) (model2 c) T (w .known .isT) φ u))
 
   -- from a question about formula f that answers facts: there is such a formula, and they are its own
-  from-question : (q : Question) (f y e : ℕ) (x : FormulaFacts) → asked q d ≡ Reply.Valued e x → (InRange q (viewAfter c T s) → f < length (c .formulas)) → answerTo q (viewAfter c T s) .reply ≡ Reply.Valued y (factsOf (formulaIn c f))
-      → (f < length (c .formulas)) × (x ≡ factsOf (formulaIn c f))
+  from-question : (q : Question) (f y e : ℕ) (x : FormulaFacts) → asked q d ≡ Reply.FormulaValue e x → (InRange q view-now → f < length (c .formulas))
+      → answerTo q view-now .reply ≡ Reply.FormulaValue y (factsOf (formulaIn c f)) → (f < length (c .formulas)) × (x ≡ factsOf (formulaIn c f))
   from-question q f y e x p l h =
       let n = answered-from w q in
       let i = n .accepts .0 (valued-accepted q d e x p) in
-      let z : Reply.Valued e x ≡ Reply.Valued y (factsOf (formulaIn c f)) = sym p ∙ ap (λ b. b .reply) (n .answers i) ∙ h in
+      let z : Reply.FormulaValue e x ≡ Reply.FormulaValue y (factsOf (formulaIn c f)) = sym p ∙ ap (λ b. b .reply) (n .answers i) ∙ h in
       (l i, cc)
 
   facts-own : (f : ℕ) (x : FormulaFacts) → FactsAnswered d f x → (f < length (c .formulas)) × (x ≡ factsOf (formulaIn c f))
@@ -78,19 +79,11 @@ module _ {c : Content} {T s : ℕ} {d : Desk} (w : Stands c T s d) where
       let p = formula-part (model1 c .propositions) _ (formulaIn c f) (known-sound (w .known) .formulas .each f l) in
       record { isClosed = p .is-closed; isUniversal = not-false _ (ap (λ (y : FormulaFacts). y .ex) (sym h) ∙ e); isOver = p .props }
 
-  covered-shown : (f : ℕ) (x : FormulaFacts) → FactsAnswered d f x → (x .ex ≡ false) × (((x .fixpoint ≡ false) × (x .nesting < roundAfter c T s)) ⊎ (roundAfter c T s ≡ T))
-      → Bounded (formulaIn c f)
-  covered-shown f x a h = go (h .1)
-    where
-      own : (f < length (c .formulas)) × (x ≡ factsOf (formulaIn c f))
-      own = facts-own f x a
-
-      u : UniversalSentence (model1 c .propositions) (formulaIn c f)
-      u = sentence f x (own .0) (own .1) (h .0)
-
-      go : ((x .fixpoint ≡ false) × (x .nesting < roundAfter c T s)) ⊎ (roundAfter c T s ≡ T) → Bounded (formulaIn c f)
-      go (inl l) = shown-by-round (formulaIn c f) u (not-false _ (ap (λ (y : FormulaFacts). y .fixpoint) (sym (own .1)) ∙ l .0)) (rw (own .1) at (l .1))
-      go (inr z) = shown-at-T z (formulaIn c f) u
+  covered-shown : (f : ℕ) (x : FormulaFacts) → FactsAnswered d f x → Covers c T answers d x → BoundedBy c T answers d (formulaIn c f)
+  covered-shown f x a h =
+      let own = facts-own f x a in
+      let u = sentence f x (own .0) (own .1) (h .0) in
+      ⊎-elim (λ l. shown-by-round (formulaIn c f) u (not-false _ (ap (λ (y : FormulaFacts). y .fixpoint) (sym (own .1)) ∙ l .0)) (rw (own .1) at (l .1))) (λ z. shown-at-T z (formulaIn c f) u) (h .1)
 
 module _ {c : Content} {T : ℕ} where
   pub claimed : (answers : List Reply) (d : Desk) → Stands c T (length answers) d → ((i : ℕ) → i < length answers → getD answers i Reply.Row ≡ answerAfter c T (suc i)) → Claim c T answers d
@@ -106,9 +99,9 @@ module _ {c : Content} {T : ℕ} where
         store-holds = stands-unspoiled w .rules .reads;
         shown-is = shows w;
         above = λ G g. below-shown w G (below-rounds L (model1 c) (model2 c) G (fixed-below L (model1 c) (model2 c) (operator c) (λ S U. F-mono L (model1 c) (model2 c)) G (g .isFixed)) (roundAfter c T (length answers)));
-        bounded-by-round = shown-by-round w;
-        bounded-at-T = shown-at-T w;
-        covered = covered-shown w;
+        bounded-by-round = shown-by-round answers d w;
+        bounded-at-T = shown-at-T answers d w;
+        covered = covered-shown answers d w;
         T-greatest = settled-greatest L (model1 c) (model2 c) T (w .known .isT);
         h-exists = (h .0, h .2);
         T-most = λ n l. T-at-most L (model1 c) (model2 c) n l T (w .known .isT);
@@ -136,11 +129,11 @@ module _ {c : Content} {T : ℕ} {answers : List Reply} {d : Desk} (w : Claim c 
   asked-next q a = ap (λ x. x .reply) (w .question-next q .answers (ranges q .0 a))
 
   pub value-next : (f m q : ℕ) → accepted (Call.Ask (Question.Value f m q)) d ≡ true
-      → asked (Question.Value f m q) d ≡ Reply.Valued (valueAt (ops c) (modelIn c m) (formulaIn c f) q) (factsOf (formulaIn c f))
+      → asked (Question.Value f m q) d ≡ Reply.FormulaValue (valueAt (ops c) (modelIn c m) (formulaIn c f) q) (factsOf (formulaIn c f))
   value-next f m q a = asked-next (Question.Value f m q) a
 
   pub whole-next : (f m : ℕ) → accepted (Call.Ask (Question.Whole f m)) d ≡ true
-      → asked (Question.Whole f m) d ≡ Reply.Valued (wholeValue (ops c) (modelIn c m) (formulaIn c f)) (factsOf (formulaIn c f))
+      → asked (Question.Whole f m) d ≡ Reply.FormulaValue (wholeValue (ops c) (modelIn c m) (formulaIn c f)) (factsOf (formulaIn c f))
   whole-next f m a = asked-next (Question.Whole f m) a
 
   pub score-next : asked Question.Score d ≡ Reply.Element (score (ops c) (model1 c) (model2 c) (roundIn c (roundAfter c T (length answers))))

@@ -1,5 +1,5 @@
 -- Two examples of document 01 by computation: calls from a desk of zeros, and their answers. Rests on Run and casefile's Examples.
---   zeros, AnswersAs: the desk, and that the calls of a list answer as it says
+--   zeros, AnswersAs: the desk, and that the calls of a list answer as it says; nested: the facts of their formulas
 --   calls1; example4, calls4: the calls of worked examples 1 and 4, and the case of the latter; examples-answer: they answer so
 --   refused-show: what a refused show answers
 use Prim.Native.Nat.{ℕ}
@@ -56,8 +56,8 @@ calls1 =
     ∷ (Call.Step, Reply.Settled 2)
     ∷ (Call.Show, Reply.Shown (1 ∷ []))
     ∷ (Call.Ask Question.Score, Reply.Element 1)
-    ∷ (Call.Ask (Question.Whole 0 1), Reply.Valued 1 (nested 0))
-    ∷ (Call.Ask (Question.Whole 0 2), Reply.Valued 1 (nested 0))
+    ∷ (Call.Ask (Question.Whole 0 1), Reply.FormulaValue 1 (nested 0))
+    ∷ (Call.Ask (Question.Whole 0 2), Reply.FormulaValue 1 (nested 0))
     ∷ []
 
 -- worked example 4 with AX of not-p: 'Round 1 is 1 0 / 0 0, round 2 all 0, T = 3. AX of not-p has value 1 at state 0 of model 2 and 0 in
@@ -86,8 +86,8 @@ calls4 =
     ∷ (Call.Step, Reply.Round 1)
     ∷ (Call.Show, Reply.Shown (1 ∷ 0 ∷ 0 ∷ 0 ∷ []))
     ∷ (Call.Ask (Question.Share 1), Reply.PerCent 25)
-    ∷ (Call.Ask (Question.Value 0 2 0), Reply.Valued 1 (nested 1))
-    ∷ (Call.Ask (Question.Value 0 1 0), Reply.Valued 0 (nested 1))
+    ∷ (Call.Ask (Question.Value 0 2 0), Reply.FormulaValue 1 (nested 1))
+    ∷ (Call.Ask (Question.Value 0 1 0), Reply.FormulaValue 0 (nested 1))
     ∷ (Call.Ask (Question.Value 1 1 0), Reply.Refused 13 255)
     ∷ (Call.Ask (Question.Value 0 0 0), Reply.Refused 13 255)
     ∷ (Call.Ask (Question.Value 0 1 2), Reply.Refused 13 255)
@@ -98,7 +98,7 @@ calls4 =
     ∷ (Call.Step, Reply.Settled 3)
     ∷ (Call.Step, Reply.Settled 3)
     ∷ (Call.Ask Question.Score, Reply.Element 0)
-    ∷ (Call.Ask (Question.Whole 0 2), Reply.Valued 1 (nested 1))
+    ∷ (Call.Ask (Question.Whole 0 2), Reply.FormulaValue 1 (nested 1))
     ∷ (Call.Ask (Question.Judge (0 ∷ 0 ∷ 0 ∷ 0 ∷ [])), Reply.Says true)
     ∷ (Call.Ask (Question.Judge (1 ∷ 0 ∷ 0 ∷ 0 ∷ [])), Reply.Says false)
     ∷ (Call.Ask (Question.Judge (2 ∷ 0 ∷ 0 ∷ 0 ∷ [])), Reply.Refused 13 255)

@@ -23,8 +23,8 @@ use Rattle.desk.specs.Moved.{opened, stepped, stepAnswer}
 -- facts (request 102); score and share are those of the shown entries; 'judge (..) says yes exactly when it is a simulation'
 abbrev pub answerTo : Question → View → Answered
 answerTo Question.Score v = replyAlone (Reply.Element (score (ops (v .holds)) (model1 (v .holds)) (model2 (v .holds)) (v .shown)))
-answerTo (Question.Value f m q) v = replyAlone (Reply.Valued (valueAt (ops (v .holds)) (modelIn (v .holds) m) (formulaIn (v .holds) f) q) (factsOf (formulaIn (v .holds) f)))
-answerTo (Question.Whole f m) v = replyAlone (Reply.Valued (wholeValue (ops (v .holds)) (modelIn (v .holds) m) (formulaIn (v .holds) f)) (factsOf (formulaIn (v .holds) f)))
+answerTo (Question.Value f m q) v = replyAlone (Reply.FormulaValue (valueAt (ops (v .holds)) (modelIn (v .holds) m) (formulaIn (v .holds) f) q) (factsOf (formulaIn (v .holds) f)))
+answerTo (Question.Whole f m) v = replyAlone (Reply.FormulaValue (wholeValue (ops (v .holds)) (modelIn (v .holds) m) (formulaIn (v .holds) f)) (factsOf (formulaIn (v .holds) f)))
 answerTo (Question.Share e) v = replyAlone (Reply.PerCent (share (ops (v .holds)) (tableSize (v .holds)) (entryAt (v .holds) (v .shown)) e))
 answerTo (Question.Judge t) v =
     replyAlone (Reply.Says (simulationTest (model1 (v .holds)) (model2 (v .holds)) (operator (v .holds)) (tableOf t (N2 (v .holds)))))

@@ -31,7 +31,7 @@ elementReply (element.Is e) = Reply.Element (e .0)
 
 abbrev pub valueReply : ValueAnswer → Reply
 valueReply (value.Refused r) = numberReply r
-valueReply (value.Is e x) = Reply.Valued (e .0) x
+valueReply (value.Is e x) = Reply.FormulaValue (e .0) x
 
 abbrev pub shareReply : ShareAnswer → Reply
 shareReply (share.Refused r) = numberReply r

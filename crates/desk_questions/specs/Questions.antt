@@ -154,7 +154,7 @@ module _ {d : Desk} {z : Sizes} {w : List ℕ} (h : HeldDesk d z w) where
   pub formula-on-model : (f m : ℕ) → rangeTest f m (z .formulas) ≡ true → FormulaOnModel bytes f m
   formula-on-model f m r = parts-formula-on-model (h .case) f m (formula-of f m r) (model-of f m r)
 
-  pub held-whole : (f m x : ℕ) (i : FormulaFacts) → rangeTest f m (z .formulas) ≡ true → WholeValue w (z .lattice) (partAt bytes m) (partAt bytes (3 + f)) x → FactsIn (getD (partAt bytes m) 1 0) (partAt bytes (3 + f)) i → Does (Call.Ask (Question.Whole f m)) d (Reply.Valued x i) d
+  pub held-whole : (f m x : ℕ) (i : FormulaFacts) → rangeTest f m (z .formulas) ≡ true → WholeValue w (z .lattice) (partAt bytes m) (partAt bytes (3 + f)) x → FactsIn (getD (partAt bytes m) 1 0) (partAt bytes (3 + f)) i → Does (Call.Ask (Question.Whole f m)) d (Reply.FormulaValue x i) d
   held-whole f m x i r v p =
       let r' : rangeTest f m (length (h .case .holds .formulas)) ≡ true = rw (h .case .sizes) at r in
       rw (rw (model-is f m r, h .case .ops) at (v .is (formulaIn (h .case .holds) f) (formula-is f m r)), p .is (formulaIn (h .case .holds) f) (formula-is f m r))
@@ -168,7 +168,7 @@ module _ {d : Desk} {z : Sizes} {w : List ℕ} (h : HeldDesk d z w) where
   states-are : (f m : ℕ) → rangeTest f m (z .formulas) ≡ true → getD (partAt bytes m) 0 0 ≡ modelIn (h .case .holds) m .states
   states-are f m r = ap (λ (M : Model ℕ). M .states) (model-is f m r)
 
-  pub held-value : (f m q x : ℕ) (i : FormulaFacts) → rangeTest f m (z .formulas) ≡ true → ltb q (getD (partAt bytes m) 0 0) ≡ true → ValueAt w (z .lattice) (partAt bytes m) (partAt bytes (3 + f)) q x → FactsIn (getD (partAt bytes m) 1 0) (partAt bytes (3 + f)) i → Does (Call.Ask (Question.Value f m q)) d (Reply.Valued x i) d
+  pub held-value : (f m q x : ℕ) (i : FormulaFacts) → rangeTest f m (z .formulas) ≡ true → ltb q (getD (partAt bytes m) 0 0) ≡ true → ValueAt w (z .lattice) (partAt bytes m) (partAt bytes (3 + f)) q x → FactsIn (getD (partAt bytes m) 1 0) (partAt bytes (3 + f)) i → Does (Call.Ask (Question.Value f m q)) d (Reply.FormulaValue x i) d
   held-value f m q x i r s v p =
       let r' : rangeTest f m (length (h .case .holds .formulas)) ≡ true = rw (h .case .sizes) at r in
       let s' : ltb q (modelIn (h .case .holds) m .states) ≡ true = rw (states-are f m r) at s in

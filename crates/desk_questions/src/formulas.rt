@@ -35,14 +35,14 @@ fn in_range(f: u8, m: u8, formulas: u8) -> bool
     m == 2
 }
 
-// The facts of formula f.
+// The facts of formula f, the propositions being those of model m.
 fn facts_of(bytes: &[u8], f: u8, m: u8) -> FormulaFacts
     requires { ⌜ FormulaOnModel (now bytes) f m ⌝ }
     ensures { λ r. ⌜ FactsIn (getD (partAt (now (bytes .entry)) m) 1 0) (partAt (now (bytes .entry)) (3 + f)) r ⌝ }
 {
     let model = casefile::part(bytes, m);
     let formula = casefile::part(bytes, 3 + f);
-    formula::facts(formula, model[1])
+    formula_reader::facts(formula, model[1])
 }
 
 fn whole_of(w: &Codes, l: Lattice, bytes: &[u8], f: u8, m: u8) -> Element

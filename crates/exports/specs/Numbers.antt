@@ -26,7 +26,7 @@ use Rattle.exports.specs.declared.DeskSizes.{DeskSizes}
 abbrev pub yesNo : Bool → ℕ
 yesNo b = cond b 1 0
 
--- an answer of this kind, refusal and value; byte, second and the flags, which these kinds do not use, are 0 and false
+-- an answer of this kind, refusal and value; byte, second and the flags are 0 and false, as in every kind but 9
 abbrev pub answered : ℕ → ℕ → ℕ → ℕ → Answer
 answered kind number part value =
     record { kind = kind; number = number; part = part; byte = 0; value = value; second = 0; flag1 = false; flag2 = false }
@@ -35,17 +35,17 @@ answered kind number part value =
 abbrev pub given : ℕ → ℕ → Answer
 given kind value = answered kind 0 0 value
 
--- | reply         | kind | number | part | byte       | value        | flag1       | flag2 |
--- |---------------|------|--------|------|------------|--------------|-------------|-------|
--- | Refused n p   | 0    | n      | p    | 0          | 0            | false       | false |
--- | Opened        | 1    | 0      | 0    | 0          | 0            | false       | false |
--- | Row           | 2    | 0      | 0    | 0          | 0            | false       | false |
--- | Round r       | 3    | 0      | 0    | 0          | r            | false       | false |
--- | Settled T     | 4    | 0      | 0    | 0          | T            | false       | false |
--- | Element e     | 5    | 0      | 0    | 0          | e            | false       | false |
--- | PerCent p     | 6    | 0      | 0    | 0          | p            | false       | false |
--- | Says b        | 7    | 0      | 0    | 0          | 1 yes, 0 no  | false       | false |
--- | Valued e x    | 9    | 0      | 0    | x .nesting | e            | x .fixpoint | x .ex |
+-- | reply            | kind | number | part | byte       | value        | flag1       | flag2 |
+-- |------------------|------|--------|------|------------|--------------|-------------|-------|
+-- | Refused n p      | 0    | n      | p    | 0          | 0            | false       | false |
+-- | Opened           | 1    | 0      | 0    | 0          | 0            | false       | false |
+-- | Row              | 2    | 0      | 0    | 0          | 0            | false       | false |
+-- | Round r          | 3    | 0      | 0    | 0          | r            | false       | false |
+-- | Settled T        | 4    | 0      | 0    | 0          | T            | false       | false |
+-- | Element e        | 5    | 0      | 0    | 0          | e            | false       | false |
+-- | PerCent p        | 6    | 0      | 0    | 0          | p            | false       | false |
+-- | Says b           | 7    | 0      | 0    | 0          | 1 yes, 0 no  | false       | false |
+-- | FormulaValue e x | 9    | 0      | 0    | x .nesting | e            | x .fixpoint | x .ex |
 -- second is 0 in each of them.
 -- Shown has kind 8, which no export answers: what show gives is told by `named`.
 abbrev pub numbers : Reply → Answer
@@ -55,7 +55,7 @@ numbers Reply.Row = given 2 0
 numbers (Reply.Round r) = given 3 r
 numbers (Reply.Settled t) = given 4 t
 numbers (Reply.Element e) = given 5 e
-numbers (Reply.Valued e x) =
+numbers (Reply.FormulaValue e x) =
     record { kind = 9; number = 0; part = 0; byte = x .nesting; value = e; second = 0; flag1 = x .fixpoint; flag2 = x .ex }
 numbers (Reply.PerCent p) = given 6 p
 numbers (Reply.Says b) = given 7 (yesNo b)

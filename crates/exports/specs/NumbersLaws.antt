@@ -41,7 +41,7 @@ isShown (Reply.Round r) = false
 isShown (Reply.Settled t) = false
 isShown (Reply.Shown b) = true
 isShown (Reply.Element e) = false
-isShown (Reply.Valued e x) = false
+isShown (Reply.FormulaValue e x) = false
 isShown (Reply.PerCent p) = false
 isShown (Reply.Says b) = false
 
@@ -55,7 +55,7 @@ replyOf a =
     (cond (eqb (a .kind) 5) (Reply.Element (a .value))
     (cond (eqb (a .kind) 6) (Reply.PerCent (a .value))
     (cond (eqb (a .kind) 7) (Reply.Says (eqb (a .value) 1))
-    (cond (eqb (a .kind) 9) (Reply.Valued (a .value) (record { nesting = a .byte; fixpoint = a .flag1; ex = a .flag2 })) (Reply.Refused (a .number) (a .part)))))))))
+    (cond (eqb (a .kind) 9) (Reply.FormulaValue (a .value) (record { nesting = a .byte; fixpoint = a .flag1; ex = a .flag2 })) (Reply.Refused (a .number) (a .part)))))))))
 
 pub numbers-back : (x : Reply) → isShown x ≡ false → replyOf (numbers x) ≡ x
 numbers-back (Reply.Refused n p) e = refl
@@ -65,7 +65,7 @@ numbers-back (Reply.Round r) e = refl
 numbers-back (Reply.Settled t) e = refl
 numbers-back (Reply.Shown b) e = absurd (let z : _≡_ {A = ℕ} 0 1 = cc in omega arith)
 numbers-back (Reply.Element x) e = refl
-numbers-back (Reply.Valued x y) e = refl
+numbers-back (Reply.FormulaValue x y) e = refl
 numbers-back (Reply.PerCent p) e = refl
 numbers-back (Reply.Says b) e = go b
   where

@@ -78,7 +78,7 @@ pub fn element(a: ElementAnswer) -> Answer
     }
 }
 
-pub fn valued(a: ValueAnswer) -> Answer
+pub fn formula_value(a: ValueAnswer) -> Answer
     ensures { λ r. ⌜ r ≡ numbers (valueReply a) ⌝ }
 {
     match a {

@@ -2,9 +2,9 @@
 use crate::Answer;
 use crate::Shown;
 use crate::numbers::element;
+use crate::numbers::formula_value;
 use crate::numbers::judged;
 use crate::numbers::per_cent;
-use crate::numbers::valued;
 use desk_check::Standing;
 use elements::Element;
 use model::State;
@@ -55,7 +55,7 @@ pub extern "C" fn koelchair_value(
 ) -> Answer
     ensures { λ r. ⌜ AskedInNumbers (Question.Value formula model state) s (now (store .entry)) (now (first .entry)) (now (second .entry)) r ⌝ }
 {
-    valued(desk_questions::value(s, store, first, second, formula, model, State(state)))
+    formula_value(desk_questions::value(s, store, first, second, formula, model, State(state)))
 }
 
 // A formula's value on model 1 or 2, with its facts.
@@ -70,7 +70,7 @@ pub extern "C" fn koelchair_whole(
 ) -> Answer
     ensures { λ r. ⌜ AskedInNumbers (Question.Whole formula model) s (now (store .entry)) (now (first .entry)) (now (second .entry)) r ⌝ }
 {
-    valued(desk_questions::whole(s, store, first, second, formula, model))
+    formula_value(desk_questions::whole(s, store, first, second, formula, model))
 }
 
 // The score of the shown table.

@@ -7,7 +7,7 @@
 --   length-before: how many bytes stand before a place
 use Prim.Native.Nat.{ℕ, suc, max, _+_, _-_, _≤_}
 use mathlib.Core.Path.{_≡_, refl, sym, ap, _∙_}
-use mathlib.Core.Bool.{Bool, true, false, cond, not, _&&_, _||_, and-true, or-false, or-true}
+use mathlib.Core.Bool.{Bool, true, false, not, _&&_, _||_, and-true, or-false, or-true}
 use mathlib.Core.List.{List, _++_}
 use native.Mathlib.Nat.{add-zero}
 use native.Mathlib.Numerals.{add-one}
@@ -17,13 +17,13 @@ use lib.ListN.{length, drop, length-append, length-drop}
 use lib.Seq.{drop-drop, drop-at}
 use borrow.Author.Tests.{le-leb, lt-leb, leb-true}
 use Rattle.theory.specs.Formula.{Formula, bottom, top, prop, negated, var, or, and, AX, EX, mu, nu, closedUnder, overProps, nestedBinders, nestedAX, fixpointFree, universal}
-use Rattle.theory.specs.TestLaws.{and-l, and-r, and-in, and-false, bool-same}
+use Rattle.theory.specs.TestLaws.{and-l, and-r, and-in, and-false, not-and, bool-same}
 use Rattle.formula.specs.Bytes.{bytesOf, Parsed, parsed, unparsed, unary, binary, parse}
 use Rattle.formula.specs.RoundTrip.{bytes-parse}
 use Rattle.formula.specs.Answer.{factsOf}
 use Rattle.formula.specs.Check.{allowedUnder, endIf, endOf, twoFacts, nextFacts, fixpointFacts, mapFacts}
 use Rattle.formula.specs.declared.FormulaFacts.{FormulaFacts}
-use Rattle.formula.specs.declared.NodeFacts.{NodeFacts}
+use Rattle.formula.specs.declared.NodeRead.{NodeRead}
 use Rattle.formula.specs.declared.NodeEnd.{NodeEnd}
 use Rattle.formula.specs.declared.NodeEnd.the-variants.{At, Broken}
 
@@ -106,12 +106,8 @@ module _ (k d : ℕ) where
 
 -- ---- the facts, by the formula's shape
 
-not-both : (a b : Bool) → not (a && b) ≡ (not a || not b)
-not-both true b = refl
-not-both false b = refl
-
 joined-facts : (f g : Formula) → _≡_ {A = FormulaFacts} (record { nesting = max (nestedAX f) (nestedAX g); fixpoint = not (fixpointFree f && fixpointFree g); ex = not (universal f && universal g) }) (twoFacts (factsOf f) (factsOf g))
-joined-facts f g = rw (not-both (fixpointFree f) (fixpointFree g), not-both (universal f) (universal g))
+joined-facts f g = rw (not-and (fixpointFree f) (fixpointFree g), not-and (universal f) (universal g))
 
 pub facts-or : (f g : Formula) → factsOf (or f g) ≡ twoFacts (factsOf f) (factsOf g)
 unfolding nestedAX fixpointFree universal
@@ -139,13 +135,13 @@ facts-nu f = refl
 
 -- ---- the end of a formula and its facts, from those of its parts
 
-map-end : (h : FormulaFacts → FormulaFacts) (t : Bool) (i : ℕ) (x : FormulaFacts) → endIf t i (h x) ≡ mapFacts h (endIf t i x)
+map-end : (h : FormulaFacts → FormulaFacts) (t : Bool) (i : ℕ) (x : FormulaFacts) → mapFacts h (endIf t i x) ≡ endIf t i (h x)
 map-end h true i x = refl
 map-end h false i x = refl
 
 -- a formula of one part ends where its part does; h makes its facts from those of the part
 pub unary-end : (k d : ℕ) (g : Formula → Formula) (h : FormulaFacts → FormulaFacts) (d' n : ℕ) → ((a : Formula) → allowedUnder k d (g a) ≡ allowedUnder k d' a)
-    → ((a : Formula) → factsOf (g a) ≡ h (factsOf a)) → (p : Parsed) → endOf k d n (unary g p) ≡ mapFacts h (endOf k d' n p)
+    → ((a : Formula) → factsOf (g a) ≡ h (factsOf a)) → (p : Parsed) → mapFacts h (endOf k d' n p) ≡ endOf k d n (unary g p)
 unary-end k d g h d' n w v unparsed = refl
 unary-end k d g h d' n w v (parsed a t) = rw (w a, v a) (map-end h (allowedUnder k d' a) (n - length t) (factsOf a))
 
@@ -153,12 +149,12 @@ unary-broken : (k d : ℕ) (g : Formula → Formula) (n : ℕ) → ((a : Formula
 unary-broken k d g n w unparsed = refl
 unary-broken k d g n w (parsed a t) = rw (w a)
 
-pub never-at : (i : NodeFacts) → At i ≡ Broken → ⊥
+pub never-at : (i : NodeRead) → At i ≡ Broken → ⊥
 never-at i e = let z : _≡_ {A = ℕ} 0 1 = cc in omega arith
 
 -- an answer that is given under a test
-pub cond-at : (t : Bool) (i : NodeFacts) (j : ℕ) (x : FormulaFacts) → At i ≡ endIf t j x → (t ≡ true) × (i .end ≡ j) × (i .facts ≡ x)
-cond-at true i j x e = let s : i ≡ record { end = j; facts = x } = cc in (refl, ap (λ (y : NodeFacts). y .end) s, ap (λ (y : NodeFacts). y .facts) s)
+pub cond-at : (t : Bool) (i : NodeRead) (j : ℕ) (x : FormulaFacts) → At i ≡ endIf t j x → (t ≡ true) × (i .end ≡ j) × (i .facts ≡ x)
+cond-at true i j x e = let s : i ≡ record { end = j; facts = x } = cc in (refl, ap (λ (y : NodeRead). y .end) s, ap (λ (y : NodeRead). y .facts) s)
 cond-at false i j x e = absurd (never-at i e)
 
 pub cond-broken : (t : Bool) (j : ℕ) (x : FormulaFacts) → Broken ≡ endIf t j x → t ≡ false
@@ -177,16 +173,16 @@ rest-at b j front t l e =
 pub length-before : (b : List ℕ) (j : ℕ) → j ≤ length b → length b - length (drop j b) ≡ j
 length-before b j l = omega (arith, length-drop j b)
 
-module _ (b : List ℕ) (k d n j : ℕ) (l : j ≤ length b) (g : Formula → Formula → Formula) (w : (a c : Formula) → allowedUnder k d (g a c) ≡ (allowedUnder k d a && allowedUnder k d c)) (v : (a c : Formula) → factsOf (g a c) ≡ twoFacts (factsOf a) (factsOf c)) where
+module _ (b : List ℕ) (k d n j : ℕ) (l : j ≤ length b) (g : Formula → Formula → Formula) (w : (a c : Formula) → allowedUnder k d (g a c) ≡ (allowedUnder k d a && allowedUnder k d c)) where
   -- a formula of two parts ends where its second part does, which begins where the first ends
-  pub binary-end : (i : NodeFacts) (r : NodeEnd) (p : Parsed) → parse n (drop j b) ≡ p → At i ≡ endOf k d (length b) p → r ≡ endOf k d (length b) (parse n (drop (i .end) b))
+  pub binary-end : ((a c : Formula) → factsOf (g a c) ≡ twoFacts (factsOf a) (factsOf c)) → (i : NodeRead) (r : NodeEnd) (p : Parsed) → parse n (drop j b) ≡ p → At i ≡ endOf k d (length b) p → r ≡ endOf k d (length b) (parse n (drop (i .end) b))
       → mapFacts (twoFacts (i .facts)) r ≡ endOf k d (length b) (binary g (parse n) p)
-  binary-end i r unparsed q e h = absurd (never-at i e)
-  binary-end i r (parsed a t) q e h =
+  binary-end v i r unparsed q e h = absurd (never-at i e)
+  binary-end v i r (parsed a t) q e h =
       let s = cond-at (allowedUnder k d a) i (length b - length t) (factsOf a) e in
       let u : drop (i .end) b ≡ t = rw (s .1) (rest-at b j (bytesOf a) t l (bytes-parse n (drop j b) a t q)) in
       let z : (c : Formula) → factsOf (g a c) ≡ twoFacts (i .facts) (factsOf c) = λ c. v a c ∙ rw (s .2) in
-      rw (h, u) (sym (unary-end k d (g a) (twoFacts (i .facts)) d (length b) (λ c. w a c ∙ rw (s .0)) z (parse n t)))
+      rw (h, u) (unary-end k d (g a) (twoFacts (i .facts)) d (length b) (λ c. w a c ∙ rw (s .0)) z (parse n t))
 
   pub binary-broken : (p : Parsed) → Broken ≡ endOf k d (length b) p → Broken ≡ endOf k d (length b) (binary g (parse n) p)
   binary-broken unparsed e = refl

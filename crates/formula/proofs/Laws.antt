@@ -1,11 +1,12 @@
 -- A law for each arm of `node`, and one for the whole part. Rests on Ends, RoundTrip and Check.
---   told, forward: the answer that a match found; an answer is further on than the place, and within the part; shallow: the nesting that it tells
+--   told: the answer that a match found; tells: the formula that an answer is about
+--   forward: an answer is further on than the place, and within the part; shallow: in a part of at most 255 bytes it tells a nesting below 255
 --   at-bottom .. at-broken: each arm's answer is the end of the formula at the place, and its facts
 --   used-up, left-over, broken, too-long: what the check answers for the whole part
 use Prim.Native.Nat.{ℕ, _+_, _-_, _≤_, _<_}
 use mathlib.Core.Path.{_≡_, refl, sym, ap, _∙_}
 use mathlib.Core.Bool.{Bool, true, false, _&&_}
-use mathlib.Core.List.{List, [], _∷_}
+use mathlib.Core.List.{List, [], _∷_, _++_}
 use native.Mathlib.Nat.{zero-add}
 use native.Mathlib.Omega.{arith}
 use lib.Dec.{ltb}
@@ -25,7 +26,7 @@ use Rattle.formula.specs.Check.{allowedUnder, endIf, endOf, NodeIs, leaf
 use Rattle.formula.specs.Answer.{factsOf, checked}
 use Rattle.formula.specs.declared.FormulaCheck.the-variants.{Accepted, Refused}
 use Rattle.formula.specs.declared.FormulaFacts.{FormulaFacts}
-use Rattle.formula.specs.declared.NodeFacts.{NodeFacts}
+use Rattle.formula.specs.declared.NodeRead.{NodeRead}
 use Rattle.formula.specs.declared.NodeEnd.{NodeEnd}
 use Rattle.formula.specs.declared.NodeEnd.the-variants.{At, Broken}
 use Rattle.formula.proofs.Ends.{under-or, under-and, under-bottom, under-top, under-prop, under-negated, under-var, under-AX, under-EX, under-mu, under-nu, under-four, facts-or, facts-and, facts-AX, facts-EX, facts-mu, facts-nu, unary-end, never-at, cond-at, cond-broken, length-before, binary-end, binary-broken}
@@ -44,28 +45,35 @@ coded {b} {at} {after} {t} s n h =
 pub told : {b : List ℕ} {at k d : ℕ} {r s : NodeEnd} → NodeIs b at k d r → r ≡ s → NodeIs b at k d s
 told h e = rw e at h
 
--- the answer is further on than the position, and within the part
-pub forward : {b : List ℕ} {at k d : ℕ} (i : NodeFacts) → NodeIs b at k d (At i) → (at < i .end) × (i .end ≤ length b)
-forward {b} {at} {k} {d} i e = go (parse (length b) (drop at b)) refl (e .is (length b) (omega arith))
+-- what an answer tells: at the position stand the bytes of a formula, before those that are left; the end and the facts are that formula's
+record Tells (b : List ℕ) (at : ℕ) (i : NodeRead) : Type 0 where
+  formula : Formula
+  left : List ℕ
+  bytes : drop at b ≡ bytesOf formula ++ left
+  ends : i .end ≡ length b - length left
+  facts : i .facts ≡ factsOf formula
+
+tells : {b : List ℕ} {at k d : ℕ} (i : NodeRead) → NodeIs b at k d (At i) → Tells b at i
+tells {b} {at} {k} {d} i e = go (parse (length b) (drop at b)) refl (e .is (length b) (omega arith))
   where
-    go : (p : Parsed) → parse (length b) (drop at b) ≡ p → At i ≡ endOf k d (length b) p → (at < i .end) × (i .end ≤ length b)
+    go : (p : Parsed) → parse (length b) (drop at b) ≡ p → At i ≡ endOf k d (length b) p → Tells b at i
     go unparsed q h = absurd (never-at i h)
     go (parsed a t) q h =
         let s = cond-at (allowedUnder k d a) i (length b - length t) (factsOf a) h in
-        let u = ap length (bytes-parse (length b) (drop at b) a t q) in
-        omega (arith, u, length-drop at b, length-append (bytesOf a) t, bytes-least a)
+        record { formula = a; left = t; bytes = bytes-parse (length b) (drop at b) a t q; ends = s .1; facts = s .2 }
 
--- the nesting that it tells is below the part's length
+-- the answer is further on than the position, and within the part
+pub forward : {b : List ℕ} {at k d : ℕ} (i : NodeRead) → NodeIs b at k d (At i) → (at < i .end) × (i .end ≤ length b)
+forward {b} {at} i e =
+    let s = tells i e in
+    omega (arith, ap length (s .bytes), s .ends, length-drop at b, length-append (bytesOf (s .formula)) (s .left), bytes-least (s .formula))
+
+-- in a part of at most 255 bytes the nesting that an answer tells is below 255
 pub shallow : {b : List ℕ} {at k d : ℕ} (r : NodeEnd) → NodeIs b at k d r → length b ≤ 255 → nestingOf r < 255
 shallow Broken e l = omega arith
-shallow {b} {at} {k} {d} (At i) e l = go (parse (length b) (drop at b)) refl (e .is (length b) (omega arith))
-  where
-    go : (p : Parsed) → parse (length b) (drop at b) ≡ p → At i ≡ endOf k d (length b) p → i .facts .nesting < 255
-    go unparsed q h = absurd (never-at i h)
-    go (parsed a t) q h =
-        let s = ap (λ (x : FormulaFacts). x .nesting) (cond-at (allowedUnder k d a) i (length b - length t) (factsOf a) h .2) in
-        let u = ap length (bytes-parse (length b) (drop at b) a t q) in
-        omega (arith, s, u, length-drop at b, length-append (bytesOf a) t, nested-fewer a)
+shallow {b} {at} (At i) e l =
+    let s = tells i e in
+    omega (arith, ap length (s .bytes), ap (λ (x : FormulaFacts). x .nesting) (s .facts), length-drop at b, length-append (bytesOf (s .formula)) (s .left), nested-fewer (s .formula))
 
 module _ {b : List ℕ} {at after k d : ℕ} where
   arm : {t : Token} {r : NodeEnd} → Stands b at t after
@@ -81,19 +89,19 @@ module _ {b : List ℕ} {at after k d : ℕ} where
       → ((f : Formula) → allowedUnder k d (g f) ≡ allowedUnder k d' f) → ((f : Formula) → factsOf (g f) ≡ m (factsOf f)) → tokenSize t ≡ 1
       → NodeIs b after k d' r → Stands b at t after → NodeIs b at k d (mapFacts m r)
   unary-arm d' g m u w v l e s =
-      arm s (λ n h. ap (mapFacts m) (e .is n (omega (arith, s .ends))) ∙ rw (u n (drop after b)) (sym (unary-end k d g m d' (length b) w v (parse n (drop after b)))))
+      arm s (λ n h. ap (mapFacts m) (e .is n (omega (arith, s .ends))) ∙ rw (u n (drop after b)) (unary-end k d g m d' (length b) w v (parse n (drop after b))))
 
   module _ {t : Token} (g : Formula → Formula → Formula) (u : (n : ℕ) (y : List ℕ) → byToken (parse n) t y ≡ binary g (parse n) (parse n y))
-      (w : (f h : Formula) → allowedUnder k d (g f h) ≡ (allowedUnder k d f && allowedUnder k d h)) (v : (f h : Formula) → factsOf (g f h) ≡ twoFacts (factsOf f) (factsOf h))
+      (w : (f h : Formula) → allowedUnder k d (g f h) ≡ (allowedUnder k d f && allowedUnder k d h))
       (l : tokenSize t ≡ 1) (s : Stands b at t after) where
-    binary-arm : {r : NodeEnd} (i : NodeFacts) → NodeIs b after k d (At i) → NodeIs b (i .end) k d r → NodeIs b at k d (mapFacts (twoFacts (i .facts)) r)
-    binary-arm {r} i e f =
+    binary-arm : ((f h : Formula) → factsOf (g f h) ≡ twoFacts (factsOf f) (factsOf h)) → {r : NodeEnd} (i : NodeRead) → NodeIs b after k d (At i) → NodeIs b (i .end) k d r → NodeIs b at k d (mapFacts (twoFacts (i .facts)) r)
+    binary-arm v {r} i e f =
         arm s (λ n h.
         let m : length b ≤ n + after = omega (arith, s .ends) in
         rw (u n (drop after b)) (binary-end b k d n after (stands-within s (omega arith) .1) g w v i r (parse n (drop after b)) refl (e .is n m) (f .is n (omega (arith, forward i e .0)))))
 
     broken-arm : NodeIs b after k d Broken → NodeIs b at k d Broken
-    broken-arm e = arm s (λ n h. rw (u n (drop after b)) (binary-broken b k d n after (stands-within s (omega arith) .1) g w v (parse n (drop after b)) (e .is n (omega (arith, s .ends)))))
+    broken-arm e = arm s (λ n h. rw (u n (drop after b)) (binary-broken b k d n after (stands-within s (omega arith) .1) g w (parse n (drop after b)) (e .is n (omega (arith, s .ends)))))
 
   -- the tokens
   pub at-bottom : d ≤ 3 → Stands b at Bottom after → NodeIs b at k d (endIf true after leafFacts)
@@ -114,15 +122,15 @@ module _ {b : List ℕ} {at after k d : ℕ} where
   at-variable v s = leaf-arm (var v) _ (λ n y. refl) (under-var k d s v) refl (omega arith)
 
   pub at-two : {r : NodeEnd} (x : Bool) → Stands b at (Two x) after
-      → (i : NodeFacts) → NodeIs b after k d (At i) → NodeIs b (i .end) k d r → NodeIs b at k d (mapFacts (twoFacts (i .facts)) r)
+      → (i : NodeRead) → NodeIs b after k d (At i) → NodeIs b (i .end) k d r → NodeIs b at k d (mapFacts (twoFacts (i .facts)) r)
   unfolding byToken tokenSize
-  at-two true s i e = binary-arm or (λ n y. refl) (under-or k d) facts-or refl s i e
-  at-two false s i e = binary-arm and (λ n y. refl) (under-and k d) facts-and refl s i e
+  at-two true s i e = binary-arm or (λ n y. refl) (under-or k d) refl s facts-or i e
+  at-two false s i e = binary-arm and (λ n y. refl) (under-and k d) refl s facts-and i e
 
   pub at-two-broken : (x : Bool) → Stands b at (Two x) after → NodeIs b after k d Broken → NodeIs b at k d Broken
   unfolding byToken tokenSize
-  at-two-broken true s = broken-arm or (λ n y. refl) (under-or k d) facts-or refl s
-  at-two-broken false s = broken-arm and (λ n y. refl) (under-and k d) facts-and refl s
+  at-two-broken true s = broken-arm or (λ n y. refl) (under-or k d) refl s
+  at-two-broken false s = broken-arm and (λ n y. refl) (under-and k d) refl s
 
   pub at-next : {r : NodeEnd} (x : Bool) → NodeIs b after k d r → Stands b at (Next x) after → NodeIs b at k d (mapFacts (nextFacts x) r)
   unfolding byToken tokenSize
@@ -163,7 +171,7 @@ module _ (b : List ℕ) (k : ℕ) (l : length b ≤ 255) where
   reading = rw (le-leb (length b) 255 l)
 
   -- a formula that keeps the rules and ends with the part; one that ends before it; none
-  pub used-up : (e : NodeFacts) → NodeIs b 0 k 0 (At e) → e .end ≡ length b → Accepted (e .facts) ≡ checked (formulaReading k b)
+  pub used-up : (e : NodeRead) → NodeIs b 0 k 0 (At e) → e .end ≡ length b → Accepted (e .facts) ≡ checked (formulaReading k b)
   used-up e h q = rw reading (go (parse (length b) b) refl (h .is (length b) (omega arith)))
     where
       go : (p : Parsed) → parse (length b) b ≡ p → At e ≡ endOf k 0 (length b) p → Accepted (e .facts) ≡ checked (whole k p)
@@ -172,7 +180,7 @@ module _ (b : List ℕ) (k : ℕ) (l : length b ≤ 255) where
       go (parsed a (c ∷ t)) w s =
           absurd (omega (arith, cond-at (allowedUnder k 0 a) e (length b - length (c ∷ t)) (factsOf a) s .1, ap length (bytes-parse (length b) b a (c ∷ t) w), length-append (bytesOf a) (c ∷ t)))
 
-  pub left-over : (e : NodeFacts) → NodeIs b 0 k 0 (At e) → (e .end ≡ length b → ⊥) → Refused ≡ checked (formulaReading k b)
+  pub left-over : (e : NodeRead) → NodeIs b 0 k 0 (At e) → (e .end ≡ length b → ⊥) → Refused ≡ checked (formulaReading k b)
   left-over e h q = rw reading (go (parse (length b) b) (h .is (length b) (omega arith)))
     where
       go : (p : Parsed) → At e ≡ endOf k 0 (length b) p → Refused ≡ checked (whole k p)

@@ -1,4 +1,4 @@
--- What the checker of formula parts answers, and what it answers at each position. Rests on Bytes and Answer.
+-- What the checker of formula parts answers, and what it answers at each position. Rests on Bytes, Answer and theory's Simulation.
 --   allowedUnder: the rules under d binders; endOf, by endIf: the end of a formula that keeps them, with its facts
 --   leafFacts, twoFacts, nextFacts, fixpointFacts: a formula's facts from those of the formulas directly within it
 --   mapFacts: an answer with its facts altered; nestingOf: the nesting that it tells
@@ -12,6 +12,7 @@ use native.Mathlib.Omega.{arith}
 use lib.Dec.{leb}
 use lib.ListN.{length, drop}
 use Rattle.theory.specs.Formula.{Formula, closedUnder, overProps, nestedBinders}
+use Rattle.theory.specs.Simulation.{indicator}
 use Rattle.formula.specs.Bytes.{Parsed, parsed, unparsed, parse, FormulaReading, read, refused}
 use Rattle.formula.specs.declared.FormulaCheck.the-variants.{Accepted, Refused}
 use Rattle.formula.specs.declared.FormulaFacts.{FormulaFacts}
@@ -29,7 +30,7 @@ allowedUnder k d f = closedUnder d f && overProps k f && leb (d + nestedBinders 
 abbrev pub endIf : Bool → ℕ → FormulaFacts → NodeEnd
 endIf t i x = cond t (At (record { end = i; facts = x })) Broken
 
--- where a formula ends, in a part of n bytes: before the bytes that are left
+-- where a formula ends, in a part of n bytes: before the bytes that are left; and its facts
 abbrev pub endOf : ℕ → ℕ → ℕ → Parsed → NodeEnd
 endOf k d n unparsed = Broken
 endOf k d n (parsed f rest) = endIf (allowedUnder k d f) (n - length rest) (factsOf f)
@@ -49,7 +50,7 @@ abbrev pub twoFacts : FormulaFacts → FormulaFacts → FormulaFacts
 twoFacts x y = record { nesting = max (x .nesting) (y .nesting); fixpoint = x .fixpoint || y .fixpoint; ex = x .ex || y .ex }
 
 abbrev pub nextFacts : Bool → FormulaFacts → FormulaFacts
-nextFacts all x = record { nesting = x .nesting + cond all 1 0; fixpoint = x .fixpoint; ex = x .ex || not all }
+nextFacts all x = record { nesting = x .nesting + indicator all; fixpoint = x .fixpoint; ex = x .ex || not all }
 
 abbrev pub fixpointFacts : FormulaFacts → FormulaFacts
 fixpointFacts x = record { nesting = x .nesting; fixpoint = true; ex = x .ex }
@@ -59,6 +60,7 @@ abbrev pub mapFacts : (FormulaFacts → FormulaFacts) → NodeEnd → NodeEnd
 mapFacts h (At x) = At (record { end = x .end; facts = h (x .facts) })
 mapFacts h Broken = Broken
 
+-- the nesting that an answer tells; 0 where a rule is broken
 abbrev pub nestingOf : NodeEnd → ℕ
 nestingOf (At x) = x .facts .nesting
 nestingOf Broken = 0

@@ -62,7 +62,7 @@ second-branch-deeper : checked (formulaReading 2 (6 ∷ 2 ∷ 0 ∷ 7 ∷ 5 ∷ 
 unfolding formulaReading closedUnder overProps nestedBinders nestedAX fixpointFree universal
 second-branch-deeper = refl
 
--- AX EX AX p, and EX inside AX alone
+-- AX EX AX p: AX counts below EX, and the only EX stands inside AX
 AX-through-EX : checked (formulaReading 2 (7 ∷ 8 ∷ 7 ∷ 2 ∷ 0 ∷ [])) ≡ Accepted (facts 2 false true)
 unfolding formulaReading closedUnder overProps nestedBinders nestedAX fixpointFree universal
 AX-through-EX = refl

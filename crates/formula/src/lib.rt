@@ -1,5 +1,4 @@
-// Formula parts: whether the rules of the formula are obeyed, and the facts of the formula, in one pass over the tokens (tokens).
-//   check: both of any part; facts: the facts of a part that is known to be a formula
+// Formula parts: whether the rules of the formula are obeyed, and the facts of the formula, in one pass over the tokens (formula_tokens).
 //   two_of, next_of, fixpoint_of: what is known of a formula, from what is known of the formulas directly within it
 ghost use mathlib.Core.Path.{_≡_};
 ghost use Prim.Native.Nat.{max, _≤_, _<_};
@@ -7,7 +6,7 @@ ghost use mathlib.Core.Bool.{true};
 ghost use lib.Dec.{ltb};
 ghost use lib.ListN.{length};
 ghost use Rattle.formula.specs.Bytes.{formulaReading};
-ghost use Rattle.formula.specs.Answer.{IsFormula, FactsIn, checked};
+ghost use Rattle.formula.specs.Answer.{checked};
 ghost use Rattle.formula.specs.Check.{leafFacts, twoFacts, nextFacts, fixpointFacts, nestingOf, endIf, mapFacts, NodeIs};
 use formula_tokens::Token;
 use formula_tokens::size;
@@ -31,35 +30,28 @@ pub enum FormulaCheck {
 }
 
 // What is known of a formula inside a part that keeps the rules: where it ends, and its facts.
-struct NodeFacts {
+struct NodeRead {
     end: usize,
     facts: FormulaFacts,
 }
 
 // That, or that a rule is broken.
 enum NodeEnd {
-    At(NodeFacts),
+    At(NodeRead),
     Broken,
-}
-
-// The facts of a formula of one token.
-fn leaf_facts() -> FormulaFacts
-    ensures { λ r. ⌜ r ≡ leafFacts ⌝ }
-{
-    FormulaFacts {
-        nesting: 0,
-        fixpoint: false,
-        ex: false,
-    }
 }
 
 // A formula of one token.
 fn leaf(end: usize) -> NodeEnd
     ensures { λ r. ⌜ r ≡ endIf true end leafFacts ⌝ }
 {
-    NodeEnd::At(NodeFacts {
+    NodeEnd::At(NodeRead {
         end: end,
-        facts: leaf_facts(),
+        facts: FormulaFacts {
+            nesting: 0,
+            fixpoint: false,
+            ex: false,
+        },
     })
 }
 
@@ -89,7 +81,7 @@ fn two_of(first: FormulaFacts, second: NodeEnd) -> NodeEnd
     ensures { λ r. ⌜ r ≡ mapFacts (twoFacts first) second ⌝ }
 {
     match second {
-        NodeEnd::At(x) => NodeEnd::At(NodeFacts {
+        NodeEnd::At(x) => NodeEnd::At(NodeRead {
             end: x.end,
             facts: FormulaFacts {
                 nesting: greater(first.nesting, x.facts.nesting),
@@ -107,7 +99,7 @@ fn next_of(all: bool, within: NodeEnd) -> NodeEnd
     ensures { λ r. ⌜ r ≡ mapFacts (nextFacts all) within ⌝ }
 {
     match within {
-        NodeEnd::At(x) => NodeEnd::At(NodeFacts {
+        NodeEnd::At(x) => NodeEnd::At(NodeRead {
             end: x.end,
             facts: FormulaFacts {
                 nesting: x.facts.nesting + all as u8,
@@ -124,7 +116,7 @@ fn fixpoint_of(within: NodeEnd) -> NodeEnd
     ensures { λ r. ⌜ r ≡ mapFacts fixpointFacts within ⌝ }
 {
     match within {
-        NodeEnd::At(x) => NodeEnd::At(NodeFacts {
+        NodeEnd::At(x) => NodeEnd::At(NodeRead {
             end: x.end,
             facts: FormulaFacts {
                 nesting: x.facts.nesting,
@@ -190,17 +182,5 @@ pub fn check(part: &[u8], k: u8) -> FormulaCheck
         }
     } else {
         FormulaCheck::Refused
-    }
-}
-
-// The facts of a part that is a formula over k propositions.
-pub fn facts(part: &[u8], k: u8) -> FormulaFacts
-    requires { ⌜ IsFormula k (now part) ⌝ }
-    ensures { λ r. ⌜ FactsIn k (now (part .entry)) r ⌝ }
-{
-    match check(part, k) {
-        FormulaCheck::Accepted(facts) => facts,
-        // Not met.
-        FormulaCheck::Refused => leaf_facts(),
     }
 }

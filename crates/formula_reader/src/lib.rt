@@ -1,11 +1,30 @@
-// Going through a formula part token by token, with a struct that holds the part's bytes and a place. The work is in functions over a slice
-// and a place (tokens), by which `formula::check` and the valuer go as well. The functions over `FormulaReader` are short, since each is
-// proved by hand.
+// Reading a formula part: its facts, and going through it token by token, with a struct that holds the part's bytes and a place. The work is in
+// functions over a slice and a place (formula_tokens), by which `formula::check` and the valuer go as well. The functions over `FormulaReader` are
+// short, since each is proved by hand.
 ghost use mathlib.Core.Path.{_≡_};
 ghost use Rattle.formula_tokens.specs.Tokens.{tokenAt, tokenEnd};
+ghost use Rattle.formula.specs.Answer.{IsFormula, FactsIn};
+use formula::FormulaCheck;
+use formula::FormulaFacts;
 use formula_tokens::Token;
 use formula_tokens::token_at;
 use formula_tokens::token_end;
+
+// The facts of a part that is a formula over k propositions.
+pub fn facts(part: &[u8], k: u8) -> FormulaFacts
+    requires { ⌜ IsFormula k (now part) ⌝ }
+    ensures { λ r. ⌜ FactsIn k (now (part .entry)) r ⌝ }
+{
+    match formula::check(part, k) {
+        FormulaCheck::Accepted(facts) => facts,
+        // Not met.
+        FormulaCheck::Refused => FormulaFacts {
+            nesting: 0,
+            fixpoint: false,
+            ex: false,
+        },
+    }
+}
 
 // A formula part with a place in it.
 pub struct FormulaReader<'a> {

@@ -37,8 +37,8 @@ pub record Answers (c : Content) (d : Desk) (T : ℕ) (table : List ℕ) (e : �
   pub round : d .standing .round ≡ T
   pub show : showAnswer d ≡ Reply.Shown table
   pub score : asked Question.Score d ≡ Reply.Element e
-  pub whole1 : (f : ℕ) → f < length (c .formulas) → asked (Question.Whole f 1) d ≡ Reply.Valued (v₁ f) (factsOf (formulaIn c f))
-  pub whole2 : (f : ℕ) → f < length (c .formulas) → asked (Question.Whole f 2) d ≡ Reply.Valued (v₂ f) (factsOf (formulaIn c f))
+  pub whole1 : (f : ℕ) → f < length (c .formulas) → asked (Question.Whole f 1) d ≡ Reply.FormulaValue (v₁ f) (factsOf (formulaIn c f))
+  pub whole2 : (f : ℕ) → f < length (c .formulas) → asked (Question.Whole f 2) d ≡ Reply.FormulaValue (v₂ f) (factsOf (formulaIn c f))
 
 -- the text of such answers
 abbrev pub textOfAnswers : Content → ℕ → List ℕ → ℕ → (ℕ → ℕ) → (ℕ → ℕ) → List ℕ
@@ -56,7 +56,7 @@ bytes-table c S q₁ l q₂ m =
 same-element : (x : Reply) (a b : ℕ) → x ≡ Reply.Element a → x ≡ Reply.Element b → a ≡ b
 same-element x a b p q = cc
 
-same-value : (x : Reply) (a b : ℕ) (i j : FormulaFacts) → x ≡ Reply.Valued a i → x ≡ Reply.Valued b j → a ≡ b
+same-value : (x : Reply) (a b : ℕ) (i j : FormulaFacts) → x ≡ Reply.FormulaValue a i → x ≡ Reply.FormulaValue b j → a ≡ b
 same-value x a b i j p q = cc
 
 same-shown : (x : Reply) (a b : List ℕ) → x ≡ Reply.Shown a → x ≡ Reply.Shown b → a ≡ b
@@ -75,10 +75,10 @@ module _ (c : Content) (T : ℕ) (answers : List Reply) (d : Desk) (w : Claim c 
   score-T : asked Question.Score d ≡ Reply.Element (score (ops c) (model1 c) (model2 c) (roundIn c T))
   score-T = rw at-T at (score-next w)
 
-  whole-1 : (f : ℕ) → f < length (c .formulas) → asked (Question.Whole f 1) d ≡ Reply.Valued (wholeValue (ops c) (modelIn c 1) (formulaIn c f)) (factsOf (formulaIn c f))
+  whole-1 : (f : ℕ) → f < length (c .formulas) → asked (Question.Whole f 1) d ≡ Reply.FormulaValue (wholeValue (ops c) (modelIn c 1) (formulaIn c f)) (factsOf (formulaIn c f))
   whole-1 f l = whole-next w f 1 (ranges w (Question.Whole f 1) .1 (l, (inl refl, tt)))
 
-  whole-2 : (f : ℕ) → f < length (c .formulas) → asked (Question.Whole f 2) d ≡ Reply.Valued (wholeValue (ops c) (modelIn c 2) (formulaIn c f)) (factsOf (formulaIn c f))
+  whole-2 : (f : ℕ) → f < length (c .formulas) → asked (Question.Whole f 2) d ≡ Reply.FormulaValue (wholeValue (ops c) (modelIn c 2) (formulaIn c f)) (factsOf (formulaIn c f))
   whole-2 f l = whole-next w f 2 (ranges w (Question.Whole f 2) .1 (l, (inr refl, tt)))
 
   answers-T : Answers c d T (tableBytes c (roundIn c T)) (score (ops c) (model1 c) (model2 c) (roundIn c T)) (λ f. wholeValue (ops c) (modelIn c 1) (formulaIn c f)) (λ f. wholeValue (ops c) (modelIn c 2) (formulaIn c f))

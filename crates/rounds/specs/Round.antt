@@ -28,11 +28,10 @@ use Rattle.theory.specs.Loop.{tab-at, tab-length}
 use Rattle.theory.specs.Lists.{tab}
 use Rattle.theory.specs.Written.{written-length, written-at, written-before, written-after, written-all}
 use Rattle.theory.specs.Test.{allBelow}
-use Rattle.theory.specs.TestLaws.{all-at, all-in}
+use Rattle.theory.specs.TestLaws.{not-and, all-at, all-in}
 use Rattle.elements.specs.declared.Lattice.{Lattice}
 use Rattle.model.specs.Places.{row-le}
 use Rattle.rounds.specs.Table.{tableOf, rowWritten, entrySame, rowSame, rowChanged, changedBelow, simulationTest, FIn}
-use Rattle.rounds.specs.Row.{not-and}
 
 -- in `out` the rows below q are those of F S, and every byte past them is that of `before`
 pub record Worked (M₁ M₂ : Model ℕ) (G : (ℕ → ℕ → ℕ) → ℕ → ℕ → ℕ) (S : ℕ → ℕ → ℕ) (before : List ℕ) (q : ℕ) (out : List ℕ) : Type 0 where

@@ -5,7 +5,6 @@
 --   RowSoFar: the entries so far are written and compared; row-none, row-more, row-all: its begin, turn and end
 --   RowOut, rowSameAs: the elements of codes written and compared; compared alone
 --   row-written: at the row's end, what `row` says
---   not-and: not of an and
 use Prim.Native.Nat.{ℕ, _+_, _*_, _≤_, _<_}
 use mathlib.Core.Path.{_≡_, refl, sym, _∙_}
 use mathlib.Core.Bool.{Bool, true, false, not, _&&_, _||_}
@@ -15,6 +14,7 @@ use native.Mathlib.Omega.{arith}
 use borrow.Author.Tests.{eq-eqb, ne-eqb}
 use lib.Dec.{eqb}
 use lib.ListN.{length, getD, set}
+use Rattle.theory.specs.TestLaws.{not-and}
 use Rattle.theory.specs.Test.{allBelow}
 use Rattle.theory.specs.Written.{written-none, written-turn}
 use Rattle.theory.specs.Lists.{tab, written}
@@ -58,10 +58,6 @@ pub record RowSoFar (changed : Bool) (at : ℕ) (f g : ℕ → ℕ) (before : Li
 pub row-none : {at : ℕ} {f g : ℕ → ℕ} {before : List ℕ} → RowSoFar false at f g before 0 before
 unfolding tab allBelow
 row-none {at} {f} {g} {before} = record { out-is = sym (written-none at before); changed-is = refl }
-
-pub not-and : (a b : Bool) → not (a && b) ≡ (not a || not b)
-not-and true b = refl
-not-and false b = refl
 
 -- one entry more: e is written where d stood in the table that is read
 pub row-more : {at : ℕ} {f g : ℕ → ℕ} {before : List ℕ} {q : ℕ} {out : List ℕ} {changed : Bool} {d e : ℕ} → RowSoFar changed at f g before q out → at + q < length before → d ≡ g q → e ≡ f q → RowSoFar (changed || not (eqb d e)) at f g before (q + 1) (set out (at + q) e)

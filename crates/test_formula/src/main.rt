@@ -1,4 +1,5 @@
-// Formula parts at the bounds of each rule, and whether each is accepted, with its facts, a line for each; there are 2 propositions.
+// Formula parts at the limits of each rule, and with some nestings of AX: whether each is accepted, with its facts, a line for each. There are 2
+// propositions.
 use formula::FormulaCheck;
 use test_printing::say;
 
@@ -53,7 +54,7 @@ fn forms() {
     show(b"number missing", b"\x08\x02");
 }
 
-// AX in one branch, under EX and under a fixpoint; the last has AX and EX inside one another.
+// AX in one of two branches, under a fixpoint and under EX.
 fn nestings() {
     show(
         b"p & AX (q | AX p)",

@@ -1,12 +1,12 @@
 -- Laws of tests: of truth values, and of tests over the numbers below a limit, as loops and theorems use them. Rests on Test.
 --   below-suc: the numbers below suc n are those below n, and n; decide: a test is passed or not
---   and-l, and-r, and-in, and-false, all-four, or-l, or-r, cond-true, cond-false, ⇒-elim, ⇒-in: of the truth values
+--   and-l, and-r, and-in, and-false, all-four, not-and, or-l, or-r, cond-true, cond-false, ⇒-elim, ⇒-in: of the truth values
 --   bool-same: tests that imply each other are the same; not-passed, not-failed, false-true: a test that cannot be passed, or fail
 --   all-at, all-in, all-cong, all-none, all-more, all-fails, all-done: of allBelow; below-at: a byte that passed the test below a limit
 --   FirstAt, first-is, first-unique: of firstBelow
 use Prim.Native.Nat.{ℕ, zero, suc, _+_, _-_, _≤_, _<_}
 use mathlib.Core.Path.{_≡_, refl, sym, ap₂, subst}
-use mathlib.Core.Bool.{Bool, true, false, cond, _&&_, _||_}
+use mathlib.Core.Bool.{Bool, true, false, cond, not, _&&_, _||_}
 use mathlib.Core.Logic.{_⊎_, inl, inr, ⊎-elim}
 use mathlib.Core.List.{List}
 use native.Mathlib.Nat.{le-refl, eq-or-lt-of-le, le-of-suc-le-suc, not-suc-le-zero}
@@ -55,6 +55,10 @@ all-four a b c d t =
 pub and-false : (a : Bool) → (a && false) ≡ false
 and-false true = refl
 and-false false = refl
+
+pub not-and : (a b : Bool) → not (a && b) ≡ (not a || not b)
+not-and true b = refl
+not-and false b = refl
 
 pub or-l : (a b : Bool) → (a || b) ≡ false → a ≡ false
 or-l true b e = e

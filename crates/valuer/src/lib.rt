@@ -1,5 +1,5 @@
 // The values of formulas at the states of a model: a valuer of nodes and a fixpoint iteration that call each other, over a function for
-// each kind of node (valuer_maps); the token at a place says which (tokens). A map from states to elements is 64 words, of which the first
+// each kind of node (valuer_maps); the token at a place says which (formula_tokens). A map from states to elements is 64 words, of which the first
 // N count: the codes of its values (elements). It is written into the lent array `out`, and a value is decoded at the end, once. w and l are
 // a lattice's codes and numbers, m is a model part (model), f a formula part (formula).
 use elements::Codes;

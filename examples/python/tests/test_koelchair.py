@@ -19,9 +19,9 @@ def case(name):
     return (ROOT / "examples/c" / f"{name}.bytes").read_bytes()
 
 
-def valued(element, nesting, fixpoint=False, ex=False):
+def formula_value(element, nesting, fixpoint=False, ex=False):
     """What value and whole answer."""
-    return koelchair.Valued(element, koelchair.Facts(nesting, fixpoint, ex))
+    return koelchair.FormulaValue(element, koelchair.Facts(nesting, fixpoint, ex))
 
 
 class Examples(unittest.TestCase):
@@ -33,7 +33,7 @@ class Examples(unittest.TestCase):
         self.assertEqual(desk.step(), koelchair.Step("settled", 2))
         self.assertEqual(desk.step(), koelchair.Step("settled", 2))
         self.assertEqual((desk.rows(), desk.score()), ([[1]], 1))
-        self.assertEqual((desk.value(0, 1, 0), desk.whole(0, 2)), (valued(1, 0), valued(1, 0)))
+        self.assertEqual((desk.value(0, 1, 0), desk.whole(0, 2)), (formula_value(1, 0), formula_value(1, 0)))
         self.assertEqual((desk.share(1), desk.share(2)), (100, 0))
         self.assertEqual((desk.judge(desk.show()), desk.judge([2])), (True, False))
 
@@ -47,7 +47,7 @@ class Examples(unittest.TestCase):
         self.assertEqual(desk.settle(), 3)
         self.assertEqual(desk.show(), bytes(4))
         self.assertEqual((desk.standing.settled, standing.settled), (True, False))
-        self.assertEqual((desk.whole(0, 1), desk.whole(0, 2)), (valued(0, 1), valued(1, 1)))
+        self.assertEqual((desk.whole(0, 1), desk.whole(0, 2)), (formula_value(0, 1), formula_value(1, 1)))
 
     def test_facts_of_formulas(self):
         # p & !q; AX !q; p & AX (q | AX p); AG p; AX EX AX p
@@ -55,7 +55,7 @@ class Examples(unittest.TestCase):
         expected = [(0, False, False), (1, False, False), (2, False, False), (1, True, False), (2, False, True)]
         self.assertEqual([desk.whole(f, 1).facts for f in range(5)], expected)
         self.assertEqual([desk.value(f, 2, 0).facts for f in range(5)], expected)
-        self.assertEqual((desk.value(2, 1, 0), desk.value(2, 2, 0)), (valued(0, 2), valued(1, 2)))
+        self.assertEqual((desk.value(2, 1, 0), desk.value(2, 2, 0)), (formula_value(0, 2), formula_value(1, 2)))
 
     def test_which_rounds_cover_a_formula(self):
         desk = koelchair.Desk(case("covered-from"))

@@ -127,7 +127,7 @@ impl Calls {
             let (store, first, second) = (&d.store, &d.first, &d.second);
             second::value(&d.standing, store, first, second, formula, 2, state)
         };
-        self.asked(repeat, proved, conversions::valued, second)
+        self.asked(repeat, proved, conversions::formula_value, second)
     }
 
     /// A formula on model 2.
@@ -135,7 +135,7 @@ impl Calls {
         self.asked(
             repeat,
             |d| d.lent().whole(formula, 2),
-            conversions::valued,
+            conversions::formula_value,
             |d| second::whole(&d.standing, &d.store, &d.first, &d.second, formula, 2),
         )
     }

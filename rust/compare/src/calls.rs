@@ -35,8 +35,10 @@ pub fn proved(desk: &mut Desk, call: &Call) -> Reply {
             formula,
             model,
             state,
-        } => conversions::valued(desk.lent().value(formula, model, State(state))),
-        &Call::Whole { formula, model } => conversions::valued(desk.lent().whole(formula, model)),
+        } => conversions::formula_value(desk.lent().value(formula, model, State(state))),
+        &Call::Whole { formula, model } => {
+            conversions::formula_value(desk.lent().whole(formula, model))
+        }
         Call::Score => conversions::element(desk.lent().score()),
         &Call::Share(e) => conversions::per_cent(desk.lent().share(Element(e))),
         Call::Judge(table) => conversions::says(desk.lent().judge(table)),

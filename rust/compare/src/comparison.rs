@@ -56,7 +56,7 @@ impl Pair<'_> {
             return Err(self.difference(&call, &proved, &second));
         }
         self.counts.call(&call, &proved, &before);
-        if let (Some(formula), Reply::Valued { facts, .. }) = (formula(&call), &proved) {
+        if let (Some(formula), Reply::FormulaValue { facts, .. }) = (formula(&call), &proved) {
             self.counts.formula(self.proved.formula(formula), facts);
         }
         self.place += 1;

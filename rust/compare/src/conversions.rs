@@ -1,6 +1,6 @@
 //! What the proved library takes and gives, in the types of the second implementation: standings both ways, and answers.
 
-use koelchair::{Element, FormulaFacts, Refusal, StepAnswer, Valued};
+use koelchair::{Element, FormulaFacts, FormulaValue, Refusal, StepAnswer};
 use second::{Facts, Reply};
 
 /// The standing for the second implementation.
@@ -73,10 +73,12 @@ pub fn shown(answer: &[u8]) -> Reply {
     Reply::Shown(answer.to_vec())
 }
 
-pub fn valued(answer: Result<Valued, Refusal>) -> Reply {
-    reply(answer, |Valued { element, facts }| Reply::Valued {
-        element: element.0,
-        facts: to_second_facts(facts),
+pub fn formula_value(answer: Result<FormulaValue, Refusal>) -> Reply {
+    reply(answer, |FormulaValue { element, facts }| {
+        Reply::FormulaValue {
+            element: element.0,
+            facts: to_second_facts(facts),
+        }
     })
 }
 

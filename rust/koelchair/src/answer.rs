@@ -1,6 +1,6 @@
 //! What the calls answer, and how it is read from the numbers that the archive gives.
 
-use crate::{raw, FormulaFacts, Refusal, Valued};
+use crate::{raw, FormulaFacts, FormulaValue, Refusal};
 use std::fmt;
 
 /// A number of an element of the lattice.
@@ -76,10 +76,10 @@ pub(crate) fn stepped(answer: raw::Answer) -> Result<StepAnswer, Refusal> {
 }
 
 /// The answer of value and whole.
-pub(crate) fn valued(answer: raw::Answer) -> Result<Valued, Refusal> {
+pub(crate) fn formula_value(answer: raw::Answer) -> Result<FormulaValue, Refusal> {
     match (answer.kind, u8::try_from(answer.value)) {
         (0, _) => Err(Refusal::read(answer.number, answer.part)),
-        (9, Ok(value)) => Ok(Valued {
+        (9, Ok(value)) => Ok(FormulaValue {
             element: Element(value),
             facts: FormulaFacts {
                 nesting: answer.byte,
@@ -174,7 +174,7 @@ mod tests {
                 flag2,
                 ..given(9, 63)
             };
-            let expected = Valued {
+            let expected = FormulaValue {
                 element: Element(63),
                 facts: FormulaFacts {
                     nesting: byte,
@@ -182,7 +182,7 @@ mod tests {
                     ex: flag2,
                 },
             };
-            assert_eq!(valued(answer), Ok(expected));
+            assert_eq!(formula_value(answer), Ok(expected));
         }
     }
 
@@ -195,7 +195,7 @@ mod tests {
         };
         assert_eq!(opened(refused), Err(Refusal::BadModel(2)));
         assert_eq!(stepped(refused), Err(Refusal::BadModel(2)));
-        assert_eq!(valued(refused), Err(Refusal::BadModel(2)));
+        assert_eq!(formula_value(refused), Err(Refusal::BadModel(2)));
         assert_eq!(element(refused), Err(Refusal::BadModel(2)));
         assert_eq!(per_cent(refused), Err(Refusal::BadModel(2)));
         assert_eq!(says(refused), Err(Refusal::BadModel(2)));
@@ -222,13 +222,13 @@ mod tests {
     #[test]
     #[should_panic(expected = "which it has not")]
     fn no_value_is_over_a_byte() {
-        let _ = valued(given(9, 256));
+        let _ = formula_value(given(9, 256));
     }
 
     #[test]
     #[should_panic(expected = "which it has not")]
     fn an_element_alone_is_no_value() {
-        let _ = valued(given(5, 1));
+        let _ = formula_value(given(5, 1));
     }
 
     #[test]

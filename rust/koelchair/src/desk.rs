@@ -1,6 +1,6 @@
 //! A desk that owns its standing, its store and both tables.
 
-use crate::{DeskMut, DeskRef, Element, Refusal, Sizes, Standing, State, StepAnswer, Valued};
+use crate::{DeskMut, DeskRef, Element, FormulaValue, Refusal, Sizes, Standing, State, StepAnswer};
 use crate::{STORE_LENGTH, TABLE_LENGTH};
 use std::fmt;
 
@@ -69,14 +69,14 @@ impl Desk {
     /// numbered from 0.
     ///
     /// Refused with 13 where the formula, the model or the state is not in the case.
-    pub fn value(&self, formula: u8, model: u8, state: State) -> Result<Valued, Refusal> {
+    pub fn value(&self, formula: u8, model: u8, state: State) -> Result<FormulaValue, Refusal> {
         self.lent().value(formula, model, state)
     }
 
     /// A formula's element on the whole of model 1 or 2, and the same facts as by [`Desk::value`].
     ///
     /// Refused with 13 where the formula or the model is not in the case.
-    pub fn whole(&self, formula: u8, model: u8) -> Result<Valued, Refusal> {
+    pub fn whole(&self, formula: u8, model: u8) -> Result<FormulaValue, Refusal> {
         self.lent().whole(formula, model)
     }
 

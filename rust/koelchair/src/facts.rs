@@ -4,7 +4,7 @@ use crate::Element;
 
 /// What value and whole answer: the formula's element, and the facts that say which tables cover the formula.
 #[derive(Clone, Copy, Debug, PartialEq, Eq, Hash)]
-pub struct Valued {
+pub struct FormulaValue {
     /// The formula's value.
     pub element: Element,
     /// The formula as it is written.

@@ -1,6 +1,6 @@
 //! A desk whose standing, store and tables belong to the caller: `DeskRef` for the calls that read, `DeskMut` for all.
 
-use crate::{answer, raw, Element, Refusal, Sizes, State, StepAnswer, Valued};
+use crate::{answer, raw, Element, FormulaValue, Refusal, Sizes, State, StepAnswer};
 
 /// Where a desk stands. A standing of any content may be passed to any call: one that breaks a rule is refused with 12 by
 /// every call but [`DeskMut::open`].
@@ -70,16 +70,16 @@ impl<'a> DeskRef<'a> {
     /// numbered from 0.
     ///
     /// Refused with 11 or 12, or with 13 where the formula, the model or the state is not in the case.
-    pub fn value(self, formula: u8, model: u8, state: State) -> Result<Valued, Refusal> {
-        answer::valued(raw::value(self, formula, model, state.0))
+    pub fn value(self, formula: u8, model: u8, state: State) -> Result<FormulaValue, Refusal> {
+        answer::formula_value(raw::value(self, formula, model, state.0))
     }
 
     /// A formula's element on the whole of model 1 or 2: the meet over all states q of Q0(q) → the value at q, Q0 being the
     /// initial values. With it the same facts as by [`DeskRef::value`].
     ///
     /// Refused with 11 or 12, or with 13 where the formula or the model is not in the case.
-    pub fn whole(self, formula: u8, model: u8) -> Result<Valued, Refusal> {
-        answer::valued(raw::whole(self, formula, model))
+    pub fn whole(self, formula: u8, model: u8) -> Result<FormulaValue, Refusal> {
+        answer::formula_value(raw::whole(self, formula, model))
     }
 
     /// The score of the shown table: the meet over q1 of Q0(q1) → the join over q2 of Q0(q2) met with the shown entry.

@@ -38,7 +38,7 @@
 //! - [`Desk`] owns what the calls need.
 //! - [`DeskRef`] and [`DeskMut`] borrow a standing, a store and two tables of any content and length, for callers that keep these
 //!   themselves: the calls that only read, and all of them.
-//! - [`Valued`] is a formula's element with its [`FormulaFacts`], which say from which round on a table covers the formula.
+//! - [`FormulaValue`] is a formula's element with its [`FormulaFacts`], which say from which round on a table covers the formula.
 //! - [`listing`] gives the whole result of a case as text, without a desk.
 //! - [`Refusal`] says why a call was refused; [`REFUSALS`] is the table of all refusals.
 //!
@@ -59,7 +59,7 @@ mod refusal;
 
 pub use answer::{Element, Sizes, State, StepAnswer};
 pub use desk::Desk;
-pub use facts::{CoveredFrom, FormulaFacts, Valued};
+pub use facts::{CoveredFrom, FormulaFacts, FormulaValue};
 pub use lent::{DeskMut, DeskRef, Standing};
 pub use refusal::{Refusal, RefusalEntry, NO_PART, REFUSALS};
 

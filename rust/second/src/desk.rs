@@ -55,7 +55,7 @@ pub enum Reply {
     /// The score, an element.
     Element(u8),
     /// A formula's value, and the facts of the formula.
-    Valued {
+    FormulaValue {
         /// The element.
         element: u8,
         /// The facts.
@@ -154,8 +154,8 @@ pub fn show(standing: &Standing, store: &[u8], first: &[u8], second: &[u8]) -> R
 }
 
 /// "Value and whole pass these three on with the element."
-fn valued(formula: &Formula, element: Element) -> Reply {
-    Reply::Valued {
+fn formula_value(formula: &Formula, element: Element) -> Reply {
+    Reply::FormulaValue {
         element: element.byte(),
         facts: facts::of(formula),
     }
@@ -177,7 +177,7 @@ pub fn value(
         let state = model.state(state).ok_or(OUT_OF_RANGE)?;
         let lattice = &desk.content.lattice;
         let element = Valuer { lattice, model }.at(formula, state);
-        Ok(valued(formula, element))
+        Ok(formula_value(formula, element))
     }))
 }
 
@@ -195,7 +195,7 @@ pub fn whole(
         let model = desk.model(model)?;
         let lattice = &desk.content.lattice;
         let element = Valuer { lattice, model }.whole(formula);
-        Ok(valued(formula, element))
+        Ok(formula_value(formula, element))
     }))
 }
 

@@ -109,7 +109,7 @@ fn accepted(reply: Reply) -> Result<Reply, Refused> {
 /// The element that a call answered, or the refusal. Score and whole answer nothing else, so the last line is not reached.
 fn element(reply: Reply) -> Result<u8, Refused> {
     match accepted(reply)? {
-        Reply::Element(element) | Reply::Valued { element, .. } => Ok(element),
+        Reply::Element(element) | Reply::FormulaValue { element, .. } => Ok(element),
         _ => Err((12, 255)),
     }
 }

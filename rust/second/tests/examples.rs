@@ -2,7 +2,7 @@
 
 mod common;
 
-use common::{case, chain, lattice, valued, Desk, Numbers, L2, L3, LOOP, STILL};
+use common::{case, chain, formula_value, lattice, Desk, Numbers, L2, L3, LOOP, STILL};
 use second::{report, Reply, Standing};
 
 /// The bytes of the report example.
@@ -69,8 +69,8 @@ fn example_4_three_rounds() {
     assert_eq!(desk.step(), Reply::Round(1));
     assert_eq!(desk.show(), [1, 0, 0, 0]);
     let one_ax = (1, false, false);
-    assert_eq!(desk.value(0, 2, 0), valued(1, one_ax));
-    assert_eq!(desk.value(0, 1, 0), valued(0, one_ax));
+    assert_eq!(desk.value(0, 2, 0), formula_value(1, one_ax));
+    assert_eq!(desk.value(0, 1, 0), formula_value(0, one_ax));
     assert_eq!(desk.step(), Reply::Row);
     assert_eq!(desk.step(), Reply::Round(2));
     assert_eq!(desk.show(), [0, 0, 0, 0]);
@@ -85,9 +85,9 @@ fn example_5_subsets_of_three() {
     let subsets = lattice(8, |e| 7 - e, |i, j| i & j == i);
     let model: &[u8] = &[3, 1, 7, 0, 0, 0, 2, 6, 0, 6, 6, 0, 0, 0, 0, 0, 0];
     let desk = Desk::opened(&[&subsets, model, model, &[7, 2, 0], &[8, 2, 0]]);
-    assert_eq!(desk.value(0, 1, 0), valued(3, (1, false, false)));
-    assert_eq!(desk.value(1, 1, 0), valued(6, (0, false, true)));
-    assert_eq!(desk.whole(0, 2), valued(3, (1, false, false)));
+    assert_eq!(desk.value(0, 1, 0), formula_value(3, (1, false, false)));
+    assert_eq!(desk.value(1, 1, 0), formula_value(6, (0, false, true)));
+    assert_eq!(desk.whole(0, 2), formula_value(3, (1, false, false)));
 }
 
 #[test]
@@ -326,7 +326,7 @@ fn fixpoints_of_known_value() {
     for (number, (_, values, nesting, ex)) in (0..).zip(formulas) {
         for (state, value) in (0..).zip(values) {
             let answer = desk.value(number, 2, state);
-            let expected = valued(value, (nesting, true, ex));
+            let expected = formula_value(value, (nesting, true, ex));
             assert_eq!(answer, expected, "formula {number}, state {state}");
         }
     }
@@ -341,5 +341,5 @@ fn what_students_write_instead() {
     assert_eq!(Desk::settled(&[L3, with, without]).show(), [0]);
     let middle: &[u8] = &[1, 1, 2, 0, 1];
     let desk = Desk::opened(&[L3, middle, middle, &[7, 2, 0]]);
-    assert_eq!(desk.value(0, 1, 0), valued(1, (1, false, false)));
+    assert_eq!(desk.value(0, 1, 0), formula_value(1, (1, false, false)));
 }

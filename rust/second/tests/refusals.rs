@@ -2,7 +2,7 @@
 
 mod common;
 
-use common::{case, lattice, valued, Desk, L2, L3, LOOP, STILL};
+use common::{case, formula_value, lattice, Desk, L2, L3, LOOP, STILL};
 use second::{Reply, STORE_LENGTH, TABLE_LENGTH};
 
 /// The number and part with which open refuses a case, every byte and field kept.
@@ -327,8 +327,8 @@ fn number_13_arguments_out_of_range() {
     let two: &[u8] = &[2, 0, 1, 0, 0, 1, 0, 0];
     let desk = Desk::opened(&[L3, two, STILL, &[1], &[0]]);
     let constant = (0, false, false);
-    assert_eq!(desk.value(1, 1, 1), valued(0, constant));
-    assert_eq!(desk.value(0, 2, 0), valued(2, constant));
+    assert_eq!(desk.value(1, 1, 1), formula_value(0, constant));
+    assert_eq!(desk.value(0, 2, 0), formula_value(2, constant));
     for (formula, model, state) in [
         (2, 1, 0),
         (255, 1, 0),

@@ -1,15 +1,16 @@
 -- `formula::next_of` meets its contract: by the answer that the match found. AX counts one, EX none.
 use Prim.Native.Nat.{_≤_, _<_}
-use mathlib.Core.Path.{_≡_, refl, ap}
-use mathlib.Core.Bool.{Bool, true, false, cond}
+use mathlib.Core.Path.{_≡_, refl}
+use mathlib.Core.Bool.{Bool, true, false}
 use native.Mathlib.Omega.{arith}
 use borrow.Author.Needs.{needs}
 use mir.Val.{boolByte}
+use Rattle.theory.specs.Simulation.{indicator}
 use Rattle.formula.specs.Check.{nestingOf}
 use Rattle.formula.proofs.next_of.Statement.{statement}
 use Rattle.formula.proofs.next_of.Tie as tie
 
-counted : (all : Bool) → boolByte all ≡ cond all 1 0
+counted : (all : Bool) → boolByte all ≡ indicator all
 counted true = refl
 counted false = refl
 

@@ -16,7 +16,7 @@ use crate::progress::Progress;
 use crate::reasons::Reasoning;
 use crate::rounds::{finish_round, History};
 use crate::tables::Operations;
-use koelchair::{Desk, State, StepAnswer, Valued};
+use koelchair::{Desk, FormulaValue, State, StepAnswer};
 
 /// The JSON of an accepted case, its bytes, and whose the two models are; the ceiling is what the course's scores against itself.
 pub fn of(case: &Case, bytes: &[u8], owners: [&str; 2]) -> Result<String, Failure> {
@@ -167,7 +167,7 @@ fn model(model: &Model, bottom: u8) -> String {
 /// A formula with its values on both whole models and at each of their states, and its facts.
 fn formula(case: &Case, desk: &Desk, f: usize, named: &NamedFormula) -> Result<String, Failure> {
     let refused = |refusal: koelchair::Refusal| Failure::Other(refusal.to_string());
-    let elements = |list: Vec<Valued>| numbers(list.iter().map(|v| v.element.0));
+    let elements = |list: Vec<FormulaValue>| numbers(list.iter().map(|v| v.element.0));
     let whole = |m: u8| desk.whole(f as u8, m).map_err(refused);
     let (student, course) = (whole(1)?, whole(2)?);
     let values = |m: u8| {

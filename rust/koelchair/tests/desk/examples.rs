@@ -2,7 +2,7 @@
 //! owns its buffers and by the one that is lent them.
 
 use crate::cases::{self, Lent};
-use koelchair::{CoveredFrom, Desk, Element, FormulaFacts, Sizes, State, StepAnswer, Valued};
+use koelchair::{CoveredFrom, Desk, Element, FormulaFacts, FormulaValue, Sizes, State, StepAnswer};
 
 /// The answers of all steps up to the settling one, each with the table shown after it. The desk and one that is lent
 /// longer buffers with other content must give the same.
@@ -38,8 +38,8 @@ fn assert_kept_beyond(lent: &Lent) {
 }
 
 /// The answer for a formula of this element and so many nested AX, without fixpoint and EX.
-fn valued(element: u8, nesting: u8) -> Valued {
-    Valued {
+fn formula_value(element: u8, nesting: u8) -> FormulaValue {
+    FormulaValue {
         element: Element(element),
         facts: FormulaFacts {
             nesting,
@@ -64,8 +64,8 @@ fn example_1() {
     assert_eq!(desk.show(), [2]);
     assert_eq!(desk.settle(), 2);
     assert_eq!(desk.score(), Element(1));
-    assert_eq!(desk.value(0, 1, State(0)), Ok(valued(1, 0)));
-    assert_eq!(desk.whole(0, 2), Ok(valued(1, 0)));
+    assert_eq!(desk.value(0, 1, State(0)), Ok(formula_value(1, 0)));
+    assert_eq!(desk.whole(0, 2), Ok(formula_value(1, 0)));
     assert_eq!(desk.share(Element(1)), Ok(100));
     assert_eq!(desk.share(Element(2)), Ok(0));
     assert_eq!(desk.judge(&[1]), Ok(true));
@@ -103,8 +103,8 @@ fn example_4() {
         ]
     );
     let desk = Desk::open(&case).unwrap();
-    assert_eq!(desk.value(0, 2, State(0)), Ok(valued(1, 1)));
-    assert_eq!(desk.value(0, 1, State(0)), Ok(valued(0, 1)));
+    assert_eq!(desk.value(0, 2, State(0)), Ok(formula_value(1, 1)));
+    assert_eq!(desk.value(0, 1, State(0)), Ok(formula_value(0, 1)));
 }
 
 #[test]
@@ -112,11 +112,11 @@ fn example_4_lent() {
     let mut lent = Lent::opened(&cases::example_4());
     let desk = lent.lent();
     let value = |model| desk.value(0, model, State(0));
-    assert_eq!(value(2), Ok(valued(1, 1)));
-    assert_eq!(value(1), Ok(valued(0, 1)));
+    assert_eq!(value(2), Ok(formula_value(1, 1)));
+    assert_eq!(value(1), Ok(formula_value(0, 1)));
     let whole = |model| desk.whole(0, model);
-    assert_eq!(whole(2), Ok(valued(1, 1)));
-    assert_eq!(whole(1), Ok(valued(0, 1)));
+    assert_eq!(whole(2), Ok(formula_value(1, 1)));
+    assert_eq!(whole(1), Ok(formula_value(0, 1)));
     assert_eq!(desk.score(), Ok(Element(1)));
     assert_eq!(desk.judge(&[0; 4]), Ok(true));
     assert_eq!(desk.judge(&[1, 0, 0, 0]), Ok(false));
@@ -173,7 +173,7 @@ fn the_deepest_nesting() {
     let model: &[u8] = &[1, 0, 1, 1];
     let desk = Desk::open(&cases::case(&[&cases::L2, model, model, &formula])).unwrap();
     let facts = desk.whole(0, 1).unwrap().facts;
-    assert_eq!(facts, valued(1, 254).facts);
+    assert_eq!(facts, formula_value(1, 254).facts);
     assert_eq!(facts.covered_from(), CoveredFrom::Round(255));
 }
 

@@ -30,13 +30,13 @@ pub fn case(parts: &[&[u8]]) -> Vec<u8> {
 }
 
 /// What value and whole answer for a formula: its element, the deepest nesting of AX, whether a fixpoint and whether EX occurs.
-pub fn valued(element: u8, (nesting, fixpoint, ex): (u8, bool, bool)) -> Reply {
+pub fn formula_value(element: u8, (nesting, fixpoint, ex): (u8, bool, bool)) -> Reply {
     let facts = Facts {
         nesting,
         fixpoint,
         ex,
     };
-    Reply::Valued { element, facts }
+    Reply::FormulaValue { element, facts }
 }
 
 /// A chain of n elements, each the complement of its opposite.

@@ -1,4 +1,4 @@
--- `desk_questions::facts_of` meets its contract: by that of `formula::facts`.
+-- `desk_questions::facts_of` meets its contract: by that of `formula_reader::facts`.
 use native.Mathlib.Omega.{arith}
 use borrow.Author.Needs.{needs}
 use Rattle.desk_questions.proofs.formulas.facts_of.Statement.{statement}

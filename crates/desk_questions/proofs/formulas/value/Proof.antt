@@ -1,4 +1,4 @@
--- `desk_questions::value` meets its contract: by the examination, the range, then by the value.
+-- `desk_questions::value` meets its contract: by the examination, the range, then by the value and the facts.
 use mathlib.Core.Path.{refl, sym, _∙_}
 use Rattle.desk.specs.Desk.{Desk, Call, Question}
 use Rattle.desk_check.specs.Read.{deskOf}

@@ -7,4 +7,4 @@ use Rattle.exports.proofs.questions.koelchair_value.Tie as tie
 pub koelchair-value-spec : {M : Type 1} → statement M
 koelchair-value-spec =
     tie.close (tie.spec (λ c κs. search needs) (λ c κs. search needs)
-    (λ c. done-in-numbers _ _ _ _ _ (c .before .value .ensures) (c .valued .ensures)))
+    (λ c. done-in-numbers _ _ _ _ _ (c .before .value .ensures) (c .formula-value .ensures)))

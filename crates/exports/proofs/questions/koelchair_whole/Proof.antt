@@ -7,4 +7,4 @@ use Rattle.exports.proofs.questions.koelchair_whole.Tie as tie
 pub koelchair-whole-spec : {M : Type 1} → statement M
 koelchair-whole-spec =
     tie.close (tie.spec (λ c κs. search needs) (λ c κs. search needs)
-    (λ c. done-in-numbers _ _ _ _ _ (c .before .whole .ensures) (c .valued .ensures)))
+    (λ c. done-in-numbers _ _ _ _ _ (c .before .whole .ensures) (c .formula-value .ensures)))
