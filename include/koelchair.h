@@ -132,10 +132,10 @@ typedef struct koelchair_standing {
     bool second_whole;
 } koelchair_standing;
 
-/* number and part are those of a refusal, value is as the kind says. byte, flag1 and flag2 are used by KOELCHAIR_FORMULA_VALUE alone and are facts
-   of the formula as it is written: byte is the deepest nesting of AX, 0 to 254, flag1 says that a fixpoint occurs, flag2 that EX occurs.
-   A field that a kind does not name is 0 or false: second is so in every answer of today, so that a kind to come does not alter the
-   layout. */
+/* number and part are those of a refusal, value is as the kind says. byte, flag1 and flag2 are used by KOELCHAIR_FORMULA_VALUE alone,
+   and are facts of the formula as it is written: byte is the deepest nesting of AX, 0 to 254, flag1 says that a fixpoint occurs, flag2
+   that EX occurs. A field that a kind does not name is 0 or false. second is 0 in every answer of today; it is there so that a kind to
+   come does not alter the layout. */
 typedef struct koelchair_answer {
     uint8_t kind;
     uint8_t number;
@@ -217,7 +217,8 @@ koelchair_answer koelchair_value(koelchair_standing standing,
                                  const uint8_t *second, size_t second_length,
                                  uint8_t formula, uint8_t model, uint8_t state);
 
-/* The value of a formula on the whole of model 1 or 2, and the same facts: KOELCHAIR_FORMULA_VALUE, or KOELCHAIR_REFUSED with 11, 12 or 13. */
+/* The value of a formula on the whole of model 1 or 2, and the same facts: KOELCHAIR_FORMULA_VALUE, or KOELCHAIR_REFUSED with 11, 12
+   or 13. */
 koelchair_answer koelchair_whole(koelchair_standing standing,
                                  const uint8_t *store, size_t store_length,
                                  const uint8_t *first, size_t first_length,

@@ -1,5 +1,5 @@
 /* Reads a case from standard input, prints its listing, works its rounds to the end, and prints every answer: the table at each round and
-   which formulas it covers, the score, the share, and the formulas' values. A refusal is said in words, with its number and part.
+   which formulas it covers, the score, the share, and the formulas' facts and values. A refusal is said in words, with its number and part.
 
    From the repository's root, after `rt staticlib exports`:
 
@@ -48,11 +48,11 @@ static bool formula_whole(const struct desk *d, uint8_t formula, uint8_t model, 
     return whole->kind == KOELCHAIR_FORMULA_VALUE;
 }
 
-/* Whether the table shown covers a formula, by the facts that value and whole give: its entries then bound the formula's values. */
-static bool covered(const struct desk *d, koelchair_answer valued)
+/* Whether the table shown covers a formula, by the facts that whole gave: its entries then bound the formula's values. */
+static bool covered(const struct desk *d, koelchair_answer whole)
 {
-    bool fixpoint = valued.flag1, ex = valued.flag2;
-    return !ex && (d->standing.settled || (!fixpoint && valued.byte < d->standing.round));
+    bool fixpoint = whole.flag1, ex = whole.flag2;
+    return !ex && (d->standing.settled || (!fixpoint && whole.byte < d->standing.round));
 }
 
 static void print_covered(const struct desk *d)

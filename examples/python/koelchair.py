@@ -8,15 +8,16 @@
     for row in desk.rows():
         print(*row)
     for formula in range(desk.sizes().formulas):
-        valued = desk.whole(formula, 1)
-        print("formula", formula, "is", valued.element, "and covered from", valued.facts.covered_from())
+        whole = desk.whole(formula, 1)
+        print("formula", formula, "is", whole.element, "and covered from", whole.facts.covered_from())
 
 `build.sh` makes the shared library libkoelchair.so, which stands beside this file, from the proved archive. This module passes
-arguments on and reads answers, and adds no rule of its own. How a case is laid out byte for byte is said in
-docs/SPECIFICATION.md. Elements, states and formulas are numbers from 0, models are 1 and 2.
+arguments on and reads answers; its own is only how FormulaFacts says which rounds cover a formula, by the conditions of
+docs/SPECIFICATION.md, which also says how a case is laid out byte for byte. Elements, states and formulas are numbers from 0,
+models are 1 and 2.
 
     Desk(case)      a desk with an accepted case; its calls are methods
-    FormulaValue    a formula's element with its Facts, which say from which round on a table covers the formula
+    FormulaValue    a formula's element with its FormulaFacts, which say from which round on a table covers the formula
     listing(case)   the whole result as text, without a desk
     Refused         the exception by which a call says that it is refused
     VERSION         the library's version
@@ -144,7 +145,7 @@ class Step(NamedTuple):
     round: Optional[int]
 
 
-class Facts(NamedTuple):
+class FormulaFacts(NamedTuple):
     """A formula as it is written: the deepest nesting of AX, whether a fixpoint and whether EX occurs."""
 
     nesting: int
@@ -166,7 +167,7 @@ class FormulaValue(NamedTuple):
     """What value and whole answer: the formula's element, and the facts that say which tables cover the formula."""
 
     element: int
-    facts: Facts
+    facts: FormulaFacts
 
 
 class Sizes(NamedTuple):
@@ -184,7 +185,7 @@ def _accepted(answer):
     if answer.kind == _REFUSED:
         raise Refused(answer.number, answer.part)
     if answer.kind == _FORMULA_VALUE:
-        return FormulaValue(answer.value, Facts(answer.byte, answer.flag1, answer.flag2))
+        return FormulaValue(answer.value, FormulaFacts(answer.byte, answer.flag1, answer.flag2))
     return answer.value
 
 

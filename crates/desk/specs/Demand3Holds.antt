@@ -44,8 +44,8 @@ use Rattle.desk.specs.Demand3.{FactsAnswered, by-value, by-whole, Bounde
 
 -- ---- the bounds, and the facts that value and whole answer
 
-valued-accepted : (q : Question) (d : Desk) (e : ℕ) (x : FormulaFacts) → asked q d ≡ Reply.FormulaValue e x → accepted (Call.Ask q) d ≡ true
-valued-accepted q d e x p = not-failed _ (λ a. let r = refused-refusal (Call.Ask q) d a in never (r .0) (sym (ap (λ y. y .reply) (perform-refused (Call.Ask q) d (r .0) (r .1))) ∙ p))
+formula-value-accepted : (q : Question) (d : Desk) (e : ℕ) (x : FormulaFacts) → asked q d ≡ Reply.FormulaValue e x → accepted (Call.Ask q) d ≡ true
+formula-value-accepted q d e x p = not-failed _ (λ a. let r = refused-refusal (Call.Ask q) d a in never (r .0) (sym (ap (λ y. y .reply) (perform-refused (Call.Ask q) d (r .0) (r .1))) ∙ p))
   where
     never : (r : Refusal) → numberReply r ≡ Reply.FormulaValue e x → ⊥
     never r h = let z : _≡_ {A = ℕ} 0 1 = cc in omega arith
@@ -65,7 +65,7 @@ module _ {c : Content} {T : ℕ} (answers : List Reply) (d : Desk) (w : Stands c
       → answerTo q view-now .reply ≡ Reply.FormulaValue y (factsOf (formulaIn c f)) → (f < length (c .formulas)) × (x ≡ factsOf (formulaIn c f))
   from-question q f y e x p l h =
       let n = answered-from w q in
-      let i = n .accepts .0 (valued-accepted q d e x p) in
+      let i = n .accepts .0 (formula-value-accepted q d e x p) in
       let z : Reply.FormulaValue e x ≡ Reply.FormulaValue y (factsOf (formulaIn c f)) = sym p ∙ ap (λ b. b .reply) (n .answers i) ∙ h in
       (l i, cc)
 

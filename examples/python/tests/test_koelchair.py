@@ -21,7 +21,7 @@ def case(name):
 
 def formula_value(element, nesting, fixpoint=False, ex=False):
     """What value and whole answer."""
-    return koelchair.FormulaValue(element, koelchair.Facts(nesting, fixpoint, ex))
+    return koelchair.FormulaValue(element, koelchair.FormulaFacts(nesting, fixpoint, ex))
 
 
 class Examples(unittest.TestCase):

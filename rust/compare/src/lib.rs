@@ -4,14 +4,14 @@
 //!
 //! - generator: numbers from a seed
 //! - lattices, non_lattices, models, formulas: the parts of a case, within the rules and not
-//! - shapes: what is looked for in a formula that was valued
+//! - shapes: shapes of a formula in which its facts are easily counted wrongly
 //! - cases, damage: whole cases, within the rules, and aimed at the refusals 1 to 10
 //! - desks, alterations: desks of any content, and desks altered from outside
 //! - conversions: standings and answers of the one implementation in the types of the other, which the benchmark takes too
 //! - calls, arguments: a call made of either implementation, and what it is made with
 //! - comparison, counts, lists: both made and compared, what was met, and the lists
 //!
-//! KOELCHAIR_LISTS=number makes that many lists. KOELCHAIR_SEED=number makes the one list of that seed, and prints every call and its answer
+//! KOELCHAIR_LISTS=number makes that many lists; of some thousands or fewer the rarest shapes may be missing, which the test reports. KOELCHAIR_SEED=number makes the one list of that seed, and prints every call and its answer
 //! when the tests run with `-- --nocapture`.
 
 pub mod alterations;

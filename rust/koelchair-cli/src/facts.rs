@@ -4,7 +4,7 @@ use crate::json::string;
 use koelchair::{CoveredFrom, FormulaFacts};
 
 /// The facts: `2 nested AX, no fixpoint, no EX`.
-pub fn written(facts: FormulaFacts) -> String {
+pub fn words(facts: FormulaFacts) -> String {
     let nested = match facts.nesting {
         0 => "no AX".to_string(),
         count => format!("{count} nested AX"),
@@ -23,7 +23,7 @@ pub fn bounded(facts: FormulaFacts) -> String {
         CoveredFrom::Settled => "entries bound it once settled".to_string(),
         CoveredFrom::Never => "entries do not bound it".to_string(),
     };
-    format!("{}: {bounded}", written(facts))
+    format!("{}: {bounded}", words(facts))
 }
 
 /// The same as fields of JSON; `coveredFrom` is a round, `"settled"`, or null.

@@ -23,17 +23,18 @@
 //! assert_eq!(rounds, 2);
 //! assert_eq!(desk.show(), [1]);
 //! assert_eq!(desk.score(), Element(1));
-//! let valued = desk.whole(0, 1)?;
-//! assert_eq!(valued.element, Element(1));
+//! let whole = desk.whole(0, 1)?;
+//! assert_eq!(whole.element, Element(1));
 //! // The formula has no AX, no fixpoint and no EX, so that the entries bound it from round 1 on.
-//! assert_eq!(valued.facts.covered_from(), CoveredFrom::Round(1));
+//! assert_eq!(whole.facts.covered_from(), CoveredFrom::Round(1));
 //! # Ok::<(), koelchair::Refusal>(())
 //! ```
 //!
 //! A case holds a distributive De Morgan lattice, two models (Kripke structures whose initial, proposition and transition values are
 //! elements of the lattice) and up to eight formulas of the mu-calculus. The desk works out the greatest latticed simulation between
 //! the models, a row of a round at a time, and values the formulas. All of that is done by the proved static library
-//! `libexports.a`; this crate passes its arguments on and reads its answers, and adds no rule of its own.
+//! `libexports.a`; this crate passes its arguments on and reads its answers. Its own is only how [`FormulaFacts`] says which rounds cover a
+//! formula, by the conditions of docs/SPECIFICATION.md.
 //!
 //! - [`Desk`] owns what the calls need.
 //! - [`DeskRef`] and [`DeskMut`] borrow a standing, a store and two tables of any content and length, for callers that keep these

@@ -26,7 +26,7 @@ impl Opened {
     pub fn facts(&self) -> Result<Vec<FormulaFacts>, Failure> {
         let formulas = 0..self.case.formulas.len();
         let facts = |f: usize| match self.desk.whole(f as u8, 1) {
-            Ok(valued) => Ok(valued.facts),
+            Ok(whole) => Ok(whole.facts),
             Err(refusal) => Err(Failure::Other(refusal.to_string())),
         };
         formulas.map(facts).collect()

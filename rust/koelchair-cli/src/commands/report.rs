@@ -1,4 +1,5 @@
-//! `report`: the listing of document 01, or the same with names. Names are put to the numbers of the library's listing.
+//! `report`: the listing of document 01, or with names, and below each formula from which round on entries bound it. Names are put to the numbers of
+//! the library's listing.
 
 use super::{document, open, read_text, table, Arguments, Failure, Opened, Outcome, Printed};
 use crate::errors::Source;
@@ -99,7 +100,7 @@ fn named_listing(opened: &Opened, facts: &[FormulaFacts]) -> Result<String, Fail
 fn values_of(opened: &Opened, formula: usize, model: usize) -> Vec<String> {
     let (case, desk) = (&opened.case, &opened.desk);
     let value = |q: usize| match desk.value(formula as u8, model as u8 + 1, State(q as u8)) {
-        Ok(valued) => case.element(valued.element.0),
+        Ok(value) => case.element(value.element.0),
         Err(_) => "refused".to_string(),
     };
     (0..case.models[model].size()).map(value).collect()

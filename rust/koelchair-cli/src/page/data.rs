@@ -182,7 +182,7 @@ fn formula(case: &Case, desk: &Desk, f: usize, named: &NamedFormula) -> Result<S
     let mut fields = vec![
         ("name", string(&named.name)),
         ("text", string(&text)),
-        ("written", string(&facts::written(student.facts))),
+        ("facts", string(&facts::words(student.facts))),
         ("whole", elements(vec![student, course])),
         ("values", array([values(1)?, values(2)?])),
     ];

@@ -1,8 +1,8 @@
 // The formulas with their values on both whole models and at each state, and whether the shown round covers them.
 
-// A formula as it is written, and below it what it has.
+// A formula as it is written, and below it its facts.
 function formulaText(formula) {
-  return make("div", {}, make("code", {}, formula.text), make("div", { class: "facts" }, formula.written));
+  return make("div", {}, make("code", {}, formula.text), make("div", { class: "facts" }, formula.facts));
 }
 
 // From when on a table covers a formula, in words.
@@ -19,9 +19,9 @@ const coveredMarks = data.formulas.map(() => make("span"));
 function showCovered() {
   coveredHead.textContent = `In round ${shownRound}`;
   data.formulas.forEach((formula, f) => {
-    const [isCovered, why] = covered(formula);
+    const [isCovered, mark] = covered(formula);
     coveredMarks[f].className = isCovered ? "covered" : "";
-    coveredMarks[f].textContent = why.split(":")[0];
+    coveredMarks[f].textContent = mark;
   });
 }
 

@@ -85,15 +85,15 @@ function atMost(a, b) {
   return lattice.atMost[a * lattice.names.length + b] === 1;
 }
 
-// Whether the shown round covers a formula, and why, in words.
+// Whether the shown round covers a formula: yes or no, a word for it, and why.
 function covered(formula) {
   const from = formula.coveredFrom;
-  if (from === null) return [false, "never: has EX"];
-  if (shownRound === T) return [true, "covered: settled, no EX"];
-  if (from === "settled") return [false, "not yet: has a fixpoint, only once settled"];
+  if (from === null) return [false, "never", "has EX"];
+  if (shownRound === T) return [true, "covered", "settled, no EX"];
+  if (from === "settled") return [false, "not yet", "has a fixpoint, only once settled"];
   const nested = `${formula.nestedAx} nested AX`;
-  if (from <= shownRound) return [true, `covered: ${nested}, fewer than ${shownRound}`];
-  return [false, `not yet: ${nested}, from round ${from} on`];
+  if (from <= shownRound) return [true, "covered", `${nested}, fewer than ${shownRound}`];
+  return [false, "not yet", `${nested}, from round ${from} on`];
 }
 
 // A formula's line: values of both, the bound, whether the entry keeps it, whether it must.
@@ -101,7 +101,7 @@ function pairLine(formula, f, entry) {
   const [q1, q2] = chosen;
   const [value1, value2] = [formula.values[0][q1], formula.values[1][q2]];
   const bound = implies(value2, value1);
-  const [isCovered, why] = covered(formula);
+  const [isCovered, mark, why] = covered(formula);
   const below = atMost(entry, bound);
   if (isCovered && !below) failed(`${formula.name} is covered, and the entry is not at or below the bound`);
   const line = [
@@ -110,7 +110,7 @@ function pairLine(formula, f, entry) {
     chip(value1),
     chip(bound),
     below ? "at or below" : "not at or below",
-    make("span", { class: isCovered ? "covered" : "" }, why),
+    make("span", { class: isCovered ? "covered" : "" }, `${mark}: ${why}`),
   ];
   return { line, f, bound, below, isCovered };
 }

@@ -75,8 +75,8 @@ pub fn listing_by_calls(case: &[u8]) -> String {
     let _ = writeln!(text, "score {}", desk.score());
     for formula in 0..case[0] - 3 {
         let whole = |model| {
-            let valued = desk.whole(formula, model);
-            valued.expect("the formula is there").element
+            let whole = desk.whole(formula, model);
+            whole.expect("the formula is there").element
         };
         let _ = writeln!(text, "formula {formula}: {} {}", whole(1), whole(2));
     }

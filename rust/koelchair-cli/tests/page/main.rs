@@ -319,7 +319,7 @@ fn facts_are_the_librarys() {
     assert!(formulas > 20, "{formulas} formulas");
 }
 
-/// Whether a round covers a formula, by the page's words about it.
+/// Whether a round covers a formula, by the page's `coveredFrom`.
 fn covered(formula: &Json, round: usize, settled: bool) -> bool {
     match formula.get("coveredFrom") {
         Json::Null => false,

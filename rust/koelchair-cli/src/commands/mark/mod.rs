@@ -78,8 +78,8 @@ impl Marks {
     fn of(desk: &Desk, formulas: usize, shared: u8) -> Result<Marks, Failure> {
         let refused = |refusal: koelchair::Refusal| Failure::Other(refusal.to_string());
         let whole = |f: usize| {
-            let valued = desk.whole(f as u8, 1).map_err(refused)?;
-            Ok(valued.element.0)
+            let whole = desk.whole(f as u8, 1).map_err(refused)?;
+            Ok(whole.element.0)
         };
         Ok(Marks {
             score: desk.score().0,
