@@ -26,7 +26,8 @@ use Rattle.formula.specs.Answer.{factsOf}
 use Rattle.formula.specs.RoundTrip.{formula-part}
 use Rattle.casefile.specs.Reading.{Content}
 use Rattle.casefile.specs.Content.{content-sound}
-use Rattle.rounds.specs.Table.{tableOf, simulationTest}
+use Rattle.entries.specs.Table.{tableOf}
+use Rattle.rounds.specs.Table.{simulationTest}
 use Rattle.rounds.specs.Round.{simulation-test}
 use Rattle.desk.specs.Desk.{Desk, Question, Call, Reply}
 use Rattle.desk.specs.Case.{ops, model1, model2, N2, tableSize, modelIn, formulaIn, operator, roundIn, IsT, entryAt}

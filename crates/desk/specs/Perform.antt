@@ -10,7 +10,8 @@ use Rattle.theory.specs.Value.{valueAt, wholeValue}
 use Rattle.theory.specs.Simulation.{score, share}
 use Rattle.formula.specs.Answer.{factsOf}
 use Rattle.casefile.specs.Reading.{Content, CaseReading, refused, content}
-use Rattle.rounds.specs.Table.{tableOf, simulationTest}
+use Rattle.entries.specs.Table.{tableOf}
+use Rattle.rounds.specs.Table.{simulationTest}
 use Rattle.desk.specs.Desk.{Desk, Question, Call, Reply, Answered, replyAlone, wholeTable, callLentBuffers}
 use Rattle.desk.specs.Case.{ops, model1, model2, N2, tableSize, modelIn, formulaIn, operator, entryAt}
 use Rattle.desk.specs.View.{View, viewOf}

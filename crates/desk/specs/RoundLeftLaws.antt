@@ -15,7 +15,8 @@ use Rattle.theory.specs.Rounds.{F-element}
 use Rattle.theory.specs.TestLaws.{false-true, cond-true, cond-false}
 use Rattle.casefile.specs.Reading.{Content, content}
 use Rattle.casefile.specs.Content.{ContentSound, content-sound}
-use Rattle.rounds.specs.Table.{tableOf, rowChanged}
+use Rattle.entries.specs.Table.{tableOf}
+use Rattle.rounds.specs.Table.{rowChanged}
 use Rattle.rounds.specs.Round.{row-elements}
 use Rattle.rounds.specs.Rest.{rowsFrom, rowsChanged, row-length}
 use Rattle.desk.specs.Desk.{Standing, Desk, Call, Reply, wholeTable, otherTable}

@@ -17,7 +17,7 @@ use Rattle.casefile.specs.Reading.{Content, content, contentParts, caseReading}
 use Rattle.casefile.specs.Gapless.{gapless}
 use Rattle.casefile.specs.Accepted.{gapless-most}
 use Rattle.casefile.specs.Content.{ContentSound, content-sound}
-use Rattle.rounds.specs.Table.{tableOf}
+use Rattle.entries.specs.Table.{tableOf}
 use Rattle.rounds.specs.Round.{RoundSoFar, round-none, top-round}
 use Rattle.desk.specs.Desk.{Standing, Desk, wholeTable, otherTable}
 use Rattle.desk.specs.Case.{ops, model1, model2, N1, N2, tableSize, operator, roundIn, IsT}

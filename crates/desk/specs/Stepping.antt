@@ -15,7 +15,8 @@ use Rattle.theory.specs.Simulation.{SameTable}
 use Rattle.theory.specs.Rounds.{F-element}
 use Rattle.theory.specs.TestLaws.{false-true, cond-true, cond-false}
 use Rattle.casefile.specs.Reading.{Content}
-use Rattle.rounds.specs.Table.{tableOf, rowWritten, rowChanged}
+use Rattle.entries.specs.Table.{tableOf}
+use Rattle.rounds.specs.Table.{rowWritten, rowChanged}
 use Rattle.rounds.specs.Round.{RoundSoFar, RoundDone, round-none, round-more, round-reached, round-done, F-reads, row-elements}
 use Rattle.desk.specs.Desk.{Standing, Desk, wholeTable, otherTable}
 use Rattle.desk.specs.Case.{ops, model1, model2, N1, N2, tableSize, operator, roundIn}

@@ -5,7 +5,7 @@
 use Prim.Native.Nat.{ℕ}
 use mathlib.Core.Bool.{Bool}
 use Rattle.casefile.specs.Reading.{Content}
-use Rattle.rounds.specs.Table.{tableOf}
+use Rattle.entries.specs.Table.{tableOf}
 use Rattle.desk.specs.Desk.{Desk, wholeTable}
 use Rattle.desk.specs.Case.{N2}
 

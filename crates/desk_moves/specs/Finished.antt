@@ -11,7 +11,7 @@ use Rattle.refusal.specs.declared.Refusal.{Refusal}
 use Rattle.casefile.specs.declared.Sizes.{Sizes}
 use Rattle.casefile.specs.Directory.{partAt}
 use Rattle.casefile.specs.Reading.{CaseReading, refused, content}
-use Rattle.rounds.specs.Table.{tableOf}
+use Rattle.entries.specs.Table.{tableOf}
 use Rattle.rounds.specs.Rest.{rowsFrom, rowsChanged, RestIn}
 use Rattle.desk.specs.Desk.{Desk, Standing, Call, Reply}
 use Rattle.desk.specs.Case.{model1, model2, N1, N2, operator}

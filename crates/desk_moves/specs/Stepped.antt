@@ -17,7 +17,8 @@ use Rattle.model.specs.Places.{prod-le}
 use Rattle.casefile.specs.declared.Sizes.{Sizes}
 use Rattle.casefile.specs.Directory.{partCount, partAt}
 use Rattle.casefile.specs.Conditions.{Placed}
-use Rattle.rounds.specs.Table.{tableOf, rowWritten, rowChanged, Shaped}
+use Rattle.entries.specs.Table.{tableOf, Shaped}
+use Rattle.rounds.specs.Table.{rowWritten, rowChanged}
 use Rattle.desk.specs.Desk.{Desk, Standing, Call, Reply}
 use Rattle.desk.specs.Case.{latticeSize, model1, model2, N1, N2, operator, tableSize}
 use Rattle.desk.specs.View.{shownTable}

@@ -25,7 +25,8 @@ use Rattle.casefile.specs.declared.Sizes.{Sizes}
 use Rattle.casefile.specs.Directory.{partCount, partAt}
 use Rattle.casefile.specs.Conditions.{Placed}
 use Rattle.valuer.specs.Values.{ModelOver, ValueAt, WholeValue}
-use Rattle.rounds.specs.Table.{Shaped, scoreIn, simulationIn}
+use Rattle.entries.specs.Table.{Shaped}
+use Rattle.rounds.specs.Table.{scoreIn, simulationIn}
 use Rattle.rounds.specs.Round.{byte-at}
 use Rattle.share.specs.ShareIn.{shareIn, shareIn-is}
 use Rattle.desk.specs.Desk.{Desk, Question, Call, Reply, wholeTable}

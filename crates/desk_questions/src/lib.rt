@@ -13,6 +13,7 @@ pub use tables::judge;
 pub use tables::score;
 pub use tables::share;
 pub use tables::show;
+pub use tables::whole_table;
 
 // What score answers.
 pub enum ElementAnswer {

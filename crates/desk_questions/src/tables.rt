@@ -20,7 +20,7 @@ ghost use Rattle.desk_questions.specs.Questions.{Readable, caseScore, ca
 // ---- show
 
 // The whole table.
-fn whole_table<'a>(second_whole: bool, first: &'a [u8], second: &'a [u8]) -> &'a [u8]
+pub fn whole_table<'a>(second_whole: bool, first: &'a [u8], second: &'a [u8]) -> &'a [u8]
     ensures { λ r. ⌜ now r ≡ cond «second_whole» (now (second .entry)) (now (first .entry)) ⌝ }
 {
     if second_whole {

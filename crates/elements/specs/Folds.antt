@@ -4,10 +4,11 @@
 --   bigJoin-lt, bigMeet-lt: the results are elements
 --   fold-meets, fold-joins: a fold of codes is the code of the finite meet or join
 --   fold-within: what is met with a word stays within whatever the word is within; top-same: a word within the top's stays as it is when met with a word that the top's is within
-use Prim.Native.Nat.{ℕ, zero, suc, _%_, _<_}
+--   or-stays, and-stays: joins that have reached the top's word, and meets that have reached 0, stay there
+use Prim.Native.Nat.{ℕ, zero, suc, _+_, _-_, _%_, _≤_, _<_}
 use mathlib.Core.Path.{_≡_, refl, sym, ap, ap₂, _∙_}
 use mathlib.Core.List.{List}
-use native.Mathlib.Nat.{le-refl}
+use native.Mathlib.Nat.{add-zero, add-suc, le-refl}
 use native.Mathlib.Omega.{arith}
 use lib.Bits.{bitAnd, bitOr}
 use lib.ListN.{getD}
@@ -15,7 +16,7 @@ use Rattle.theory.specs.Lattice.{bigMeet, bigJoin}
 use Rattle.theory.specs.Loop.{fold}
 use Rattle.elements.specs.declared.Lattice.{Lattice}
 use Rattle.elements.specs.Words.{codeIn, negatedCodeIn, decodeIn, opsIn, Coded}
-use Rattle.elements.specs.Laws.{Within, within-trans, and-left, or-left}
+use Rattle.elements.specs.Laws.{Within, within-refl, within-trans, within-antisym, and-left, or-left, or-lub}
 use Rattle.elements.specs.Coded.{guess-is, meet-lt, join-lt, meet-code, join-code, complement-code}
 
 -- x is the code of e. A record, so that a goal shows w, x and e
@@ -78,3 +79,27 @@ fold-within {x} h f (suc n) = within-trans (and-left (fold bitAnd x f n) (f n)) 
 
 pub top-same : {x top : ℕ} → Within x top → (y : ℕ) → x ≡ bitAnd x (bitOr top y)
 top-same {top = top} h y = sym (within-trans h (or-left top y) .eq)
+
+-- ---- joins that have reached the top's word, and meets that have reached 0, stay there
+
+module _ (f : ℕ → ℕ) where
+  or-within : {top : ℕ} (n : ℕ) → ((i : ℕ) → i < n → Within (f i) top) → Within (fold bitOr 0 f n) top
+  unfolding fold
+  or-within zero h = record { eq = refl }
+  or-within (suc n) h = or-lub (or-within n (λ i l. h i (omega arith))) (h n (le-refl _))
+
+  or-on : (a d : ℕ) → Within (fold bitOr 0 f a) (fold bitOr 0 f (a + d))
+  unfolding fold
+  or-on a zero = rw (add-zero a) (within-refl (fold bitOr 0 f a))
+  or-on a (suc d) = rw (add-suc a d) (within-trans (or-on a d) (or-left (fold bitOr 0 f (a + d)) _))
+
+  pub or-stays : {top : ℕ} (a b : ℕ) → a ≤ b → ((i : ℕ) → i < b → Within (f i) top) → Within top (fold bitOr 0 f a) → fold bitOr 0 f b ≡ top
+  or-stays a b l h e = let z : a + (b - a) ≡ b = omega arith in within-antisym (or-within b h) (within-trans e (rw z at (or-on a (b - a))))
+
+  and-on : (x a d : ℕ) → fold bitAnd x f a ≡ 0 → fold bitAnd x f (a + d) ≡ 0
+  unfolding fold
+  and-on x a zero e = ap (fold bitAnd x f) (add-zero a) ∙ e
+  and-on x a (suc d) e = ap (fold bitAnd x f) (add-suc a d) ∙ ap (λ (y : ℕ). bitAnd y (f (a + d))) (and-on x a d e)
+
+  pub and-stays : (x a b : ℕ) → a ≤ b → fold bitAnd x f a ≡ 0 → fold bitAnd x f b ≡ 0
+  and-stays x a b l e = let z : a + (b - a) ≡ b = omega arith in rw z at (and-on x a (b - a) e)

@@ -1,15 +1,17 @@
-// The eight calls, the rest of a round, what a desk holds and the listing for C and Rust: exported functions over the calls by value, with their answers
-// as numbers in structs of C's layout.
+// The eight calls, the rest of a round, what a desk holds, one entry of the next round and the listing for C and Rust: exported functions over the
+// calls by value, with their answers as numbers in structs of C's layout.
 //   numbers: each call's answer as numbers
 //   moves: koelchair_open and koelchair_step
 //   finishing: koelchair_finish_round
 //   questions: koelchair_show, koelchair_value, koelchair_whole, koelchair_score, koelchair_share and koelchair_judge
 //   held: koelchair_sizes
+//   worked: koelchair_entry
 mod finishing;
 mod held;
 mod moves;
 mod numbers;
 mod questions;
+mod worked;
 
 use desk_check::Standing;
 ghost use mathlib.Core.Path.{_≡_};
@@ -60,6 +62,16 @@ pub struct DeskSizes {
     pub states1: u8,
     pub states2: u8,
     pub formulas: u8,
+}
+
+// What working one entry of the next round gives: the entry, and how many pairs it looked at. A desk that is refused, or a state that there is not, has the
+// refusal's number and part, and zeros; any other has number and part 0.
+#[repr(C)]
+pub struct WorkedEntry {
+    pub number: u8,
+    pub part: u8,
+    pub value: u8,
+    pub pairs: u32,
 }
 
 // Writes what the program `report` prints for a case at the start of the text, and says how many bytes it has. The bytes after it are unchanged.

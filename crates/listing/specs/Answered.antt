@@ -16,7 +16,7 @@ use Rattle.theory.specs.Loop.{tab-at}
 use Rattle.formula.specs.declared.FormulaFacts.{FormulaFacts}
 use Rattle.formula.specs.Answer.{factsOf}
 use Rattle.casefile.specs.Reading.{Content}
-use Rattle.rounds.specs.Table.{tableOf}
+use Rattle.entries.specs.Table.{tableOf}
 use Rattle.rounds.specs.Round.{cell-lt}
 use Rattle.desk.specs.Desk.{Desk, Question, Call, Reply}
 use Rattle.desk.specs.Case.{ops, model1, model2, N1, N2, tableSize, modelIn, formulaIn, roundIn, entryAt, tableBytes, IsT}

@@ -24,7 +24,7 @@ use Rattle.theory.specs.TestLaws.{false-true}
 use Rattle.elements.specs.declared.Lattice.{Lattice}
 use Rattle.elements.specs.Words.{opsIn, Coded}
 use Rattle.model.specs.Places.{prod-le}
-use Rattle.rounds.specs.Table.{tableOf, Shaped}
+use Rattle.entries.specs.Table.{tableOf, Shaped}
 use Rattle.rounds.specs.Round.{F-reads, top-round, RoundSoFar, RoundDone, round-done}
 use Rattle.listing.specs.Text.{tableText}
 use Rattle.listing.specs.Entries.{table-cong}

@@ -7,7 +7,7 @@ ghost use Prim.Native.Nat.{_+_, _≤_};
 ghost use lib.ListN.{length};
 ghost use Rattle.theory.specs.Part.{modelOf};
 ghost use Rattle.elements.specs.Words.{opsIn, Coded};
-ghost use Rattle.rounds.specs.Table.{Shaped};
+ghost use Rattle.entries.specs.Table.{Shaped};
 ghost use Rattle.listing.specs.Settling.{Startable, SettledAt, textOfTable, WroteSettled};
 ghost use Rattle.listing.specs.Accepting.{Settleable};
 ghost use Rattle.listing.specs.Writing.{Wrote};

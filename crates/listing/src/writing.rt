@@ -2,7 +2,7 @@
 ghost use mathlib.Core.Path.{_≡_};
 ghost use Prim.Native.Nat.{_+_, _*_, _≤_, _<_};
 ghost use lib.ListN.{length, getD};
-ghost use Rattle.rounds.specs.Table.{tableOf};
+ghost use Rattle.entries.specs.Table.{tableOf};
 ghost use Rattle.listing.specs.Text.{decimal, blank, item, lastItem, heading, entriesText, rowText, rowsText};
 ghost use Rattle.listing.specs.Writing.{Wrote};
 

@@ -21,7 +21,8 @@ use Rattle.theory.specs.Lists.{tab}
 use Rattle.theory.specs.Written.{written-length}
 use Rattle.elements.specs.declared.Lattice.{Lattice}
 use Rattle.model.specs.Places.{row-le}
-use Rattle.rounds.specs.Table.{tableOf, rowWritten, rowChanged, FIn}
+use Rattle.entries.specs.Table.{tableOf, FIn}
+use Rattle.rounds.specs.Table.{rowWritten, rowChanged}
 use Rattle.rounds.specs.Round.{Worked, RoundSoFar, round-none, round-more}
 
 module _ (M₁ M₂ : Model ℕ) (G : (ℕ → ℕ → ℕ) → ℕ → ℕ → ℕ) (S : ℕ → ℕ → ℕ) where

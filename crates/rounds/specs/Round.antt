@@ -31,7 +31,8 @@ use Rattle.theory.specs.Test.{allBelow}
 use Rattle.theory.specs.TestLaws.{not-and, all-at, all-in}
 use Rattle.elements.specs.declared.Lattice.{Lattice}
 use Rattle.model.specs.Places.{row-le}
-use Rattle.rounds.specs.Table.{tableOf, rowWritten, entrySame, rowSame, rowChanged, changedBelow, simulationTest, FIn}
+use Rattle.entries.specs.Table.{tableOf, FIn}
+use Rattle.rounds.specs.Table.{rowWritten, entrySame, rowSame, rowChanged, changedBelow, simulationTest}
 
 -- in `out` the rows below q are those of F S, and every byte past them is that of `before`
 pub record Worked (M₁ M₂ : Model ℕ) (G : (ℕ → ℕ → ℕ) → ℕ → ℕ → ℕ) (S : ℕ → ℕ → ℕ) (before : List ℕ) (q : ℕ) (out : List ℕ) : Type 0 where

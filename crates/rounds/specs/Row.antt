@@ -20,7 +20,7 @@ use Rattle.theory.specs.Written.{written-none, written-turn}
 use Rattle.theory.specs.Lists.{tab, written}
 use Rattle.elements.specs.Words.{decodeIn}
 use Rattle.model.specs.Places.{row-le}
-use Rattle.rounds.specs.Table.{Shaped}
+use Rattle.entries.specs.Table.{Shaped}
 
 -- a table for n₁ by n₂ states is held
 pub held-by : (m₁ m₂ s : List ℕ) (n₁ n₂ : ℕ) → Shaped m₁ m₂ s → n₁ ≡ getD m₁ 0 0 → n₂ ≡ getD m₂ 0 0 → n₁ * n₂ ≤ length s

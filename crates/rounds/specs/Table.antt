@@ -1,34 +1,24 @@
--- Tables of elements held as bytes, a row that is written into one, and the tests on them; then the terms of the contracts, which say the
--- same of the bytes of models and tables and of a lattice's codes. Rests on theory's Model, Part, Simulation, Test, Lists and elements' Words.
---   tableOf: entry (q1, q2) of a table of bytes
---   Shaped, Room: what the functions ask of models and tables
+-- A row that is written into a table of bytes, and the tests on tables; then the terms of the contracts, which say the
+-- same of the bytes of models and tables and of a lattice's codes. Rests on theory's Model, Part, Simulation, Test and Lists, elements' Words,
+-- and entries' Table.
+--   Room: what the functions ask of a table to write into
 --   rowWritten, entrySame, rowSame, rowChanged, changedBelow, simulationTest: a row in its place, what it changes, S = G(S)
---   FIn, entryIn, scoreIn: F, an entry of F, and score
+--   scoreIn: score
 --   RowIn, rowSameIn, simulationIn: what working a row does, the tests on bytes
-use Prim.Native.Nat.{ℕ, _+_, _*_, _≤_}
+use Prim.Native.Nat.{ℕ, _*_, _≤_}
 use mathlib.Core.Path.{_≡_}
 use mathlib.Core.Bool.{Bool, not}
 use mathlib.Core.List.{List}
 use lib.Dec.{eqb}
 use lib.ListN.{length, getD}
 use Rattle.theory.specs.Model.{Model}
-use Rattle.theory.specs.Part.{modelOf, ModelShape}
-use Rattle.theory.specs.Simulation.{F, score}
+use Rattle.theory.specs.Part.{modelOf}
+use Rattle.theory.specs.Simulation.{score}
 use Rattle.theory.specs.Test.{allBelow}
 use Rattle.theory.specs.Lists.{tab, written}
 use Rattle.elements.specs.declared.Lattice.{Lattice}
 use Rattle.elements.specs.Words.{opsIn}
-
--- 'Entry (q1, q2) is byte q1·N2 + q2', of a table with n for N2
-abbrev pub tableOf : List ℕ → ℕ → ℕ → ℕ → ℕ
-tableOf s n q₁ q₂ = getD s (q₁ * n + q₂) 0
-
--- two model parts over the same propositions, and a table for their states
-pub record Shaped (m₁ m₂ s : List ℕ) : Type 0 where
-  pub first : ModelShape m₁
-  pub second : ModelShape m₂
-  pub same-propositions : getD m₁ 1 0 ≡ getD m₂ 1 0
-  pub held : getD m₁ 0 0 * getD m₂ 0 0 ≤ length s
+use Rattle.entries.specs.Table.{tableOf, FIn}
 
 -- room for a table of their states
 abbrev pub Room : List ℕ → List ℕ → List ℕ → Type 0
@@ -61,27 +51,20 @@ module _ (M₁ M₂ : Model ℕ) (G : (ℕ → ℕ → ℕ) → ℕ → ℕ → 
 -- ---- the terms of the contracts, with the codes w and the numbers l of a lattice
 
 module _ (w : List ℕ) (l : Lattice) (m₁ m₂ : List ℕ) where
-  -- F, for the models that the parts m₁ and m₂ hold
-  abbrev pub FIn : (ℕ → ℕ → ℕ) → ℕ → ℕ → ℕ
-  FIn = F (opsIn w l) (modelOf m₁) (modelOf m₂)
-
   module _ (s : List ℕ) where
-    -- entry (q₁, q₂) of F of the table s, and its score
-    abbrev pub entryIn : ℕ → ℕ → ℕ
-    entryIn q₁ q₂ = FIn (tableOf s (getD m₂ 0 0)) q₁ q₂
-
+    -- the score of the table s
     abbrev pub scoreIn : ℕ
     scoreIn = score (opsIn w l) (modelOf m₁) (modelOf m₂) (tableOf s (getD m₂ 0 0))
 
     -- row q₁ of F of s is written into `before`, which gives `out`; `changed` says whether it differs from that of s
     abbrev pub RowIn : ℕ → List ℕ → List ℕ → Bool → Type 0
     RowIn q₁ before out changed =
-        (out ≡ rowWritten (modelOf m₁) (modelOf m₂) FIn (tableOf s (getD m₂ 0 0)) q₁ before)
-        × (changed ≡ rowChanged (modelOf m₁) (modelOf m₂) FIn (tableOf s (getD m₂ 0 0)) q₁)
+        (out ≡ rowWritten (modelOf m₁) (modelOf m₂) (FIn w l m₁ m₂) (tableOf s (getD m₂ 0 0)) q₁ before)
+        × (changed ≡ rowChanged (modelOf m₁) (modelOf m₂) (FIn w l m₁ m₂) (tableOf s (getD m₂ 0 0)) q₁)
 
     -- row q₁ of s is that of F of s; all rows are
     abbrev pub rowSameIn : ℕ → Bool
-    rowSameIn q₁ = rowSame (modelOf m₁) (modelOf m₂) FIn (tableOf s (getD m₂ 0 0)) q₁
+    rowSameIn q₁ = rowSame (modelOf m₁) (modelOf m₂) (FIn w l m₁ m₂) (tableOf s (getD m₂ 0 0)) q₁
 
     abbrev pub simulationIn : Bool
-    simulationIn = simulationTest (modelOf m₁) (modelOf m₂) FIn (tableOf s (getD m₂ 0 0))
+    simulationIn = simulationTest (modelOf m₁) (modelOf m₂) (FIn w l m₁ m₂) (tableOf s (getD m₂ 0 0))

@@ -1,9 +1,8 @@
 // The simulation operator on tables that are held as bytes: a row, a round, whether a table is a simulation, and score. Everything is worked on
-// the codes of elements (crate `elements`), and an entry is turned back into its element once.
-//   words: the codes of one row's entries
-//   columns: those of all rows of a round
+// the codes of elements (crate `elements`), and an entry is turned back into its element once. A row alone is worked entry by entry (crate
+// `entries`), a round by the inner joins that its rows share.
+//   columns: the codes of all rows of a round
 mod columns;
-mod words;
 
 use columns::TableCodes;
 use columns::all_joins;
@@ -13,19 +12,19 @@ use elements::Codes;
 use elements::Element;
 use elements::Lattice;
 use model::State;
-use words::joined;
-use words::row_codes;
 ghost use mathlib.Core.Path.{_≡_};
 ghost use Prim.Native.Nat.{_+_, _*_, _≤_, _<_};
 ghost use lib.ListN.{length, getD};
 ghost use Rattle.theory.specs.Lists.{Filled};
 ghost use Rattle.theory.specs.Part.{ModelShape};
 ghost use Rattle.elements.specs.Words.{Coded};
-ghost use Rattle.rounds.specs.Table.{Shaped, Room, RowIn, scoreIn, simulationIn};
-ghost use Rattle.rounds.specs.Rows.{rowWords};
+ghost use Rattle.entries.specs.Table.{Shaped};
+ghost use Rattle.entries.specs.Words.{rowWords};
+ghost use Rattle.rounds.specs.Table.{Room, RowIn, scoreIn, simulationIn};
 ghost use Rattle.rounds.specs.Round.{RoundIn};
 ghost use Rattle.rounds.specs.Row.{RowOut, rowSameAs};
-ghost use Rattle.rounds.specs.Codes.{initialCode, Prepared};
+ghost use Rattle.rounds.specs.Codes.{initialCode, joinOf, JoinsOf};
+ghost use Rattle.rounds.specs.Early.{TopOf};
 
 // ---- a row and a round
 
@@ -52,15 +51,48 @@ fn write_row(
     changed
 }
 
-// Works row q1 of F of the table s into the same row of out; says whether any entry differs from that of s.
+// Row q1 of F of the table s, entry by entry, with room for the codes of the table; says whether any entry differs from that of s.
+fn work_row(
+    w: &Codes,
+    l: Lattice,
+    m1: &[u8],
+    m2: &[u8],
+    s: &[u8],
+    out: &mut [u8],
+    q1: State,
+    table: &mut [u64],
+) -> bool
+    requires { ⌜ Coded (now w) l × Shaped (now m1) (now m2) (now s) × Room (now m1) (now m2) (now out) × (q1 .0 < getD (now m1) 0 0)
+        × (getD (now m1) 0 0 * 64 ≤ length (now table)) ⌝ }
+    ensures { λ r. ⌜ RowIn (now (w .entry)) l (now (m1 .entry)) (now (m2 .entry)) (now (s .entry)) (q1 .0) (now (out .entry)) (now (out .exit)) r ⌝ }
+{
+    let mut alike = [0u64; 64];
+    let mut left = [0u64; 64];
+    entries::prepare(w, l, m1, m2, s, q1, &mut alike, &mut left, table);
+    let n2 = model::states(m2);
+    let at = elements::index(q1.0) * n2;
+    let mut changed = false;
+    for q2 in 0..n2 {
+        let e = entries::entry_from(w, l, m1, m2, s, q1, &alike, &left, table, State(q2 as u8));
+        let value = e.value;
+        changed = changed | (s[at + q2] != value.0);
+        out[at + q2] = value.0;
+    }
+    changed
+}
+
+// Works row q1 of F of the table s into the same row of out; says whether any entry differs from that of s. With at most 16 states of model 1
+// the codes of the table take less room, which is faster to clear.
 pub fn row(w: &Codes, l: Lattice, m1: &[u8], m2: &[u8], s: &[u8], out: &mut [u8], q1: State) -> bool
     requires { ⌜ Coded (now w) l × Shaped (now m1) (now m2) (now s) × Room (now m1) (now m2) (now out) × (q1 .0 < getD (now m1) 0 0) ⌝ }
     ensures { λ r. ⌜ RowIn (now (w .entry)) l (now (m1 .entry)) (now (m2 .entry)) (now (s .entry)) (q1 .0) (now (out .entry)) (now (out .exit)) r ⌝ }
 {
-    let n2 = model::states(m2);
-    let mut codes = [0u64; 64];
-    row_codes(w, elements::code(w, l.top), m1, m2, s, q1, &mut codes);
-    write_row(w, l, &codes, s, out, elements::index(q1.0) * n2, n2)
+    if model::states(m1) <= 16 {
+        let mut table = [0u64; 1024];
+        return work_row(w, l, m1, m2, s, out, q1, &mut table);
+    }
+    let mut table = [0u64; 4096];
+    work_row(w, l, m1, m2, s, out, q1, &mut table)
 }
 
 // Works F of the table `whole` into the first N1·N2 bytes of `other`, and keeps its other bytes; says whether any entry differs from that
@@ -72,8 +104,8 @@ pub fn round(w: &Codes, l: Lattice, m1: &[u8], m2: &[u8], whole: &[u8], other: &
     let n1 = model::states(m1);
     let n2 = model::states(m2);
     let mut joins = [0u64; 4096];
-    prepare(w, m1, m2, whole, &mut joins);
     let top = elements::code(w, l.top);
+    inner_joins(w, top, m1, m2, whole, &mut joins);
     let mut codes = [0u64; 64];
     let mut changed = false;
     for q1 in 0..n1 {
@@ -85,14 +117,14 @@ pub fn round(w: &Codes, l: Lattice, m1: &[u8], m2: &[u8], whole: &[u8], other: &
 }
 
 // The inner joins of a table, of every q2.
-fn prepare(w: &Codes, m1: &[u8], m2: &[u8], s: &[u8], joins: &mut TableCodes)
-    requires { ⌜ Shaped (now m1) (now m2) (now s) ⌝ }
-    ensures { λ _. ⌜ Prepared (now (w .entry)) (now (m1 .entry)) (now (m2 .entry)) (now (s .entry)) (now (joins .exit)) ⌝ }
+fn inner_joins(w: &Codes, top: u64, m1: &[u8], m2: &[u8], s: &[u8], joins: &mut TableCodes)
+    requires { ⌜ TopOf (now w) top × Shaped (now m1) (now m2) (now s) ⌝ }
+    ensures { λ _. ⌜ JoinsOf (now (w .entry)) (now (m1 .entry)) (now (m2 .entry)) (now (s .entry)) (now (joins .exit)) ⌝ }
 {
     let n1 = model::states(m1);
     let mut table = [0u64; 4096];
     encode_columns(w, s, n1, model::states(m2), &mut table);
-    all_joins(w, m2, &table, n1, joins);
+    all_joins(w, top, m2, &table, n1, joins);
 }
 
 // ---- the test for a simulation
@@ -120,8 +152,8 @@ pub fn is_simulation(w: &Codes, l: Lattice, m1: &[u8], m2: &[u8], s: &[u8]) -> b
     let n1 = model::states(m1);
     let n2 = model::states(m2);
     let mut joins = [0u64; 4096];
-    prepare(w, m1, m2, s, &mut joins);
     let top = elements::code(w, l.top);
+    inner_joins(w, top, m1, m2, s, &mut joins);
     let mut codes = [0u64; 64];
     for q1 in 0..n1 {
         row_from(w, top, m1, m2, &joins, State(q1 as u8), &mut codes);
@@ -145,6 +177,18 @@ fn initial_codes(w: &Codes, m: &[u8], out: &mut [u64])
     }
 }
 
+// The join of the first n words of `row`, each met with the word of `entries` at its place.
+fn joined(row: &[u64; 64], entries: &[u64], n: usize) -> u64
+    requires { ⌜ (n ≤ 64) × (n ≤ length (now entries)) ⌝ }
+    ensures { λ r. ⌜ r ≡ joinOf (now (row .entry)) (now (entries .entry)) n ⌝ }
+{
+    let mut x: u64 = 0;
+    for i in 0..n {
+        x = x | (row[i] & entries[i]);
+    }
+    x
+}
+
 // The meet over q1 of its initial value → the join over q2 of its initial value met with entry (q1, q2) of s.
 pub fn score(w: &Codes, l: Lattice, m1: &[u8], m2: &[u8], s: &[u8]) -> Element
     requires { ⌜ Coded (now w) l × Shaped (now m1) (now m2) (now s) ⌝ }
@@ -158,7 +202,7 @@ pub fn score(w: &Codes, l: Lattice, m1: &[u8], m2: &[u8], s: &[u8]) -> Element
     let mut x = elements::code(w, l.top);
     for q in 0..n1 {
         elements::encode(w, s, q * n2, n2, &mut entries, 0);
-        let y = joined(&right, &entries, 0, n2);
+        let y = joined(&right, &entries, n2);
         let z = elements::negated_code(w, model::initial(m1, State(q as u8)));
         x = x & (z | y);
     }

@@ -14,7 +14,7 @@ use Rattle.formula.specs.Answer.{checked}
 use Rattle.formula.specs.declared.FormulaFacts.{FormulaFacts}
 use Rattle.formula.specs.declared.FormulaCheck.{FormulaCheck}
 use Rattle.formula.specs.declared.FormulaCheck.the-variants.{Accepted}
-use Rattle.rounds.specs.Table.{Shaped}
+use Rattle.entries.specs.Table.{Shaped}
 use Rattle.valuer.specs.Values.{Reads}
 
 pub record Full (m : List ℕ) : Type 0 where

@@ -1,14 +1,16 @@
-// The worked examples 1 to 4 and 6 of document 01, by the functions on tables: each round, T, score, and the shares as of request 101.
+// The worked examples 1 to 4 and 6 of document 01, by the functions on tables: each round, how many pairs its entries looked at, T, score, and the shares as
+// of request 101.
 use elements::Codes;
 use elements::Element;
 use elements::Lattice;
 use lattice::LatticeCheck;
+use model::State;
 ghost use mathlib.Core.Path.{_≡_};
 ghost use Prim.Native.Nat.{_+_, _*_, _≤_, _<_};
 ghost use lib.ListN.{length, getD};
 ghost use Rattle.theory.specs.Part.{ModelShape};
 ghost use Rattle.elements.specs.Words.{Coded};
-ghost use Rattle.rounds.specs.Table.{Shaped};
+ghost use Rattle.entries.specs.Table.{Shaped};
 
 // ---- printing
 
@@ -35,6 +37,29 @@ fn show_round(r: usize, s: &[u8], n1: usize, n2: usize)
     say(b"round ", r);
     for q1 in 0..n1 {
         show_row(s, q1, q1 * n2, n2);
+    }
+}
+
+// How many pairs working each entry of row q1 of F of the table s looks at, on a line.
+fn show_pairs(w: &Codes, l: Lattice, m1: &[u8], m2: &[u8], s: &[u8], q1: State)
+    requires { ⌜ Coded (now w) l × Shaped (now m1) (now m2) (now s) × (q1 .0 < getD (now m1) 0 0) ⌝ }
+{
+    let n2 = model::states(m2);
+    test_printing::item(b"pairs of row ", q1.0 as u64);
+    test_printing::say(b":");
+    for q2 in 0..n2 {
+        let e = entries::entry_of(w, l, m1, m2, s, q1, State(q2 as u8));
+        test_printing::item(b" ", e.pairs as u64);
+    }
+    test_printing::say(b"\n");
+}
+
+fn show_all_pairs(w: &Codes, l: Lattice, m1: &[u8], m2: &[u8], s: &[u8])
+    requires { ⌜ Coded (now w) l × Shaped (now m1) (now m2) (now s) ⌝ }
+{
+    let n1 = model::states(m1);
+    for q1 in 0..n1 {
+        show_pairs(w, l, m1, m2, s, State(q1 as u8));
     }
 }
 
@@ -67,6 +92,7 @@ fn settle(w: &Codes, l: Lattice, m1: &[u8], m2: &[u8])
     for r in 1..17 {
         let changed = rounds::round(w, l, m1, m2, &s, &mut out);
         show_round(r, &out, n1, n2);
+        show_all_pairs(w, l, m1, m2, &s);
         if !changed {
             show_settled(w, l, m1, m2, &out, r);
             return;
@@ -114,6 +140,13 @@ fn last_examples() {
     example(6, &L1, &e, &e);
 }
 
+// For request 103: in row 0 the join of entry (0, 0) is top with its first pair, and the meet of entry (0, 1) is bottom after its first state.
+fn early_ends() {
+    let a = [2u8, 0, 1, 0, 1, 1, 0, 0];
+    let b = [2u8, 0, 1, 0, 1, 0, 0, 0];
+    example(103, &L2, &a, &b);
+}
+
 // ---- share
 
 // The share of entries at or above 1, of a table of n entries the first c of which are 1.
@@ -134,6 +167,7 @@ fn share(c: usize, n: usize)
 fn main() {
     first_examples();
     last_examples();
+    early_ends();
     share(1, 8);
     share(3, 8);
     share(5, 8);

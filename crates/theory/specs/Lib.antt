@@ -6,6 +6,7 @@ pub mod Formula  -- formulas of the latticed mu-calculus, and the tests on them 
 pub mod Value  -- the value of a formula at a state and on a whole model
 pub mod Calculus  -- the latticed mu-calculus, with no count of applications
 pub mod Simulation  -- the simulation operator F, its rounds, T, score and share
+pub mod Pairs  -- how many pairs working one entry of F looks at
 pub mod Test  -- tests over the numbers below a limit
 pub mod Lists  -- lists by their rule, and bytes written at a place of a list
 pub mod Part  -- the lattice and the model of a part's bytes
@@ -26,4 +27,5 @@ pub mod Irreducible  -- join-irreducible elements
 pub mod Preservation  -- theorems 6 and 7: what a table bounds
 pub mod ExamplesHold  -- theorem 8: the worked examples hold
 pub mod Share  -- theorem 9: a share is the nearest whole number of per cent, and of two the even one
+pub mod PairLaws  -- theorem 10: that count is at most N1·N2, and when it is 0
 pub mod Sharp  -- T is at most N1·N2 + 1, whatever the longest chain

@@ -4,11 +4,12 @@ use Prim.Native.Nat.{_≤_, _<_, _-_}
 use lib.ListN.{getD}
 use Rattle.theory.specs.Part.{modelOf}
 use Rattle.model.specs.Places.{prod-le}
-use Rattle.rounds.specs.Table.{tableOf, FIn}
+use Rattle.entries.specs.Table.{tableOf, FIn}
 use Rattle.rounds.specs.Row.{row-at}
 use Rattle.rounds.specs.Round.{RoundSoFar, round-none, round-more, round-reached}
-use Rattle.rounds.specs.Codes.{model-pair}
-use Rattle.rounds.specs.RowCodes.{prepared-codes, row-top, row-in}
+use Rattle.entries.specs.Codes.{model-pair}
+use Rattle.rounds.specs.Early.{top-of}
+use Rattle.rounds.specs.RowCodes.{row-in}
 use borrow.Author.Needs.{needs}
 use native.Mathlib.Omega.{arith}
 use Rattle.rounds.proofs.round.Statement.{statement}
@@ -23,6 +24,9 @@ abbrev μ-loop : tie.MeasureT-loop
 
 loop-holds : tie.Need-loop-holds Inv-loop μ-loop
 loop-holds c = (omega arith, round-none)
+
+inner-joins-requires : tie.Need-inner-joins-requires Inv-loop μ-loop
+inner-joins-requires c κs = let p = c .before .before .before .before .before .before .before .before .pre in (top-of (p .0) (c .before .code .ensures), p .1)
 
 row-from-requires : tie.Need-row-from-requires Inv-loop μ-loop
 row-from-requires c κs = (model-pair (c .before .before .before .before .before .before .before .before .before .before .before .before .before .pre .1), omega (arith, c .before .before .before .before .before .before .before .before .states .ensures))
@@ -43,10 +47,10 @@ loop-again c =
     let i = c .before .before .before .before .before .before .before .before .before .loop .inv in
     let q = c .before .before .before .before .before .before .before .before .before .loop .q1 in
     let l : q < getD (a .m1 .now) 0 0 = omega (arith, c .before .before .before .before .before .before .before .before .before .before .before .before .before .before .states .ensures) in
-    let p = c .before .before .before .before .before .before .before .before .before .before .before .prepare .ensures in
+    let p = c .before .before .before .before .before .before .before .before .before .before .inner-joins .ensures in
     let r = row-at (a .m1 .now) (a .m2 .now) (a .whole .now) q _ _ (b .pre .1) l (c .before .before .before .before .before .before .before .before .before .before .before .before .before .states2 .ensures) refl in
-    let f = row-top (a .l .top .0) (c .before .before .before .before .before .before .before .before .before .before .code .ensures) (prepared-codes (a .w .now) _ (a .m1 .now) (a .m2 .now) (a .whole .now) q p (c .before .before .before .before .before .row-from .ensures)) in
-    let v = row-in (b .pre .0) (p .table-is) q r (c .before .before .before .before .before .before .before .before .before .before .before .before .before .states2 .ensures) f (c .before .before .write-row .ensures) in
+    let f = rw (c .before .before .before .before .before .before .before .before .before .before .before .before .code .ensures) at (c .before .before .before .before .before .row-from .ensures) in
+    let v = row-in (b .pre .0) p q r (c .before .before .before .before .before .before .before .before .before .before .before .before .before .states2 .ensures) f (c .before .before .write-row .ensures) in
     (omega arith, round-more (i .1) l (b .pre .2) (v .0) (v .1) refl)
 
 same-length : tie.Need-same-length Inv-loop μ-loop
@@ -57,5 +61,5 @@ returns c = let e = c .before .before .before .before .before .before .states .e
 
 pub round-spec : {M : Type 1} → statement M
 round-spec =
-    tie.close (tie.spec Inv-loop μ-loop (λ c κs. search needs) (λ c κs. search needs) (λ c κs. search needs) (λ c κs. search needs) loop-holds
+    tie.close (tie.spec Inv-loop μ-loop (λ c κs. search needs) (λ c κs. search needs) (λ c κs. search needs) inner-joins-requires loop-holds
     (λ c. search needs) row-from-requires mul-write-row write-row-requires (λ c. search needs) (λ c. search needs) loop-again same-length returns)

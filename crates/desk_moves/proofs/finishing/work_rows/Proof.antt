@@ -4,7 +4,7 @@ use Prim.Native.Nat.{_≤_, _-_}
 use native.Mathlib.Omega.{arith}
 use lib.ListN.{getD}
 use Rattle.theory.specs.Part.{modelOf}
-use Rattle.rounds.specs.Table.{tableOf, FIn}
+use Rattle.entries.specs.Table.{tableOf, FIn}
 use Rattle.rounds.specs.Rest.{RestSoFar, rest-none, rest-more, rest-done}
 use borrow.Author.Needs.{needs}
 use Rattle.desk_moves.proofs.finishing.work_rows.Statement.{statement}

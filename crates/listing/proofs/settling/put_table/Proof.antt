@@ -6,7 +6,7 @@ use lib.ListN.{getD}
 use Rattle.theory.specs.Part.{modelOf}
 use Rattle.theory.specs.Simulation.{score}
 use Rattle.elements.specs.Words.{opsIn}
-use Rattle.rounds.specs.Table.{tableOf}
+use Rattle.entries.specs.Table.{tableOf}
 use Rattle.listing.specs.Text.{roundsLabel, scoreLabel, lastItem, rowsText, tableText}
 use Rattle.listing.specs.Writing.{wrote-then, fits-then, fits-first}
 use borrow.Author.Needs.{needs}

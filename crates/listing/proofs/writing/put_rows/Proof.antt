@@ -3,7 +3,7 @@ use Prim.Native.Nat.{ℕ, _-_, _≤_}
 use mathlib.Core.List.{List}
 use native.Mathlib.Omega.{arith}
 use Rattle.model.specs.Places.{row-le}
-use Rattle.rounds.specs.Table.{tableOf}
+use Rattle.entries.specs.Table.{tableOf}
 use Rattle.listing.specs.Text.{rowText, each}
 use Rattle.listing.specs.Writing.{Wrote, each-starts, each-room, each-turn, each-done, each-buffer-length}
 use Rattle.listing.proofs.writing.put_rows.Statement.{statement}

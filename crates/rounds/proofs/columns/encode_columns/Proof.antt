@@ -4,8 +4,10 @@ use Prim.Native.Nat.{_+_, _*_, _≤_, _-_}
 use lib.ListN.{length, getD}
 use Rattle.elements.specs.Words.{codeIn}
 use Rattle.model.specs.Places.{row-le, prod-le}
-use Rattle.rounds.specs.Rows.{Rows, rows-empty, rows-column, columns-all}
-use Rattle.rounds.specs.Codes.{tableCode, low-at}
+use Rattle.entries.specs.Words.{Rows}
+use Rattle.rounds.specs.Rows.{rows-empty, rows-column, columns-all}
+use Rattle.entries.specs.Codes.{tableCode}
+use Rattle.entries.specs.Words.{low-at}
 use borrow.Author.Needs.{needs}
 use native.Mathlib.Omega.{arith}
 use Rattle.rounds.proofs.columns.encode_columns.Statement.{statement}

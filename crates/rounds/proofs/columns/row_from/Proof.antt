@@ -6,9 +6,12 @@ use lib.Bits.{bitAnd, bitOr}
 use lib.ListN.{length, getD}
 use Rattle.elements.specs.Words.{negatedCodeIn}
 use Rattle.model.specs.Reading.{leavingCode}
-use Rattle.rounds.specs.Rows.{RowFolded, row-folded-none, row-folded-more, row-folded-all}
-use Rattle.rounds.specs.Codes.{byRow, propositionsCode, propositions-within, row-folded-within}
+use Rattle.entries.specs.Words.{RowFolded, row-folded-none, row-folded-more, row-folded-all}
+use Rattle.rounds.specs.Codes.{byRow}
+use Rattle.entries.specs.Codes.{propositionsCode, propositions-within, row-folded-within}
+use Rattle.rounds.specs.Early.{meets-end}
 use borrow.Author.Needs.{needs}
+use borrow.Author.Tests.{not-true}
 use native.Mathlib.Omega.{arith}
 use Rattle.rounds.proofs.columns.row_from.Statement.{statement}
 use Rattle.rounds.proofs.columns.row_from.Tie as tie
@@ -35,20 +38,32 @@ meet-with-requires c κs =
     let p = b .pre .0 in
     (omega (arith, e₂, p .second .states-most), omega (arith, e₁, e₂, p .first .states-most, p .second .states-most), i .1, row-folded-within (b .args .top) _ _ (λ r l. propositions-within (b .args .w .now) (b .args .top) (b .args .m1 .now) (b .args .m2 .now) (b .args .q1 .0) r) (i .2))
 
-loop-again : tie.Need-loop-again Inv-loop μ-loop
-loop-again c =
-    let i = c .before .before .before .before .before .loop .inv in
-    let a = c .before .before .before .before .before .before .before .before .before .before .before .before .args in
-    let q = c .before .before .before .before .before .loop .q in
-    let u = c .meet-with .ensures in
-    (omega arith, u .same-length ∙ i .1, row-folded-more (i .2) u (λ r x. ap (λ (y : ℕ). bitAnd x (bitOr y (byRow (a .joins .now) q r))) (c .before .before .negated-code .ensures ∙ ap (negatedCodeIn (a .w .now)) (c .before .before .before .transition .ensures))))
-
 returns : tie.Need-returns Inv-loop μ-loop
 returns c =
+    let a = c .before .before .before .before .before .before .before .before .before .before .before .before .before .args in
+    let i = c .before .before .before .before .before .before .loop .inv in
+    let q = c .before .before .before .before .before .before .loop .q in
+    let u = c .before .meet-with .ensures in
+    rw (c .before .before .before .before .before .before .before .before .before .states2 .ensures) at
+    (meets-end {n = getD (a .m1 .now) 0 0}
+    (row-folded-more (i .2) (u .0) (λ r x. ap (λ (y : ℕ). bitAnd x (bitOr y (byRow (a .joins .now) q r))) (c .before .before .before .negated-code .ensures ∙ ap (negatedCodeIn (a .w .now)) (c .before .before .before .before .transition .ensures))))
+    (u .1 (not-true _ (c .if1 .taken))) (omega (arith, c .before .before .before .before .before .before .before .before .before .before .states .ensures)))
+
+loop-again : tie.Need-loop-again Inv-loop μ-loop
+loop-again c =
+    let a = c .before .before .before .before .before .before .before .before .before .before .before .before .before .args in
+    let i = c .before .before .before .before .before .before .loop .inv in
+    let q = c .before .before .before .before .before .before .loop .q in
+    let u = c .before .meet-with .ensures in
+    (omega arith, u .0 .same-length ∙ i .1, row-folded-more (i .2) (u .0) (λ r x. ap (λ (y : ℕ). bitAnd x (bitOr y (byRow (a .joins .now) q r))) (c .before .before .before .negated-code .ensures ∙ ap (negatedCodeIn (a .w .now)) (c .before .before .before .before .transition .ensures))))
+
+returns-2 : tie.Need-returns-2 Inv-loop μ-loop
+returns-2 c =
     let e = c .before .before .before .before .before .states .ensures in
     rw (c .before .before .before .before .states2 .ensures) at (row-folded-all {k = getD (c .before .before .before .before .before .before .before .before .args .m1 .now) 0 0} (c .before .loop .inv .2) (omega arith) (omega arith))
 
 pub row-from-spec : {M : Type 1} → statement M
 row-from-spec =
     tie.close (tie.spec Inv-loop μ-loop (λ c κs. search needs) (λ c κs. search needs) (λ c κs. search needs) loop-holds (λ c. search needs)
-    (λ c κs. search needs) (λ c κs. search needs) mul-meet-with meet-with-requires (λ c. search needs) (λ c. search needs) loop-again returns)
+    (λ c κs. search needs) (λ c κs. search needs) mul-meet-with meet-with-requires returns (λ c. search needs) (λ c. search needs) loop-again
+    returns-2)
