@@ -1,5 +1,5 @@
 -- What each call answers and what it makes of the desk. Rests on Desk, Case, View, Refused, Moved, the theory, formula's Answer and
--- rounds' Table.
+-- the Table of entries and of rounds.
 --   answerTo: what an accepted question answers, and what it leaves in the buffers that it is lent, from its view alone
 --   answer, moved, lentAfter: the answer of an accepted call, the desk after it, and what it leaves in the buffers that it is lent
 --   perform: these three (After) of any call, once it is examined (performed); asked, showAnswer: what a question and what show answers

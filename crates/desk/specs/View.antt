@@ -1,5 +1,5 @@
 -- All that a question depends on: its refusals after 12, its answer, and what it leaves in the buffers that it is lent.
--- Rests on Desk, Case and rounds' Table.
+-- Rests on Desk, Case and entries' Table.
 --   shownTable: the table that a desk shows, entry by entry
 --   View: the content, the round, whether it is settled, and the table shown; viewOf: that of a desk whose store holds c
 use Prim.Native.Nat.{ℕ}

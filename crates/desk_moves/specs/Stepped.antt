@@ -1,4 +1,4 @@
--- What step does, from the row that it worked. Rests on desk_check's Held, desk's Moved and rounds' Table.
+-- What step does, from the row that it worked. Rests on desk_check's Held, desk's Moved, entries' Table and rounds' Table.
 --   caseRow, caseRowDiffers, Workable, movedBy: the terms of the code's contracts
 --   rowOut, rowDiffers: the same from two model parts; workable, round-fits, row-within: a held desk meets what these ask
 --   settled-step: a step of a settled desk

@@ -1,4 +1,4 @@
--- What the questions are answered, from what the code found. Rests on desk_check's Held, rounds' Table, share's ShareIn, valuer's Values and
+-- What the questions are answered, from what the code found. Rests on desk_check's Held, entries' Table, rounds' Table, share's ShareIn, valuer's Values and
 -- formula's Answer.
 --   Readable, caseScore, caseSimulation, rangeTest: the terms of the code's contracts
 --   readable, model-over, formula-on-model, whole-fits, some-entries: a held desk meets what these terms and the functions ask

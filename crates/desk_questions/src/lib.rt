@@ -1,4 +1,4 @@
-// The six calls that only read, with the standing by value.
+// The six calls that only read, with the standing by value, and `whole_table`, which chooses the table that they read.
 //   tables: `show`, `score`, `share` and `judge`
 //   formulas: `whole` and `value`
 mod formulas;

@@ -4,19 +4,21 @@
 --   bigJoin-lt, bigMeet-lt: the results are elements
 --   fold-meets, fold-joins: a fold of codes is the code of the finite meet or join
 --   fold-within: what is met with a word stays within whatever the word is within; top-same: a word within the top's stays as it is when met with a word that the top's is within
+--   or-within, or-member: a join of words within another is within it, and each word is within their join
 --   or-stays, and-stays: joins that have reached the top's word, and meets that have reached 0, stay there
 use Prim.Native.Nat.{ℕ, zero, suc, _+_, _-_, _%_, _≤_, _<_}
 use mathlib.Core.Path.{_≡_, refl, sym, ap, ap₂, _∙_}
 use mathlib.Core.List.{List}
-use native.Mathlib.Nat.{add-zero, add-suc, le-refl}
+use native.Mathlib.Nat.{add-zero, add-suc, le-refl, not-suc-le-zero}
 use native.Mathlib.Omega.{arith}
 use lib.Bits.{bitAnd, bitOr}
 use lib.ListN.{getD}
 use Rattle.theory.specs.Lattice.{bigMeet, bigJoin}
 use Rattle.theory.specs.Loop.{fold}
+use Rattle.theory.specs.TestLaws.{below-suc}
 use Rattle.elements.specs.declared.Lattice.{Lattice}
 use Rattle.elements.specs.Words.{codeIn, negatedCodeIn, decodeIn, opsIn, Coded}
-use Rattle.elements.specs.Laws.{Within, within-refl, within-trans, within-antisym, and-left, or-left, or-lub}
+use Rattle.elements.specs.Laws.{Within, within-refl, within-trans, within-antisym, and-left, or-left, or-right, or-lub}
 use Rattle.elements.specs.Coded.{guess-is, meet-lt, join-lt, meet-code, join-code, complement-code}
 
 -- x is the code of e. A record, so that a goal shows w, x and e
@@ -83,7 +85,7 @@ top-same {top = top} h y = sym (within-trans h (or-left top y) .eq)
 -- ---- joins that have reached the top's word, and meets that have reached 0, stay there
 
 module _ (f : ℕ → ℕ) where
-  or-within : {top : ℕ} (n : ℕ) → ((i : ℕ) → i < n → Within (f i) top) → Within (fold bitOr 0 f n) top
+  pub or-within : {top : ℕ} (n : ℕ) → ((i : ℕ) → i < n → Within (f i) top) → Within (fold bitOr 0 f n) top
   unfolding fold
   or-within zero h = record { eq = refl }
   or-within (suc n) h = or-lub (or-within n (λ i l. h i (omega arith))) (h n (le-refl _))
@@ -92,6 +94,12 @@ module _ (f : ℕ → ℕ) where
   unfolding fold
   or-on a zero = rw (add-zero a) (within-refl (fold bitOr 0 f a))
   or-on a (suc d) = rw (add-suc a d) (within-trans (or-on a d) (or-left (fold bitOr 0 f (a + d)) _))
+
+  -- a value is within the join of all
+  pub or-member : (n i : ℕ) → i < n → Within (f i) (fold bitOr 0 f n)
+  unfolding fold
+  or-member zero i l = absurd (not-suc-le-zero l)
+  or-member (suc n) i l = below-suc {P = λ j. Within (f j) (bitOr (fold bitOr 0 f n) (f n))} (λ j k. within-trans (or-member n j k) (or-left _ _)) (or-right (fold bitOr 0 f n) (f n)) i l
 
   pub or-stays : {top : ℕ} (a b : ℕ) → a ≤ b → ((i : ℕ) → i < b → Within (f i) top) → Within top (fold bitOr 0 f a) → fold bitOr 0 f b ≡ top
   or-stays a b l h e = let z : a + (b - a) ≡ b = omega arith in within-antisym (or-within b h) (within-trans e (rw z at (or-on a (b - a))))

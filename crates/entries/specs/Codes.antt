@@ -1,5 +1,5 @@
--- The codes that the loops over an entry compute, and that they are those of F's meets and joins. w is a lattice's codes. Rests on Table, theory's
--- Loop, Part, Simulation and Pairs, elements' Words, Folds and Laws, model's Reading.
+-- The codes that the loops over an entry compute, and that they are those of F's meets and joins. w is a lattice's codes. Rests on Table, Words, theory's
+-- Loop, Part, Value, Simulation, Pairs and PairLaws, elements' Words, Coded, Folds and Laws, model's Reading.
 --   ModelPair, model-pair: two model parts over the same propositions
 --   tableCode, codesOfTable, iffCode, propositionsCode, joinBeforeCode, innerCode, meetBeforeCode, entryCode: the codes
 --   TableCoded, table-itself: a table's codes; InnerCoded: those of its inner joins
@@ -7,25 +7,25 @@
 --   joins-of, inner-of, meets-of: the joins and the meets so far, and those of all states
 --   entry-decoded: the code of an entry is turned back into F's entry
 --   code-within, bottom-test, top-test: a code is within the top's, bottom is the word 0, and top the greatest word
-use Prim.Native.Nat.{ℕ, zero, suc, _*_, _+_, _%_, _≤_, _<_}
-use mathlib.Core.Path.{_≡_, refl, sym, ap, ap₂, _∙_}
-use mathlib.Core.Bool.{Bool, true, false}
+use Prim.Native.Nat.{ℕ, zero, suc, _%_, _≤_, _<_}
+use mathlib.Core.Path.{_≡_, refl, sym, ap, _∙_}
+use mathlib.Core.Bool.{true, false}
 use mathlib.Core.List.{List}
 use native.Mathlib.Omega.{arith}
 use borrow.Author.Tests.{eq-eqb, eqb-true}
 use lib.Bits.{bitAnd, bitOr, and-comm}
 use lib.Dec.{eqb}
-use lib.ListN.{length, getD}
+use lib.ListN.{getD}
 use Rattle.theory.specs.Lattice.{imp, iff}
 use Rattle.theory.specs.Loop.{fold}
 use Rattle.theory.specs.Part.{modelOf, ModelShape}
-use Rattle.theory.specs.Simulation.{propositionPart, successorPart, F}
+use Rattle.theory.specs.Simulation.{propositionPart, F}
 use Rattle.theory.specs.Value.{someNext}
 use Rattle.theory.specs.Pairs.{isBottom, isTop, meetBefore, joinBefore}
 use Rattle.theory.specs.PairLaws.{meet-whole, join-whole}
 use Rattle.theory.specs.TestLaws.{bool-same}
 use Rattle.elements.specs.declared.Lattice.{Lattice}
-use Rattle.elements.specs.Words.{codeIn, negatedCodeIn, decodeIn, opsIn, within, Coded}
+use Rattle.elements.specs.Words.{codeIn, negatedCodeIn, decodeIn, opsIn, Coded}
 use Rattle.elements.specs.Coded.{code-element, meet-lt}
 use Rattle.elements.specs.Folds.{CodeOf, decode-in, code-of, negated-of, bottom-of, meet-of, join-of, fold-meets, fold-joins, fold-within}
 use Rattle.elements.specs.Laws.{Within, within-refl, within-antisym, and-assoc}
@@ -146,15 +146,16 @@ module _ {w : List ℕ} {l : Lattice} (c : Coded w l) (m₁ m₂ s : List ℕ) w
   unfolding propositionPart
   propositions-of q₁ q₂ = fold-meets c (getD m₁ 1 0) _ _ (code-of c (l .top .0)) (λ p k. iff-of q₁ q₂ p)
 
-  module _ (q₁ q₂ : ℕ) where
+  module _ (q₂ : ℕ) where
     -- the join so far, and that over all states
-    pub joins-of : {S : ℕ → ℕ → ℕ} → TableCoded w m₁ m₂ s S → (i k : ℕ) → i < getD m₁ 0 0 → k ≤ getD m₂ 0 0 → CodeOf w (joinBeforeCode w m₂ S q₂ i k) (joinBefore (opsIn w l) (modelOf m₁) (modelOf m₂) (tableOf s (getD m₂ 0 0)) q₁ q₂ i k)
+    pub joins-of : {S : ℕ → ℕ → ℕ} → TableCoded w m₁ m₂ s S → (i k : ℕ) → i < getD m₁ 0 0 → k ≤ getD m₂ 0 0 → CodeOf w (joinBeforeCode w m₂ S q₂ i k) (joinBefore (opsIn w l) (modelOf m₂) (tableOf s (getD m₂ 0 0)) q₂ i k)
     unfolding joinBefore
     joins-of t i k a b = fold-joins c k _ _ (λ j m. meet-of c (code-of c (modelOf m₂ .transition q₂ j)) (record { eq = t .at i j a (omega arith) }))
 
     pub inner-of : {S : ℕ → ℕ → ℕ} → TableCoded w m₁ m₂ s S → (i : ℕ) → i < getD m₁ 0 0 → CodeOf w (innerCode w m₂ S q₂ i) (someNext (opsIn w l) (modelOf m₂) (tableOf s (getD m₂ 0 0) i) q₂)
-    inner-of t i a = rw (join-whole (opsIn w l) (modelOf m₁) (modelOf m₂) (tableOf s (getD m₂ 0 0)) q₁ q₂ i) at (joins-of t i (getD m₂ 0 0) a (omega arith))
+    inner-of t i a = rw (join-whole (opsIn w l) (modelOf m₂) (tableOf s (getD m₂ 0 0)) q₂ i) at (joins-of t i (getD m₂ 0 0) a (omega arith))
 
+  module _ (q₁ q₂ : ℕ) where
     -- the meet so far, from the inner joins J
     pub meets-of : {J : ℕ → ℕ → ℕ} → InnerCoded w l m₁ m₂ s J q₂ → (k : ℕ) → k ≤ getD m₁ 0 0 → CodeOf w (meetBeforeCode w top m₁ m₂ J q₁ q₂ k) (meetBefore (opsIn w l) (modelOf m₁) (modelOf m₂) (tableOf s (getD m₂ 0 0)) q₁ q₂ k)
     unfolding meetBefore imp

@@ -1,9 +1,9 @@
 -- What the entries of a row have in common, and an entry from it. Rests on Table, Words, Codes and Joins, and theory's Pairs and PairLaws.
---   EntryIs: what working an entry says
+--   StateMet, state-joined, state-passed: what one state of model 1 gives
 --   meetCode, openPair, MetSoFar: the meet over states of model 1 and the pairs that it looks at, from the words of a row; met-none, met-more,
---     met-stop, met-all: its begin and turn, where it is bottom, and its end; top-some: the top of a lattice in which something is not bottom
+--     met-stop, met-all: its begin and turn, where it is bottom, and its end; met-within: within the top's; top-some: where a meet is not 0, the top's word is not
 --   Prepared: what a row's entries have in common; row-gap, row-within: the transitions of model 2; entry-met, entry-bottom: an entry from it
-use Prim.Native.Nat.{ℕ, zero, suc, _+_, _*_, _-_, _≤_, _<_}
+use Prim.Native.Nat.{ℕ, _+_, _*_, _≤_, _<_}
 use mathlib.Core.Path.{_≡_, refl, sym, ap, ap₂, _∙_}
 use mathlib.Core.Bool.{Bool, true, false, not, _&&_}
 use mathlib.Core.Logic.{⊎-elim}
@@ -23,21 +23,29 @@ use Rattle.theory.specs.PairLaws.{countPairs-cong, countPairs-none, countPairs-
 use Rattle.theory.specs.Part.{modelOf}
 use Rattle.theory.specs.Written.{written-after}
 use Rattle.elements.specs.declared.Lattice.{Lattice}
-use Rattle.elements.specs.Folds.{decode-in, bottom-of, fold-within, and-stays}
+use Rattle.elements.specs.Folds.{decode-in, bottom-of, fold-within, top-same, and-stays}
 use Rattle.elements.specs.Laws.{Within}
 use Rattle.elements.specs.Words.{codeIn, decodeIn, opsIn, Coded}
 use Rattle.model.specs.Reading.{leavingCode}
-use Rattle.entries.specs.Table.{tableOf, entryIn, pairsIn}
+use Rattle.entries.specs.Table.{tableOf, EntryIs}
 use Rattle.entries.specs.Words.{Rows, low-at}
-use Rattle.entries.specs.Codes.{tableCode, propositionsCode, joinBeforeCode, meetBeforeCode, entryCode, innerCode, codesOfTable, InnerCoded, table-itself, WithinTop, code-within, bottom-test, top-test, joins-of, inner-of, meets-of, entry-decoded}
-use Rattle.entries.specs.Joins.{joinCode, Gap, lt-or-le, openPairs, Joined}
-
--- e is entry (q₁, q₂) of F of the table s, and working it looks at so many pairs
-pub record EntryIs (w : List ℕ) (l : Lattice) (m₁ m₂ s : List ℕ) (q₁ q₂ e pairs : ℕ) : Type 0 where
-  pub value-is : e ≡ entryIn w l m₁ m₂ s q₁ q₂
-  pub pairs-are : pairs ≡ pairsIn w l m₁ m₂ s q₁ q₂
+use Rattle.entries.specs.Codes.{tableCode, propositionsCode, joinBeforeCode, meetBeforeCode, codesOfTable, InnerCoded, table-itself, WithinTop, code-within, bottom-test, top-test, joins-of, inner-of, meets-of, entry-decoded}
+use Rattle.entries.specs.Joins.{joinCode, wordsJoin, Gap, lt-or-le, openPairs, Joined, open-all}
 
 -- ---- the meet over the states of model 1, from the words of a row
+
+-- y met with the join of c and the join for a state, whose row of the table begins at `at`, and the pairs that this looks at
+pub record StateMet (y c top : ℕ) (row table : List ℕ) (at n₂ code pairs : ℕ) : Type 0 where
+  pub code-is : code ≡ bitAnd y (bitOr c (joinCode row table at n₂))
+  pub pairs-are : pairs ≡ openPairs top row table at n₂
+  pub pairs-most : pairs ≤ n₂
+
+-- by a join, and, of a transition that is bottom, without one
+pub state-joined : {y c top at n₂ code pairs : ℕ} {row table : List ℕ} → Joined top row table at n₂ code pairs → StateMet y c top row table at n₂ (bitAnd y (bitOr c code)) pairs
+state-joined {y} {c} j = record { code-is = ap (λ (x : ℕ). bitAnd y (bitOr c x)) (j .code-is); pairs-are = j .pairs-are; pairs-most = j .pairs-most }
+
+pub state-passed : {y c top n₂ : ℕ} {row table : List ℕ} (at : ℕ) → Within y top → c ≡ top → WithinTop top 64 row → (wordsJoin row 0 64 ≡ top → ⊥) → n₂ ≤ 64 → StateMet y c top row table at n₂ y n₂
+state-passed {y} {c} {top} {n₂} {row} {table} at w e h d l = record { code-is = rw e (top-same w _); pairs-are = open-all top row table at n₂ h d l; pairs-most = le-refl n₂ }
 
 module _ (x top : ℕ) (left row table : List ℕ) (n₂ : ℕ) where
   -- x met, for each state below k, with its word of `left` joined with its join
@@ -59,13 +67,13 @@ module _ (x top : ℕ) (left row table : List ℕ) (n₂ : ℕ) where
   met-none = record { code-is = refl; pairs-are = sym (countPairs-none n₂ openPair); pairs-most = le-refl 0 }
 
   -- one state more, whose meet before is not bottom
-  pub met-more : {q y p code pairs : ℕ} → MetSoFar q y p → (y ≡ 0 → ⊥) → n₂ ≤ 64 → Joined top row table (q * 64) n₂ code pairs → MetSoFar (q + 1) (bitAnd y (bitOr (getD left q 0) code)) (p + pairs)
+  pub met-more : {q y p code pairs : ℕ} → MetSoFar q y p → (y ≡ 0 → ⊥) → n₂ ≤ 64 → StateMet y (getD left q 0) top row table (q * 64) n₂ code pairs → MetSoFar (q + 1) code (p + pairs)
   unfolding fold
   met-more {q} {y} {p} {code} {pairs} u d few j =
       let o : eqb (meetCode q) 0 ≡ false = ne-eqb _ _ (λ e. d (u .code-is ∙ e)) in
       let e : count n₂ (openPair q) ≡ openPairs top row table (q * 64) n₂ = count-cong n₂ _ _ (λ k l. rw o) in
       record {
-        code-is = rw (add-one, u .code-is, j .code-is);
+        code-is = j .code-is ∙ rw (add-one, u .code-is);
         pairs-are = rw (u .pairs-are, j .pairs-are, countPairs-more q n₂ openPair, e);
         pairs-most = omega (arith, u .pairs-most, j .pairs-most);
       }
@@ -82,6 +90,9 @@ module _ (x top : ℕ) (left row table : List ℕ) (n₂ : ℕ) where
 
   pub met-all : {q n y p : ℕ} → MetSoFar q y p → q ≤ n → n ≤ q → MetSoFar n y p
   met-all {q} {n} u l m = let e : q ≡ n = omega arith in rw e at u
+
+  pub met-within : {q y p : ℕ} → Within x top → MetSoFar q y p → Within y top
+  met-within {q} h u = rw (u .code-is) (fold-within h _ q)
 
   -- where the meet is not bottom, the top is not
   pub top-some : {q y p : ℕ} → Within x top → MetSoFar q y p → (y ≡ 0 → ⊥) → top ≡ 0 → ⊥
@@ -119,8 +130,8 @@ row-within {w} {l} c m₂ q₂ n {row} e l64 =
 
 module _ {w : List ℕ} {l : Lattice} (c : Coded w l) {m₁ m₂ s : List ℕ} {q₁ : ℕ} {alike left table : List ℕ} (p : Prepared w l m₁ m₂ s q₁ alike left table)
     (q₂ : ℕ) (here : q₂ < getD m₂ 0 0) (row : List ℕ) (r : (j : ℕ) → j < getD m₂ 0 0 → getD row j 0 ≡ leavingCode false w m₂ q₂ j) where
-  abbrev T : ℕ
-  T = codeIn w (l .top .0)
+  abbrev topCode : ℕ
+  topCode = codeIn w (l .top .0)
 
   -- the joins, by the rule
   join-is : (i k : ℕ) → i < getD m₁ 0 0 → k ≤ getD m₂ 0 0 → joinCode row table (i * 64) k ≡ joinBeforeCode w m₂ (codesOfTable w m₂ s) q₂ i k
@@ -130,22 +141,22 @@ module _ {w : List ℕ} {l : Lattice} (c : Coded w l) {m₁ m₂ s : List ℕ} {
   J i _ = joinCode row table (i * 64) (getD m₂ 0 0)
 
   inner : InnerCoded w l m₁ m₂ s J q₂
-  inner = record { at = λ i a. rw (join-is i (getD m₂ 0 0) a (omega arith)) (inner-of c m₁ m₂ s q₁ q₂ (table-itself w m₁ m₂ s) i a) }
+  inner = record { at = λ i a. rw (join-is i (getD m₂ 0 0) a (omega arith)) (inner-of c m₁ m₂ s q₂ (table-itself w m₁ m₂ s) i a) }
 
   -- and the meets
-  meet-is : (k : ℕ) → k ≤ getD m₁ 0 0 → meetCode (getD alike q₂ 0) T left row table (getD m₂ 0 0) k ≡ meetBeforeCode w T m₁ m₂ J q₁ q₂ k
+  meet-is : (k : ℕ) → k ≤ getD m₁ 0 0 → meetCode (getD alike q₂ 0) topCode left row table (getD m₂ 0 0) k ≡ meetBeforeCode w topCode m₁ m₂ J q₁ q₂ k
   meet-is k b =
-      ap (λ (x : ℕ). meetCode x T left row table (getD m₂ 0 0) k) (p .alike-are .at q₂ here)
-      ∙ fold-cong bitAnd (propositionsCode w T m₁ m₂ q₁ q₂) _ _ k (λ i h. ap (λ (x : ℕ). bitOr x (J i q₂)) (p .left-is .at i (omega arith)))
+      ap (λ (x : ℕ). meetCode x topCode left row table (getD m₂ 0 0) k) (p .alike-are .at q₂ here)
+      ∙ fold-cong bitAnd (propositionsCode w topCode m₁ m₂ q₁ q₂) _ _ k (λ i h. ap (λ (x : ℕ). bitOr x (J i q₂)) (p .left-is .at i (omega arith)))
 
-  looked-is : (i k : ℕ) → i < getD m₁ 0 0 → k < getD m₂ 0 0 → openPair (getD alike q₂ 0) T left row table (getD m₂ 0 0) i k ≡ lookedAt (opsIn w l) (modelOf m₁) (modelOf m₂) (tableOf s (getD m₂ 0 0)) q₁ q₂ i k
+  looked-is : (i k : ℕ) → i < getD m₁ 0 0 → k < getD m₂ 0 0 → openPair (getD alike q₂ 0) topCode left row table (getD m₂ 0 0) i k ≡ lookedAt (opsIn w l) (modelOf m₁) (modelOf m₂) (tableOf s (getD m₂ 0 0)) q₁ q₂ i k
   unfolding lookedAt
   looked-is i k a b =
       ap₂ (λ (x y : Bool). not x && not y)
       (ap (λ (x : ℕ). eqb x 0) (meet-is i (omega arith)) ∙ sym (bottom-test c (meets-of c m₁ m₂ s q₁ q₂ inner i (omega arith))))
-      (ap (λ (x : ℕ). eqb x T) (join-is i k a (omega arith)) ∙ sym (top-test c (joins-of c m₁ m₂ s q₁ q₂ (table-itself w m₁ m₂ s) i k a (omega arith))))
+      (ap (λ (x : ℕ). eqb x topCode) (join-is i k a (omega arith)) ∙ sym (top-test c (joins-of c m₁ m₂ s q₂ (table-itself w m₁ m₂ s) i k a (omega arith))))
 
-  pub entry-met : {code n : ℕ} → MetSoFar (getD alike q₂ 0) T left row table (getD m₂ 0 0) (getD m₁ 0 0) code n → EntryIs w l m₁ m₂ s q₁ q₂ (decodeIn w code) n
+  pub entry-met : {code n : ℕ} → MetSoFar (getD alike q₂ 0) topCode left row table (getD m₂ 0 0) (getD m₁ 0 0) code n → EntryIs w l m₁ m₂ s q₁ q₂ (decodeIn w code) n
   unfolding pairs
   entry-met u =
       record {

@@ -2,7 +2,7 @@
 -- lattice's codes. Rests on theory's Part, Simulation and Pairs, and elements' Words.
 --   tableOf: entry (q1, q2) of a table of bytes
 --   Shaped: what the functions ask of models and tables
---   FIn, entryIn, pairsIn: F, an entry of F, and how many pairs working it looks at
+--   FIn, entryIn, pairsIn, EntryIs: F, an entry of F, how many pairs working it looks at, and both
 use Prim.Native.Nat.{ℕ, _+_, _*_, _≤_}
 use mathlib.Core.Path.{_≡_}
 use mathlib.Core.List.{List}
@@ -38,3 +38,8 @@ module _ (w : List ℕ) (l : Lattice) (m₁ m₂ : List ℕ) where
 
     abbrev pub pairsIn : ℕ → ℕ → ℕ
     pairsIn q₁ q₂ = pairs (opsIn w l) (modelOf m₁) (modelOf m₂) (tableOf s (getD m₂ 0 0)) q₁ q₂
+
+-- e is entry (q₁, q₂) of F of the table s, and working it looks at so many pairs. A record, so that a goal shows its arguments
+pub record EntryIs (w : List ℕ) (l : Lattice) (m₁ m₂ s : List ℕ) (q₁ q₂ e pairs : ℕ) : Type 0 where
+  pub value-is : e ≡ entryIn w l m₁ m₂ s q₁ q₂
+  pub pairs-are : pairs ≡ pairsIn w l m₁ m₂ s q₁ q₂

@@ -4,7 +4,7 @@
 --   low-at: a word that was written from place 0 on
 --   Replaced, replaced-none, replaced-more, replaced-all, replaced-same, replaced-as: each of the first words is replaced by a rule
 --   RowFolded, row-folded-none, row-folded-more, row-folded-all, filled-same: a row of folds, each word of which is replaced at each turn
-use Prim.Native.Nat.{ℕ, zero, suc, _+_, _*_, _≤_, _<_}
+use Prim.Native.Nat.{ℕ, _+_, _*_, _≤_, _<_}
 use mathlib.Core.Path.{_≡_, refl, sym, ap, _∙_}
 use mathlib.Core.Logic.{⊎-elim}
 use mathlib.Core.List.{List}

@@ -1,6 +1,6 @@
 // One entry of F: its element, and how many pairs of states working it looks at (request 103). It is worked on the codes of elements, by & and |
 // alone, and turned back into its element once. Propositions come first, then the states of model 1 in rising order, up to the first after
-// which the meet is bottom; the join for such a state goes over those of model 2 in rising order, up to the first after which it is top.
+// which the meet is bottom; the pairs of such a state are counted up to the first after which its join is top, and worked in blocks.
 //   labels: what the propositions give, for all entries of a row
 //   joins: the joins over the states of model 2
 mod joins;
@@ -10,6 +10,7 @@ use elements::Codes;
 use elements::Element;
 use elements::Lattice;
 use joins::join;
+use joins::join_words;
 use joins::list_blocks;
 pub use labels::propositions;
 use model::State;
@@ -18,11 +19,11 @@ ghost use Prim.Native.Nat.{_+_, _*_, _≤_, _<_};
 ghost use lib.ListN.{length, getD};
 ghost use Rattle.elements.specs.Laws.{Within};
 ghost use Rattle.elements.specs.Words.{Coded};
-ghost use Rattle.entries.specs.Table.{tableOf, Shaped};
+ghost use Rattle.entries.specs.Table.{tableOf, Shaped, EntryIs};
 ghost use Rattle.entries.specs.Words.{rowWords, Rows};
 ghost use Rattle.entries.specs.Codes.{tableCode, WithinTop};
-ghost use Rattle.entries.specs.Joins.{Gap, Listed};
-ghost use Rattle.entries.specs.Prepared.{MetSoFar, Prepared, EntryIs};
+ghost use Rattle.entries.specs.Joins.{Gap, Listed, MayEnd};
+ghost use Rattle.entries.specs.Prepared.{StateMet, MetSoFar, Prepared};
 
 // An entry of F, and how many pairs (q1', q2') working it looked at.
 pub struct Entry {
@@ -31,7 +32,7 @@ pub struct Entry {
 }
 
 // The code of a meet or a join, and how many pairs were looked at.
-pub(crate) struct Worked {
+pub(crate) struct CodeAndPairs {
     pub code: u64,
     pub pairs: usize,
 }
@@ -61,7 +62,8 @@ pub fn prepare(
     left: &mut [u64],
     table: &mut [u64],
 )
-    requires { ⌜ Shaped (now m1) (now m2) (now s) × (q1 .0 < getD (now m1) 0 0) × (length (now left) ≡ rowWords) × (getD (now m1) 0 0 * 64 ≤ length (now table)) ⌝ }
+    requires { ⌜ Shaped (now m1) (now m2) (now s) × (q1 .0 < getD (now m1) 0 0) × (length (now left) ≡ rowWords)
+        × (getD (now m1) 0 0 * 64 ≤ length (now table)) ⌝ }
     ensures { λ _. ⌜ Prepared (now (w .entry)) l (now (m1 .entry)) (now (m2 .entry)) (now (s .entry)) (q1 .0) (now (alike .exit)) (now (left .exit))
         (now (table .exit)) ⌝ }
 {
@@ -72,7 +74,35 @@ pub fn prepare(
 
 // ---- an entry
 
-// x met, for each of n1 states of model 1, with the word of `left` joined with the join for that state; ends once that is bottom. `row` has the
+// y met with the join of c, the complement of the transition to a state of model 1, and the join for that state, whose row of the table begins at
+// `at`; `ends` says whether that join can be top. Where the transition is bottom and it cannot, y stays and all pairs are counted.
+fn meet_state(
+    y: u64,
+    top: u64,
+    c: u64,
+    ends: bool,
+    row: &[u64; 64],
+    starts: &[usize; 4],
+    blocks: usize,
+    table: &[u64],
+    at: usize,
+    n2: usize,
+) -> CodeAndPairs
+    requires { ⌜ Within y top × (top ≡ 0 → ⊥) × MayEnd top (now row) ends × (blocks ≤ 4) × (at + 64 ≤ length (now table)) × WithinTop top 64 (now row)
+        × Listed (now row) (now starts) blocks 64 × Gap (now row) n2 64 ⌝ }
+    ensures { λ r. ⌜ StateMet y c top (now (row .entry)) (now (table .entry)) at n2 (r .code) (r .pairs) ⌝ }
+{
+    if (c == top) & !ends {
+        return CodeAndPairs { code: y, pairs: n2 };
+    }
+    let j = join(top, row, starts, blocks, table, at, n2);
+    CodeAndPairs {
+        code: y & (c | j.code),
+        pairs: j.pairs,
+    }
+}
+
+// x met with what each of n1 states of model 1 gives; ends once that is bottom. `left` has the complements of the transitions to them, `row` the
 // transitions of model 2, `table` the table in codes.
 fn meet(
     x: u64,
@@ -80,29 +110,41 @@ fn meet(
     left: &[u64; 64],
     n1: usize,
     row: &[u64; 64],
-    starts: &[usize; 16],
+    starts: &[usize; 4],
     blocks: usize,
     table: &[u64],
     n2: usize,
-) -> Worked
-    requires { ⌜ Within x top × (n1 ≤ 64) × (n1 * 64 ≤ length (now table)) × (blocks ≤ 16) × WithinTop top 64 (now row)
+) -> CodeAndPairs
+    requires { ⌜ Within x top × (n1 ≤ 64) × (n1 * 64 ≤ length (now table)) × (blocks ≤ 4) × WithinTop top 64 (now row)
         × Listed (now row) (now starts) blocks 64 × Gap (now row) n2 64 ⌝ }
     ensures { λ r. ⌜ MetSoFar x top (now (left .entry)) (now (row .entry)) (now (table .entry)) n2 n1 (r .code) (r .pairs) ⌝ }
 {
+    let ends = join_words(row, 0, 64) == top;
     let mut y = x;
     let mut pairs: usize = 0;
     for q in 0..n1 {
         if y == 0 {
-            return Worked {
+            return CodeAndPairs {
                 code: 0,
                 pairs: pairs,
             };
         }
-        let j = join(top, row, starts, blocks, table, q * 64, n2);
-        y = y & (left[q] | j.code);
-        pairs += j.pairs;
+        let m = meet_state(
+            y,
+            top,
+            left[q],
+            ends,
+            row,
+            starts,
+            blocks,
+            table,
+            q * 64,
+            n2,
+        );
+        y = m.code;
+        pairs += m.pairs;
     }
-    Worked {
+    CodeAndPairs {
         code: y,
         pairs: pairs,
     }
@@ -144,7 +186,7 @@ pub fn entry_from(
     let n2 = model::states(m2);
     let mut row = [0u64; 64];
     model::transition_codes(w, m2, q2, false, &mut row, 0);
-    let mut starts = [0usize; 16];
+    let mut starts = [0usize; 4];
     let blocks = list_blocks(&row, n2, &mut starts);
     let top = elements::code(w, l.top);
     let r = meet(

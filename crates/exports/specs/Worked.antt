@@ -1,5 +1,5 @@
--- What the export of one entry of the next round says. It is no call of document 01. Rests on desk's Desk, Case, View and Refused, theory's Pairs, and
--- refusal's Number.
+-- What the export of one entry of the next round says. It is no call of document 01. Rests on desk's Desk, Case and View, casefile's Reading, theory's
+-- Pairs, and refusal's Number.
 --   refusedEntry, workedEntry: its answer
 use Prim.Native.Nat.{ℕ}
 use mathlib.Core.Bool.{cond, _&&_}

@@ -1,9 +1,9 @@
--- The export of one entry answers so, from what the code found. Rests on Worked, desk_check's Held, desk_questions' Questions, entries' Prepared and
--- theory's PairLaws.
+-- The export of one entry answers so, from what the code found. Rests on Worked, desk's Refused and RefusedLaws, desk_check's Answer and Held,
+-- entries' Table and theory's PairLaws.
 --   worked, worked-refused, worked-outside, worked-entry: the three answers; state-below: a state is below the model's count; pairs-fit: 32 bits hold the count
-use Prim.Native.Nat.{ℕ, _*_, _≤_, _<_}
+use Prim.Native.Nat.{ℕ, _≤_, _<_}
 use mathlib.Core.Path.{_≡_, refl, sym, ap, ap₂, _∙_}
-use mathlib.Core.Bool.{Bool, true, false, cond, _&&_}
+use mathlib.Core.Bool.{true, false, _&&_}
 use mathlib.Core.List.{List}
 use native.Mathlib.Omega.{arith}
 use borrow.Author.Tests.{ltb-true}
@@ -18,8 +18,7 @@ use Rattle.refusal.specs.declared.Refusal.the-variants.{OutOfRange}
 use Rattle.casefile.specs.declared.Sizes.{Sizes}
 use Rattle.casefile.specs.Directory.{partAt}
 use Rattle.casefile.specs.Reading.{CaseReading, refused, content}
-use Rattle.entries.specs.Table.{tableOf}
-use Rattle.entries.specs.Prepared.{EntryIs}
+use Rattle.entries.specs.Table.{tableOf, EntryIs}
 use Rattle.desk.specs.Desk.{Desk, Call, wholeTable}
 use Rattle.desk.specs.Case.{N1, N2}
 use Rattle.desk.specs.Refused.{examined}

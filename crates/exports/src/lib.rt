@@ -1,5 +1,5 @@
-// The eight calls, the rest of a round, what a desk holds, one entry of the next round and the listing for C and Rust: exported functions over the
-// calls by value, with their answers as numbers in structs of C's layout.
+// The eight calls, the rest of a round, what a desk holds, one entry of the next round and the listing for C and Rust: exported functions, the calls over
+// those by value, with their answers as numbers in structs of C's layout.
 //   numbers: each call's answer as numbers
 //   moves: koelchair_open and koelchair_step
 //   finishing: koelchair_finish_round

@@ -14,13 +14,14 @@ ghost use Prim.Native.Nat.{_<_};
 ghost use lib.Dec.{ltb};
 ghost use lib.ListN.{getD};
 ghost use Rattle.casefile.specs.Directory.{partAt};
-ghost use Rattle.entries.specs.Prepared.{EntryIs};
+ghost use Rattle.entries.specs.Table.{EntryIs};
 ghost use Rattle.desk.specs.Desk.{Call};
 ghost use Rattle.desk.specs.Refused.{examined};
 ghost use Rattle.desk_check.specs.Read.{deskOf};
 ghost use Rattle.desk_questions.specs.Questions.{Readable};
 ghost use Rattle.exports.specs.Worked.{refusedEntry, workedEntry};
 
+// What is given for a refusal.
 fn refused_entry(f: Refusal) -> WorkedEntry
     ensures { λ r. ⌜ r ≡ refusedEntry f ⌝ }
 {
@@ -32,6 +33,7 @@ fn refused_entry(f: Refusal) -> WorkedEntry
     }
 }
 
+// q1 is below n1 and q2 below n2.
 fn is_below(q1: u8, n1: u8, q2: u8, n2: u8) -> bool
     ensures { λ r. ⌜ r ≡ (ltb q1 n1 && ltb q2 n2) ⌝ }
 {
@@ -41,6 +43,7 @@ fn is_below(q1: u8, n1: u8, q2: u8, n2: u8) -> bool
     q2 < n2
 }
 
+// The entry of the table `whole`, for the models of the case in `bytes`.
 fn entry_in(w: &Codes, l: Lattice, bytes: &[u8], whole: &[u8], q1: u8, q2: u8) -> Entry
     requires { ⌜ Readable (now w) l (now bytes) (now whole) × (q1 < getD (partAt (now bytes) 1) 0 0) × (q2 < getD (partAt (now bytes) 2) 0 0) ⌝ }
     ensures { λ r. ⌜ EntryIs (now (w .entry)) l (partAt (now (bytes .entry)) 1) (partAt (now (bytes .entry)) 2) (now (whole .entry)) q1 q2

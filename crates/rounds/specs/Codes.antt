@@ -1,9 +1,9 @@
--- The inner joins of a whole round, and score, by codes. w is a lattice's codes. Rests on Table, Rows, entries' Table, Words and Codes, theory's Loop and
+-- The inner joins of a whole round, and score, by codes. w is a lattice's codes. Rests on Table, entries' Table, Words and Codes, theory's Loop and
 -- Simulation, elements' Words and Folds.
 --   byRow, byColumn: an entry of a table of words; JoinsOf, joins-from, joins-inner: the inner joins of a table
 --   initialCode, scorePart, joinOf, score-join, score-decoded: score
 use Prim.Native.Nat.{ℕ, _+_, _*_, _≤_, _<_}
-use mathlib.Core.Path.{_≡_, sym, ap₂, _∙_}
+use mathlib.Core.Path.{_≡_, ap₂}
 use mathlib.Core.List.{List}
 use native.Mathlib.Omega.{arith}
 use lib.Bits.{bitAnd, bitOr}
@@ -46,7 +46,7 @@ joins-from w m₁ m₂ s n₁ n₂ table t j e₁ e₂ =
 
 -- they are the codes of F's joins
 pub joins-inner : {w : List ℕ} {l : Lattice} (c : Coded w l) {m₁ m₂ s joins : List ℕ} → JoinsOf w m₁ m₂ s joins → (q₂ : ℕ) → q₂ < getD m₂ 0 0 → InnerCoded w l m₁ m₂ s (byRow joins) q₂
-joins-inner c {m₁} {m₂} {s} j q₂ h = record { at = λ i k. rw (j .joins-are .at i q₂ k h) (inner-of c m₁ m₂ s 0 q₂ (j .table-is) i k) }
+joins-inner c {m₁} {m₂} {s} j q₂ h = record { at = λ i k. rw (j .joins-are .at i q₂ k h) (inner-of c m₁ m₂ s q₂ (j .table-is) i k) }
 
 -- ---- score
 
@@ -59,9 +59,9 @@ abbrev pub scorePart : List ℕ → List ℕ → List ℕ → List ℕ → ℕ �
 scorePart w m₁ m₂ s q₁ =
     bitOr (negatedCodeIn w (modelOf m₁ .initial q₁)) (fold bitOr 0 (λ i. bitAnd (initialCode w m₂ i) (codesOfTable w m₂ s q₁ i)) (getD m₂ 0 0))
 
--- the join of the first n words of `row`, each met with the word of `entries` at its place
+-- the join of the first n words of `row`, each met with the word of `codes` at its place
 abbrev pub joinOf : List ℕ → List ℕ → ℕ → ℕ
-joinOf row entries n = fold bitOr 0 (λ i. bitAnd (getD row i 0) (getD entries i 0)) n
+joinOf row codes n = fold bitOr 0 (λ i. bitAnd (getD row i 0) (getD codes i 0)) n
 
 -- the join of one turn, from the codes of the initial values and those of a row of entries
 pub score-join : (w m₂ s : List ℕ) (q n₂ : ℕ) (before : List ℕ) {right entries : List ℕ} → Filled (initialCode w m₂) (getD m₂ 0 0) right → entries ≡ written 0 (tab (λ i. codeIn w (getD s (q * n₂ + i) 0)) n₂ 0) before → n₂ ≤ length before → n₂ ≡ getD m₂ 0 0 → joinOf right entries n₂ ≡ fold bitOr 0 (λ i. bitAnd (initialCode w m₂ i) (codesOfTable w m₂ s q i)) (getD m₂ 0 0)

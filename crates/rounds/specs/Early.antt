@@ -1,10 +1,10 @@
 -- Rows of words whose joins have all reached the top, or whose meets have all reached bottom: no more turns are needed. Rests on entries' Words and
--- elements' Words, Folds and Laws.
+-- Codes, and elements' Words, Folds and Laws.
 --   TopOf, top-of: the word that all codes are within
 --   AtTop, Lower, lower-none, lower-more, at-top: all words of a row are top, by their meet; joins-end: then their joins are whole
---   AtBottom, Upper, upper-none, upper-more, at-bottom: all words of a row are 0, by their join; meets-end: then their meets are whole
+--   AtBottom, upper-none, upper-more, at-bottom: all words of a row are 0, by their join; meets-end: then their meets are whole
 use Prim.Native.Nat.{ℕ, _+_, _≤_, _<_}
-use mathlib.Core.Path.{_≡_, sym, ap, _∙_}
+use mathlib.Core.Path.{_≡_, sym, _∙_}
 use mathlib.Core.Logic.{⊎-elim}
 use mathlib.Core.List.{List}
 use native.Mathlib.Nat.{not-suc-le-zero, eq-or-lt-of-le}
@@ -17,9 +17,9 @@ use Rattle.theory.specs.Loop.{fold}
 use Rattle.elements.specs.declared.Lattice.{Lattice}
 use Rattle.elements.specs.Words.{codeIn, Coded}
 use Rattle.elements.specs.Folds.{or-stays, and-stays}
-use Rattle.elements.specs.Laws.{Within, within-trans, within-antisym, within-refl, and-left, and-right, or-left, or-right}
+use Rattle.elements.specs.Laws.{Within, within-trans, and-left, and-right, or-left, or-right}
 use Rattle.entries.specs.Words.{RowFolded}
-use Rattle.entries.specs.Codes.{code-within}
+use Rattle.entries.specs.Codes.{WithinTop, code-within}
 
 -- every code is within `top`
 pub record TopOf (w : List ℕ) (top : ℕ) : Type 0 where
@@ -61,17 +61,15 @@ joins-end {top} {m} {k} {n} {f} {row} h t b l = record {
 
 -- ---- meets
 
--- each of the first n words of a row is within x; with x 0, they are 0
-pub record Upper (x n : ℕ) (row : List ℕ) : Type 0 where
-  pub at : (i : ℕ) → i < n → Within (getD row i 0) x
-
+-- each of the first n words of a row is within 0, and so is 0
 abbrev pub AtBottom : ℕ → List ℕ → Type 0
-AtBottom n row = Upper 0 n row
+AtBottom n row = WithinTop 0 n row
 
-pub upper-none : {x : ℕ} {row : List ℕ} → Upper x 0 row
+-- the first n words of a row are within a word x: `WithinTop`, with x for the top's
+pub upper-none : {x : ℕ} {row : List ℕ} → WithinTop x 0 row
 upper-none = record { at = λ i l. absurd (not-suc-le-zero l) }
 
-pub upper-more : {x n : ℕ} {row : List ℕ} (v : ℕ) → Upper x n row → n < length row → Upper (bitOr x v) (n + 1) (set row n v)
+pub upper-more : {x n : ℕ} {row : List ℕ} (v : ℕ) → WithinTop x n row → n < length row → WithinTop (bitOr x v) (n + 1) (set row n v)
 upper-more {x} {n} {row} v u l = record {
   at = λ i k.
       ⊎-elim (λ (p : i ≡ n). rw (p, getD-set-same row n v 0 l) (or-right x v))
@@ -79,7 +77,7 @@ upper-more {x} {n} {row} v u l = record {
       (eq-or-lt-of-le (omega arith));
 }
 
-pub at-bottom : {x i n : ℕ} {row : List ℕ} → Upper x i row → n ≤ i → x ≡ 0 → AtBottom n row
+pub at-bottom : {x i n : ℕ} {row : List ℕ} → WithinTop x i row → n ≤ i → x ≡ 0 → AtBottom n row
 at-bottom u l e = record { at = λ k m. rw e at (u .at k (omega arith)) }
 
 -- meets that are all bottom after k turns are those after all n turns

@@ -1,4 +1,4 @@
--- The rows of a round from a given one on, worked one after another; all rows so worked are a whole round. Rests on Table and Round.
+-- The rows of a round from a given one on, worked one after another; all rows so worked are a whole round. Rests on Table, Round and entries' Table.
 --   rowsFrom, rowsChanged: m rows from row q on, each in its place; whether one of them differs
 --   RestIn: the same on bytes, from row q to the last
 --   row-length: a row keeps the length

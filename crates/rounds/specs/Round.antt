@@ -1,5 +1,5 @@
 -- A whole round by its rows is F; no row changed exactly when the round equals the one before; the test for a simulation.
--- Rests on Table, Row, and theory's Simulation, Rounds, Loop, Test.
+-- Rests on Table, entries' Table, and theory's Simulation, Rounds, Loop, Test.
 --   RoundSoFar, RoundIn: the rows below q are worked, with what they changed; a whole round on bytes
 --   round-none, round-more, round-reached: no row, one row more, all rows
 --   round-done, RoundDone: after all rows of round r the table is round r + 1, unchanged exactly when the two are equal

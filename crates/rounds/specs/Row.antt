@@ -1,5 +1,5 @@
 -- One row: where it stands in a table, and what a loop over a row's entries has done so far.
--- Rests on Table, theory's Test and Written, and model's Places.
+-- Rests on entries' Table, theory's Test and Written, and model's Places.
 --   RowAt, row-at: where a row stands; held-by: a table is held
 --   same-eqb, differ-eqb: the test of two bytes that stand for two entries
 --   RowSoFar: the entries so far are written and compared; row-none, row-more, row-all: its begin, turn and end

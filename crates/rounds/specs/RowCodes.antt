@@ -1,7 +1,7 @@
--- A row of F from the codes of its entries. Rests on Table, Row and Codes, and entries' Codes.
+-- A row of F from the codes of its entries. Rests on Table, Row and Codes, and entries' Table and Codes.
 --   row-in: the row that is written, and whether it differs; row-same-in: whether it is the same
 use Prim.Native.Nat.{ℕ, _+_, _<_}
-use mathlib.Core.Path.{_≡_, refl, sym, ap, _∙_}
+use mathlib.Core.Path.{_≡_, sym, ap, _∙_}
 use mathlib.Core.Bool.{Bool, not}
 use mathlib.Core.List.{List}
 use native.Mathlib.Nat.{le-refl}

@@ -177,14 +177,14 @@ fn initial_codes(w: &Codes, m: &[u8], out: &mut [u64])
     }
 }
 
-// The join of the first n words of `row`, each met with the word of `entries` at its place.
-fn joined(row: &[u64; 64], entries: &[u64], n: usize) -> u64
-    requires { ⌜ (n ≤ 64) × (n ≤ length (now entries)) ⌝ }
-    ensures { λ r. ⌜ r ≡ joinOf (now (row .entry)) (now (entries .entry)) n ⌝ }
+// The join of the first n words of `row`, each met with the word of `codes` at its place.
+fn joined(row: &[u64; 64], codes: &[u64], n: usize) -> u64
+    requires { ⌜ (n ≤ 64) × (n ≤ length (now codes)) ⌝ }
+    ensures { λ r. ⌜ r ≡ joinOf (now (row .entry)) (now (codes .entry)) n ⌝ }
 {
     let mut x: u64 = 0;
     for i in 0..n {
-        x = x | (row[i] & entries[i]);
+        x = x | (row[i] & codes[i]);
     }
     x
 }
@@ -198,11 +198,11 @@ pub fn score(w: &Codes, l: Lattice, m1: &[u8], m2: &[u8], s: &[u8]) -> Element
     let n2 = model::states(m2);
     let mut right = [0u64; 64];
     initial_codes(w, m2, &mut right);
-    let mut entries = [0u64; 64];
+    let mut codes = [0u64; 64];
     let mut x = elements::code(w, l.top);
     for q in 0..n1 {
-        elements::encode(w, s, q * n2, n2, &mut entries, 0);
-        let y = joined(&right, &entries, n2);
+        elements::encode(w, s, q * n2, n2, &mut codes, 0);
+        let y = joined(&right, &codes, n2);
         let z = elements::negated_code(w, model::initial(m1, State(q as u8)));
         x = x & (z | y);
     }

@@ -1,4 +1,4 @@
--- Model parts of 64 states and 16 propositions. Rests on theory's Part, formula's Check, rounds' Table and valuer's Values.
+-- Model parts of 64 states and 16 propositions. Rests on theory's Part, formula's Check, entries' Table and valuer's Values.
 --   Full: the part has these sizes; full-set: a part in which they are set is full
 --   full-shape, full-held, full-shaped: what rows ask of it; full-reads: a part that the check accepts is read as a formula
 use Prim.Native.Nat.{ℕ, _*_, _≤_, _<_}

@@ -1,5 +1,5 @@
-// The worked examples 1 to 4 and 6 of document 01, by the functions on tables: each round, how many pairs its entries looked at, T, score, and the shares as
-// of request 101.
+// The worked examples 1 to 4 and 6 of document 01, and one of request 103, by the functions on tables: each round, how many pairs its entries looked at,
+// T, score, and the shares as of request 101.
 use elements::Codes;
 use elements::Element;
 use elements::Lattice;
@@ -54,6 +54,7 @@ fn show_pairs(w: &Codes, l: Lattice, m1: &[u8], m2: &[u8], s: &[u8], q1: State)
     test_printing::say(b"\n");
 }
 
+// The same of every row.
 fn show_all_pairs(w: &Codes, l: Lattice, m1: &[u8], m2: &[u8], s: &[u8])
     requires { ⌜ Coded (now w) l × Shaped (now m1) (now m2) (now s) ⌝ }
 {

@@ -2,7 +2,7 @@
 -- Rests on Lattice, Simulation, Test, Lists.
 --   Folded: x is the fold of the first n values; folded-none, folded-more, folded-all; as a finite meet or join folded-meet, folded-join
 --   fold-cong, count-cong: equal values, equal folds and counts
---   Counted: c of the first n pass; counted-none, counted-more, counted-all
+--   Counted: c of the first n pass; counted-none, counted-more, counted-all; count-most: a count is at most the number of tests
 --   Passed: the first n pass; passed-none, passed-more, passed-all; where one fails passed-stop
 --   Filled (Lists): the first q entries of a list are filled; filled-none, filled-more, filled-all; fewer of them, by a rule that says the same filled-as
 --   tab-at, tab-length, tab-more: a list by its rule
@@ -113,6 +113,11 @@ counted-none {f} = record { eq = sym (count-none f); most = le-refl _ }
 pub indicator-most : (b : Bool) → indicator b ≤ 1
 indicator-most true = omega arith
 indicator-most false = omega arith
+
+pub count-most : (n : ℕ) (f : ℕ → Bool) → count n f ≤ n
+unfolding count
+count-most zero f = le-refl _
+count-most (suc n) f = omega (arith, count-most n f, indicator-most (f n))
 
 -- one turn, whose test gives b
 pub counted-more : {f : ℕ → Bool} {n c d : ℕ} {b : Bool} → Counted f n c → b ≡ f n → d ≡ indicator b → Counted f (n + 1) (c + d)

@@ -1,22 +1,23 @@
--- Theorem 10: what the count of pairs of request 103 is. Rests on Pairs, Folds, Loop and TestLaws.
+-- Theorem 10: how great the count of pairs of request 103 is at most, and when it is 0. Rests on Pairs, Simulation, Value, Folds, Loop and TestLaws.
 --   meet-whole, join-whole: over all states the meet and the joins are those of F
+--   bottom-exactly, top-exactly: what the two tests ask
 --   pairs-most: at most N1·N2; pairs-none: 0 exactly when the propositions' meet is bottom
---   countPairs-cong: equal tests, equal counts; count-first: the first tests are passed, and no other; countPairs-none, countPairs-more,
+--   countPairs-cong: equal tests, equal counts; count-first: a count of tests that are passed up to one, and none from there on; countPairs-none, countPairs-more,
 --     countPairs-stop: a loop that counts, and ends where no more tests are passed
 use Prim.Native.Nat.{ℕ, zero, suc, _+_, _*_, _-_, _≤_, _<_}
-use mathlib.Core.Path.{_≡_, refl, sym, ap, ap₂, _∙_}
+use mathlib.Core.Path.{_≡_, refl, ap, ap₂, _∙_}
 use mathlib.Core.Bool.{Bool, true, false, not, _&&_}
 use mathlib.Core.Logic.{_↔_, _⊎_, inl, inr, ⊎-elim}
 use native.Mathlib.Nat.{le-refl, add-zero, add-suc, suc-mul, not-suc-le-zero}
 use native.Mathlib.Numerals.{add-one}
 use native.Mathlib.Omega.{arith}
-use Rattle.theory.specs.Lattice.{Ops, Laws, AtMost, imp, bigMeet, bigJoin}
+use Rattle.theory.specs.Lattice.{Ops, Laws, AtMost, Element, bigMeet, bigJoin}
 use Rattle.theory.specs.Model.{Model}
 use Rattle.theory.specs.Value.{allNext, someNext}
 use Rattle.theory.specs.Simulation.{propositionPart, successorPart, F, indicator, count}
-use Rattle.theory.specs.Pairs.{countPairs, isTop, meetBefore, joinBefore, lookedAt, pairs}
+use Rattle.theory.specs.Pairs.{countPairs, isBottom, isTop, meetBefore, joinBefore, lookedAt, pairs}
 use Rattle.theory.specs.Folds.{bigMeet-element}
-use Rattle.theory.specs.Loop.{indicator-most, count-cong}
+use Rattle.theory.specs.Loop.{count-most, count-cong}
 use Rattle.theory.specs.TestLaws.{below-suc, false-true}
 
 module _ {A : Type 0} (O : Ops A) (M₁ M₂ : Model A) (S : ℕ → ℕ → A) (q₁ q₂ : ℕ) where
@@ -24,16 +25,22 @@ module _ {A : Type 0} (O : Ops A) (M₁ M₂ : Model A) (S : ℕ → ℕ → A) 
   unfolding meetBefore F successorPart allNext
   meet-whole = refl
 
-  pub join-whole : (q₁' : ℕ) → joinBefore O M₁ M₂ S q₁ q₂ q₁' (M₂ .states) ≡ someNext O M₂ (S q₁') q₂
+module _ {A : Type 0} (O : Ops A) (M₂ : Model A) (S : ℕ → ℕ → A) (q₂ : ℕ) where
+  pub join-whole : (q₁' : ℕ) → joinBefore O M₂ S q₂ q₁' (M₂ .states) ≡ someNext O M₂ (S q₁') q₂
   unfolding joinBefore someNext
   join-whole q₁' = refl
 
--- ---- counts
+-- bottom alone is at or below bottom, and top alone at or above top
+module _ {A : Type 0} {O : Ops A} (L : Laws O) {a : A} (e : Element O a) where
+  open Laws L using (rfl, antisym, top-max, bot-min, top-element, bot-element)
 
-count-most : (n : ℕ) (f : ℕ → Bool) → count n f ≤ n
-unfolding count
-count-most zero f = le-refl _
-count-most (suc n) f = omega (arith, count-most n f, indicator-most (f n))
+  pub bottom-exactly : (isBottom O a ≡ true) ↔ (a ≡ O .bot)
+  bottom-exactly = (λ h. antisym e bot-element h (bot-min a), λ h. rw h (rfl (O .bot)))
+
+  pub top-exactly : (isTop O a ≡ true) ↔ (a ≡ O .top)
+  top-exactly = (λ h. antisym e top-element (top-max a) h, λ h. rw h (rfl (O .top)))
+
+-- ---- counts
 
 countPairs-most : (m n : ℕ) (f : ℕ → ℕ → Bool) → countPairs m n f ≤ m * n
 unfolding countPairs
@@ -60,7 +67,7 @@ unfolding count
 count-none-passed zero f e i l = absurd (not-suc-le-zero l)
 count-none-passed (suc n) f e i l = below-suc {P = λ i. f i ≡ false} (count-none-passed n f (omega (arith, e))) (indicator-none (f n) (omega (arith, e))) i l
 
--- the first k tests are passed
+-- where the first k tests are passed, and none after them, k is the count
 count-passed : (k : ℕ) (f : ℕ → Bool) → ((j : ℕ) → j < k → f j ≡ true) → count k f ≡ k
 unfolding count
 count-passed zero f h = refl
@@ -73,7 +80,6 @@ count-past k (suc d) f g =
     ap (λ (x : ℕ). count x f) (add-suc k d)
     ∙ ap₂ _+_ (count-past k d f (λ j l m. g j l (omega arith))) (ap indicator (g (k + d) (omega arith) (omega arith))) ∙ add-zero _
 
--- and no other
 pub count-first : (k n : ℕ) (f : ℕ → Bool) → k ≤ n → ((j : ℕ) → j < k → f j ≡ true) → ((j : ℕ) → k ≤ j → j < n → f j ≡ false) → count n f ≡ k
 count-first k n f l h g =
     let e : n ≡ k + (n - k) = omega arith in
@@ -118,20 +124,20 @@ one-passed false true e = inr refl
 one-passed false false e = absurd (false-true e refl)
 
 module _ {A : Type 0} {O : Ops A} (L : Laws O) (M₁ M₂ : Model A) (S : ℕ → ℕ → A) (q₁ q₂ : ℕ) where
-  open Laws L using (rfl, trans, antisym, meet-l, meet-glb, top-max, bot-min, bot-element)
+  open Laws L using (rfl, trans, meet-l, meet-glb, top-max)
 
-  -- the propositions' meet is at or below bottom, where it is bottom, and the other way
+  -- the propositions' meet is bottom, as a test
   abbrev low : Type 0
   low = AtMost O (propositionPart O M₁ M₂ q₁ q₂) (O .bot)
 
-  is-bottom : low → propositionPart O M₁ M₂ q₁ q₂ ≡ O .bot
+  low-exactly : low ↔ (propositionPart O M₁ M₂ q₁ q₂ ≡ O .bot)
   unfolding propositionPart
-  is-bottom h = antisym (bigMeet-element L (M₁ .propositions) _) bot-element h (bot-min _)
+  low-exactly = bottom-exactly L (bigMeet-element L (M₁ .propositions) _)
 
   -- a meet with what is bottom is bottom, so that no pair is looked at
   none-looked-at : low → (i j : ℕ) → lookedAt O M₁ M₂ S q₁ q₂ i j ≡ false
   unfolding lookedAt meetBefore
-  none-looked-at h i j = ap (λ (b : Bool). not b && not (isTop O (joinBefore O M₁ M₂ S q₁ q₂ i j))) (trans (meet-l _ _) h)
+  none-looked-at h i j = ap (λ (b : Bool). not b && not (isTop O (joinBefore O M₂ S q₂ i j))) (trans (meet-l _ _) h)
 
   -- the first pair is looked at unless it is
   first-pair : lookedAt O M₁ M₂ S q₁ q₂ 0 0 ≡ false → low
@@ -141,6 +147,6 @@ module _ {A : Type 0} {O : Ops A} (L : Laws O) (M₁ M₂ : Model A) (S : ℕ �
   pub pairs-none : 0 < M₁ .states → 0 < M₂ .states → (pairs O M₁ M₂ S q₁ q₂ ≡ 0) ↔ (propositionPart O M₁ M₂ q₁ q₂ ≡ O .bot)
   unfolding pairs countPairs
   pairs-none a b = (
-    λ e. is-bottom (first-pair (countPairs-none-passed (M₁ .states) (M₂ .states) _ e 0 a 0 b)),
-    λ e. countPairs-stop 0 (M₁ .states) (M₂ .states) _ (omega arith) (λ i j k l. none-looked-at (rw e (rfl (O .bot))) i j),
+    λ e. low-exactly .0 (first-pair (countPairs-none-passed (M₁ .states) (M₂ .states) _ e 0 a 0 b)),
+    λ e. countPairs-stop 0 (M₁ .states) (M₂ .states) _ (omega arith) (λ i j k l. none-looked-at (low-exactly .1 e) i j),
   )

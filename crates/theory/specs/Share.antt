@@ -16,7 +16,7 @@ use borrow.Author.Tests.{ltb-true, ltb-false, lt-ltb, le-ltb, eqb-true, eqb-fals
 use lib.Dec.{ltb, eqb}
 use Rattle.theory.specs.Lattice.{Ops}
 use Rattle.theory.specs.Simulation.{indicator, count, goesUp, perCent, share}
-use Rattle.theory.specs.Loop.{indicator-most, count-cong}
+use Rattle.theory.specs.Loop.{count-most, count-cong}
 
 -- ---- c of t in per cent: 100 c / t
 
@@ -166,11 +166,6 @@ module _ (c t : ℕ) where
 -- ---- share
 
 -- no more than all are counted
-count-most : (n : ℕ) (f : ℕ → Bool) → count n f ≤ n
-unfolding count
-count-most zero f = le-refl _
-count-most (suc n) f = omega (arith, count-most n f, indicator-most (f n))
-
 module _ {A : Type 0} (O : Ops A) (n : ℕ) where
   pub share-nearest-even : (S : ℕ → A) (l : A) → 0 < n → NearestEven (count n (λ i. O .atMost l (S i))) n (share O n S l)
   unfolding share

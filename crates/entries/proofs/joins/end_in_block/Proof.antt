@@ -10,10 +10,10 @@ use Rattle.entries.proofs.joins.end_in_block.Statement.{statement}
 use Rattle.entries.proofs.joins.end_in_block.Tie as tie
 
 abbrev Inv-loop : tie.InvT-loop
-Inv-loop x top row i table at y₀ j₀ y j = (j ≤ 4) × (y ≡ joinCode row table at (i + j)) × (y ≡ top → ⊥)
+Inv-loop x top row i table at first y₀ j₀ y j = (j ≤ 16) × (y ≡ joinCode row table at (i + j)) × (y ≡ top → ⊥)
 
 abbrev μ-loop : tie.MeasureT-loop
-μ-loop x top row i table at y₀ j₀ y j = 4 - j
+μ-loop x top row i table at first y₀ j₀ y j = 16 - j
 
 loop-holds : tie.Need-loop-holds Inv-loop μ-loop
 loop-holds c = (omega arith, c .pre .3 ∙ ap (joinCode (c .args .row .now) (c .args .table .now) (c .args .at)) (sym (add-zero (c .args .i))), c .pre .4)
@@ -43,6 +43,6 @@ returns-2 c =
 
 pub end-in-block-spec : {M : Type 1} → statement M
 end-in-block-spec =
-    tie.close (tie.spec Inv-loop μ-loop loop-holds (λ c. search needs) (λ c. search needs) (λ c. search needs) (λ c. search needs) (λ c. search needs)
-    (λ c. search needs) (λ c. search needs) (λ c. search needs) (λ c. search needs) returns (λ c. search needs) (λ c. search needs) loop-again
+    tie.close (tie.spec Inv-loop μ-loop (λ c. search needs) loop-holds (λ c. search needs) (λ c. search needs) (λ c. search needs) (λ c. search needs) (λ c. search needs)
+    (λ c. search needs) (λ c. search needs) (λ c. search needs) returns (λ c. search needs) (λ c. search needs) loop-again
     (λ c. search needs) returns-2)

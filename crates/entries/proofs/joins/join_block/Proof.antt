@@ -10,10 +10,10 @@ use Rattle.entries.proofs.joins.join_block.Statement.{statement}
 use Rattle.entries.proofs.joins.join_block.Tie as tie
 
 abbrev Inv-loop : tie.InvT-loop
-Inv-loop x row i table at y₀ j₀ y j = (j ≤ 4) × (y ≡ joinCode row table at (i + j))
+Inv-loop x row i table at first y₀ j₀ y j = (j ≤ 16) × (y ≡ joinCode row table at (i + j))
 
 abbrev μ-loop : tie.MeasureT-loop
-μ-loop x row i table at y₀ j₀ y j = 4 - j
+μ-loop x row i table at first y₀ j₀ y j = 16 - j
 
 loop-holds : tie.Need-loop-holds Inv-loop μ-loop
 loop-holds c = (omega arith, c .pre .2 ∙ ap (joinCode (c .args .row .now) (c .args .table .now) (c .args .at)) (sym (add-zero (c .args .i))))
@@ -30,5 +30,5 @@ returns c =
 
 pub join-block-spec : {M : Type 1} → statement M
 join-block-spec =
-    tie.close (tie.spec Inv-loop μ-loop loop-holds (λ c. search needs) (λ c. search needs) (λ c. search needs) (λ c. search needs) (λ c. search needs)
-    (λ c. search needs) (λ c. search needs) (λ c. search needs) (λ c. search needs) loop-again returns)
+    tie.close (tie.spec Inv-loop μ-loop (λ c. search needs) loop-holds (λ c. search needs) (λ c. search needs) (λ c. search needs) (λ c. search needs) (λ c. search needs)
+    (λ c. search needs) (λ c. search needs) (λ c. search needs) loop-again returns)

@@ -5,7 +5,8 @@ use lib.Bits.{bitAnd, bitOr}
 use lib.ListN.{length, getD, length-set}
 use Rattle.entries.specs.Words.{Replaced, replaced-none, replaced-more, replaced-all, replaced-same}
 use Rattle.elements.specs.Folds.{top-same}
-use Rattle.rounds.specs.Early.{Upper, upper-none, upper-more, at-bottom}
+use Rattle.entries.specs.Codes.{WithinTop}
+use Rattle.rounds.specs.Early.{upper-none, upper-more, at-bottom}
 use Rattle.theory.specs.TestLaws.{false-true}
 use borrow.Author.Tests.{eqb-true, not-false}
 use borrow.Author.Needs.{needs}
@@ -15,7 +16,7 @@ use Rattle.rounds.proofs.columns.meet_with.Tie as tie
 
 abbrev Inv-loop : tie.InvT-loop
 Inv-loop row₀ top c joins at n any₀ i₀ row any i =
-    (i ≤ n) × (length row ≡ 64) × Replaced (λ i x. bitAnd x (bitOr c (getD joins (at + i) 0))) i row₀ row × Upper any i row
+    (i ≤ n) × (length row ≡ 64) × Replaced (λ i x. bitAnd x (bitOr c (getD joins (at + i) 0))) i row₀ row × WithinTop any i row
 
 abbrev μ-loop : tie.MeasureT-loop
 μ-loop row₀ top c joins at n any₀ i₀ row any i = n - i
