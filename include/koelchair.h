@@ -1,6 +1,6 @@
-/* Koelchair's eight calls, the rest of a round in one call, what a desk holds, and the listing, for C, C99 or later, and for C++. They stand in
-   target/staticlib/libexports.a, which `rt staticlib exports` proves and writes. The contracts are in crates/exports/src; how a case is
-   laid out byte for byte, and what the words used here mean, is said in docs/SPECIFICATION.md.
+/* Koelchair's eight calls, the rest of a round in one call, what a desk holds, how an entry is worked, and the listing, for C, C99 or
+   later, and for C++. They stand in target/staticlib/libexports.a, which `rt staticlib exports` proves and writes. The contracts are in
+   crates/exports/src; how a case is laid out byte for byte, and what the words used here mean, is said in docs/SPECIFICATION.md.
 
    A desk is a standing, a store and two tables. The caller keeps all four: the standing as a struct, the others as bytes. A new desk
    is of any content, for instance zeros, and of KOELCHAIR_STORE_LENGTH and KOELCHAIR_TABLE_LENGTH bytes or more. koelchair_open,
@@ -171,6 +171,15 @@ typedef struct koelchair_desk_sizes {
     uint8_t formulas;
 } koelchair_desk_sizes;
 
+/* One entry of the next round: its element, and how many pairs of states were looked at to work it, 0 to N1 times N2. number and part
+   are 0; where it is refused they are the refusal's, and both others are 0. */
+typedef struct koelchair_worked_entry {
+    uint8_t number;
+    uint8_t part;
+    uint8_t value;
+    uint32_t pairs;
+} koelchair_worked_entry;
+
 /* ---- the calls that move the desk on */
 
 /* Takes a case and makes the desk anew, whatever the desk was. Reads the case; writes it without gaps at the store's front and the
@@ -256,6 +265,21 @@ koelchair_desk_sizes koelchair_sizes(koelchair_standing standing,
                                      const uint8_t *store, size_t store_length,
                                      const uint8_t *first, size_t first_length,
                                      const uint8_t *second, size_t second_length);
+
+/* ---- how an entry is worked */
+
+/* Entry (q1, q2) of F of the table shown, which is what the next round has there, and how many pairs (q1', q2') were looked at to work
+   it. The propositions are taken first, then each q1' and for it each q2', all in rising order; the work ends once the meet is bottom,
+   and the join of a q1' once that is top. So these are the pairs for which the meet over the propositions and all smaller q1' is not
+   bottom and, for that q1', the join over smaller q2' is not top; one whose transition from q1 is bottom is among them. Over a lattice of
+   one element there are none. Reads the store and both tables; writes nothing. A desk that every call but koelchair_open refuses has
+   the number 11 or 12 and the part of that refusal; where q1 is not below N1 or q2 not below N2 it is 13. It is none of the eight
+   calls: use it to see how much of the work of a round ends early. */
+koelchair_worked_entry koelchair_entry(koelchair_standing standing,
+                                       const uint8_t *store, size_t store_length,
+                                       const uint8_t *first, size_t first_length,
+                                       const uint8_t *second, size_t second_length,
+                                       uint8_t q1, uint8_t q2);
 
 /* ---- the listing */
 

@@ -52,6 +52,16 @@ pub struct Sizes {
     pub formulas: u8,
 }
 
+/// An entry of the next round, and how many pairs of states were looked at to work it.
+#[derive(Clone, Copy, Debug, PartialEq, Eq, Hash)]
+pub struct WorkedEntry {
+    /// The entry: that of F of the shown table.
+    pub value: Element,
+    /// The pairs (q1', q2') for which the meet over the propositions and all smaller q1' is not bottom and, for that q1', the
+    /// join over smaller q2' is not top: 0 to N1·N2.
+    pub pairs: u32,
+}
+
 /// An answer that its call cannot give.
 fn impossible(call: &str, answer: raw::Answer) -> ! {
     panic!("the archive gave to {call} the answer {answer:?}, which it has not")
@@ -139,6 +149,16 @@ pub(crate) fn sizes(held: raw::DeskSizes) -> Result<Sizes, Refusal> {
     }
 }
 
+pub(crate) fn entry(worked: raw::WorkedEntry) -> Result<WorkedEntry, Refusal> {
+    match worked.number {
+        0 => Ok(WorkedEntry {
+            value: Element(worked.value),
+            pairs: worked.pairs,
+        }),
+        number => Err(Refusal::read(number, worked.part)),
+    }
+}
+
 #[cfg(test)]
 mod tests {
     use super::*;
@@ -205,6 +225,26 @@ mod tests {
             ..raw::DeskSizes::default()
         };
         assert_eq!(sizes(held), Err(Refusal::SpoiledDesk));
+        let worked = raw::WorkedEntry {
+            number: 13,
+            part: 255,
+            ..raw::WorkedEntry::default()
+        };
+        assert_eq!(entry(worked), Err(Refusal::OutOfRange));
+    }
+
+    #[test]
+    fn a_worked_entry_is_read() {
+        let worked = raw::WorkedEntry {
+            value: 63,
+            pairs: 4_096,
+            ..raw::WorkedEntry::default()
+        };
+        let expected = WorkedEntry {
+            value: Element(63),
+            pairs: 4_096,
+        };
+        assert_eq!(entry(worked), Ok(expected));
     }
 
     #[test]

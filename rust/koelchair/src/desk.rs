@@ -1,7 +1,7 @@
 //! A desk that owns its standing, its store and both tables.
 
 use crate::{DeskMut, DeskRef, Element, FormulaValue, Refusal, Sizes, Standing, State, StepAnswer};
-use crate::{STORE_LENGTH, TABLE_LENGTH};
+use crate::{WorkedEntry, STORE_LENGTH, TABLE_LENGTH};
 use std::fmt;
 
 /// A desk with an accepted case. It owns its standing, store and tables, which only its calls alter, so that by demand 3 none
@@ -102,6 +102,37 @@ impl Desk {
     /// What the desk holds.
     pub fn sizes(&self) -> Sizes {
         self.lent().sizes().expect(KEPT)
+    }
+
+    /// Entry (q1, q2) of the next round, and how many pairs of states were looked at to work it. Nothing is altered.
+    ///
+    /// ```
+    /// use koelchair::{Desk, Element, Refusal, State, WorkedEntry};
+    ///
+    /// // The elements 0 below 1; two models of two states with a loop at each, a transition from state 0 to state 1, and a
+    /// // proposition that holds at state 1.
+    /// let case = [
+    ///     3, // parts, each with its offset and length
+    ///     13, 0, 7, 0, 20, 0, 10, 0, 30, 0, 10, 0,
+    ///     2, 1, 0, 1, 1, 0, 1, // the lattice
+    ///     2, 1, 1, 0, 0, 1, 1, 1, 0, 1, // model 1
+    ///     2, 1, 1, 0, 0, 1, 1, 1, 0, 1, // model 2
+    /// ];
+    /// let desk = Desk::open(&case)?;
+    /// let entry = |q1, q2| desk.entry(State(q1), State(q2)).map(|WorkedEntry { value, pairs }| (value, pairs));
+    /// // No join is top before its last pair, so that all four pairs are looked at.
+    /// assert_eq!(entry(1, 1), Ok((Element(1), 4)));
+    /// // For each state of model 1 the join is top after the first state of model 2.
+    /// assert_eq!(entry(0, 0), Ok((Element(1), 2)));
+    /// // The propositions differ, and the meet is bottom before any pair.
+    /// assert_eq!(entry(0, 1), Ok((Element(0), 0)));
+    /// assert_eq!(entry(2, 0), Err(Refusal::OutOfRange));
+    /// # Ok::<(), koelchair::Refusal>(())
+    /// ```
+    ///
+    /// Refused with 13 where model 1 has no state q1 or model 2 no state q2.
+    pub fn entry(&self, q1: State, q2: State) -> Result<WorkedEntry, Refusal> {
+        self.lent().entry(q1, q2)
     }
 
     /// Where the desk stands.

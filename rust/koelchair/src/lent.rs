@@ -1,6 +1,6 @@
 //! A desk whose standing, store and tables belong to the caller: `DeskRef` for the calls that read, `DeskMut` for all.
 
-use crate::{answer, raw, Element, FormulaValue, Refusal, Sizes, State, StepAnswer};
+use crate::{answer, raw, Element, FormulaValue, Refusal, Sizes, State, StepAnswer, WorkedEntry};
 
 /// Where a desk stands. A standing of any content may be passed to any call: one that breaks a rule is refused with 12 by
 /// every call but [`DeskMut::open`].
@@ -108,6 +108,15 @@ impl<'a> DeskRef<'a> {
     /// Refused with 11 or 12.
     pub fn sizes(self) -> Result<Sizes, Refusal> {
         answer::sizes(raw::sizes(self))
+    }
+
+    /// Entry (q1, q2) of F of the shown table, which is what the next round has there, and how many pairs of states were looked
+    /// at to work it. The work takes the propositions first, then each q1' and for it each q2', all in rising order; it ends
+    /// once the meet is bottom, and the join of a q1' once that is top.
+    ///
+    /// Refused with 11 or 12, or with 13 where model 1 has no state q1 or model 2 no state q2.
+    pub fn entry(self, q1: State, q2: State) -> Result<WorkedEntry, Refusal> {
+        answer::entry(raw::entry(self, q1.0, q2.0))
     }
 }
 

@@ -48,6 +48,17 @@ pub struct DeskSizes {
     pub formulas: u8,
 }
 
+/// An entry of the next round, and how many pairs of states were looked at to work it. A refused one has the refusal's number and part, and
+/// zeros; any other has number and part 0.
+#[repr(C)]
+#[derive(Clone, Copy, Debug, Default)]
+pub struct WorkedEntry {
+    pub number: u8,
+    pub part: u8,
+    pub value: u8,
+    pub pairs: u32,
+}
+
 extern "C" {
     fn koelchair_open(
         standing: Standing,
@@ -159,6 +170,18 @@ extern "C" {
         second_length: usize,
     ) -> DeskSizes;
 
+    fn koelchair_entry(
+        standing: Standing,
+        store: *const u8,
+        store_length: usize,
+        first: *const u8,
+        first_length: usize,
+        second: *const u8,
+        second_length: usize,
+        q1: u8,
+        q2: u8,
+    ) -> WorkedEntry;
+
     fn koelchair_listing(case: *const u8, case_length: usize, text: *mut u8) -> usize;
 }
 
@@ -252,6 +275,10 @@ pub fn judge(desk: DeskRef, table: &[u8]) -> Answer {
 
 pub fn sizes(desk: DeskRef) -> DeskSizes {
     ask!(koelchair_sizes, desk)
+}
+
+pub fn entry(desk: DeskRef, q1: u8, q2: u8) -> WorkedEntry {
+    ask!(koelchair_entry, desk, q1, q2)
 }
 
 /// Writes the listing at the front of `text`, and gives its length.

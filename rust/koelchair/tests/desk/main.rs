@@ -1,6 +1,7 @@
 //! A desk that owns its buffers and one that is lent them, on the worked examples of document 01, and what they refuse.
 
 mod cases;
+mod entries;
 mod examples;
 mod finishing;
 mod refusals;

@@ -72,6 +72,8 @@ fn assert_refused(desk: &Lent, refusal: Refusal) {
     assert_eq!(desk.share(Element(0)), Err(refusal));
     assert_eq!(desk.judge(&[0; 4]), Err(refusal));
     assert_eq!(desk.sizes(), Err(refusal));
+    assert_eq!(desk.entry(State(0), State(0)), Err(refusal));
+    assert_eq!(desk.entry(State(255), State(255)), Err(refusal));
 }
 
 #[test]
@@ -140,6 +142,10 @@ fn arguments_out_of_range() {
     assert_eq!(desk.judge(&[0; 5]), Err(Refusal::OutOfRange));
     assert_eq!(desk.judge(&[]), Err(Refusal::OutOfRange));
     assert_eq!(desk.judge(&[0, 0, 0, 2]), Err(Refusal::OutOfRange));
+    for (q1, q2) in [(2, 0), (0, 2), (2, 2), (255, 0), (0, 255)] {
+        let entry = desk.entry(State(q1), State(q2));
+        assert_eq!(entry, Err(Refusal::OutOfRange), "{q1}, {q2}");
+    }
     assert_eq!(desk.standing(), standing);
     assert_eq!(desk.show(), shown);
 }
