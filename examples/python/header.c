@@ -13,6 +13,7 @@ const size_t koelchair_answer_bytes = sizeof(koelchair_answer);
 const size_t koelchair_moved_bytes = sizeof(koelchair_moved);
 const size_t koelchair_shown_bytes = sizeof(koelchair_shown);
 const size_t koelchair_desk_sizes_bytes = sizeof(koelchair_desk_sizes);
+const size_t koelchair_worked_entry_bytes = sizeof(koelchair_worked_entry);
 
 const char *koelchair_words(uint8_t number)
 {

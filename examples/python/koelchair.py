@@ -18,6 +18,7 @@ models are 1 and 2.
 
     Desk(case)      a desk with an accepted case; its calls are methods
     FormulaValue    a formula's element with its FormulaFacts, which say from which round on a table covers the formula
+    WorkedEntry     an entry of the next round with the number of pairs of states that were looked at to work it
     listing(case)   the whole result as text, without a desk
     Refused         the exception by which a call says that it is refused
     VERSION         the library's version
@@ -76,6 +77,10 @@ class _DeskSizes(ctypes.Structure):
     ]
 
 
+class _WorkedEntry(ctypes.Structure):
+    _fields_ = [("number", c_uint8), ("part", c_uint8), ("value", c_uint8), ("pairs", c_uint32)]
+
+
 _BYTES = [c_char_p, c_size_t]
 _DESK = [Standing] + 3 * _BYTES
 
@@ -90,12 +95,20 @@ _FUNCTIONS = {
     "share": (_DESK + [c_uint8], _Answer),
     "judge": (_DESK + _BYTES, _Answer),
     "sizes": (_DESK, _DeskSizes),
+    "entry": (_DESK + [c_uint8, c_uint8], _WorkedEntry),
     "listing": (_BYTES + [c_char_p], c_size_t),
     "words": ([c_uint8], c_char_p),
 }
 
 # The structs above, by their names in the header.
-_STRUCTS = {"standing": Standing, "answer": _Answer, "moved": _Moved, "shown": _Shown, "desk_sizes": _DeskSizes}
+_STRUCTS = {
+    "standing": Standing,
+    "answer": _Answer,
+    "moved": _Moved,
+    "shown": _Shown,
+    "desk_sizes": _DeskSizes,
+    "worked_entry": _WorkedEntry,
+}
 
 # Kinds of answers, and what step calls its own.
 _REFUSED, _FORMULA_VALUE = 0, 9
@@ -180,6 +193,13 @@ class Sizes(NamedTuple):
     formulas: int
 
 
+class WorkedEntry(NamedTuple):
+    """An entry of the next round, and how many pairs of states were looked at to work it."""
+
+    value: int
+    pairs: int
+
+
 def _accepted(answer):
     """The value of an answer, with the formula's facts where it has them; raises Refused."""
     if answer.kind == _REFUSED:
@@ -187,6 +207,13 @@ def _accepted(answer):
     if answer.kind == _FORMULA_VALUE:
         return FormulaValue(answer.value, FormulaFacts(answer.byte, answer.flag1, answer.flag2))
     return answer.value
+
+
+def _told(told):
+    """What sizes and entry tell; raises Refused."""
+    if told.number != 0:
+        raise Refused(told.number, told.part)
+    return told
 
 
 def _byte(number):
@@ -276,10 +303,14 @@ class Desk:
 
     def sizes(self):
         """What the desk holds."""
-        held = _library.koelchair_sizes(self._standing, *self._lent())
-        if held.number != 0:
-            raise Refused(held.number, held.part)
+        held = _told(_library.koelchair_sizes(self._standing, *self._lent()))
         return Sizes(held.elements, held.propositions, held.states1, held.states2, held.formulas)
+
+    def entry(self, q1, q2):
+        """The entry of states q1 and q2 in the next round, and how many pairs of states were looked at to work it, as a WorkedEntry;
+        refused with 13."""
+        worked = _told(_library.koelchair_entry(self._standing, *self._lent(), _byte(q1), _byte(q2)))
+        return WorkedEntry(worked.value, worked.pairs)
 
 
 def listing(case):

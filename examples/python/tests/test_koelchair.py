@@ -69,6 +69,20 @@ class Examples(unittest.TestCase):
         self.assertEqual(covered, [[], [0], [0, 1], [0, 1, 2]])
         self.assertEqual([f.covered_in(desk.standing.round, True) for f in facts], [True, True, True, True, False])
 
+    def test_entries_of_the_next_round(self):
+        desk = koelchair.Desk(example(4))
+
+        def entries():
+            return [desk.entry(q1, q2) for q1 in range(2) for q2 in range(2)]
+
+        round_0 = [koelchair.WorkedEntry(1, 4), (0, 4), (0, 0), (0, 0)]
+        self.assertEqual(entries(), round_0)
+        desk.step()  # works a row of the table that is not shown
+        self.assertEqual(entries(), round_0)
+        desk.step()
+        self.assertEqual(desk.rows(), [[1, 0], [0, 0]])
+        self.assertEqual(entries(), [(0, 4), (0, 4), (0, 0), (0, 0)])
+
     def test_another_case_replaces_the_former(self):
         desk = koelchair.Desk(example(4))
         desk.settle()
@@ -112,6 +126,8 @@ class Refusals(unittest.TestCase):
             lambda: desk.share(2),
             lambda: desk.judge([0, 0, 0]),
             lambda: desk.judge(b""),
+            lambda: desk.entry(2, 0),
+            lambda: desk.entry(0, 2),
         ]:
             self.refused(call, 13, None, words)
 
@@ -124,6 +140,8 @@ class Refusals(unittest.TestCase):
             lambda: desk.whole(0, 258),
             lambda: desk.share(256),
             lambda: desk.judge([0, 0, 0, 256]),
+            lambda: desk.entry(256, 0),
+            lambda: desk.entry(0, -1),
         ]:
             self.assertRaises(ValueError, call)
 
