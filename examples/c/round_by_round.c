@@ -1,5 +1,6 @@
-/* Reads a case from standard input, prints its listing, works its rounds to the end, and prints every answer: the table at each round and
-   which formulas it covers, the score, the share, and the formulas' facts and values. A refusal is said in words, with its number and part.
+/* Reads a case from standard input, prints its listing, works its rounds to the end, and prints every answer: the table at each round,
+   which formulas it covers and what the next round changes, the score, the share, and the formulas' facts and values. A refusal is said
+   in words, with its number and part.
 
    From the repository's root, after `rt staticlib exports`:
 
@@ -25,16 +26,21 @@ struct desk {
 
 /* ---- refusals */
 
+/* Ends the program, with a refusal's number and part. */
+static void end_refused(const char *call, uint8_t number, uint8_t part)
+{
+    printf("%s: refused %d %d: %s", call, number, part, koelchair_refusal_words(number));
+    if (part != KOELCHAIR_NO_PART)
+        printf(" (part %d of the case)", part);
+    printf("\n");
+    exit(EXIT_FAILURE);
+}
+
 /* Ends the program where a call was refused. */
 static void unless_refused(const char *call, koelchair_answer answer)
 {
-    if (answer.kind != KOELCHAIR_REFUSED)
-        return;
-    printf("%s: refused %d %d: %s", call, answer.number, answer.part, koelchair_refusal_words(answer.number));
-    if (answer.part != KOELCHAIR_NO_PART)
-        printf(" (part %d of the case)", answer.part);
-    printf("\n");
-    exit(EXIT_FAILURE);
+    if (answer.kind == KOELCHAIR_REFUSED)
+        end_refused(call, answer.number, answer.part);
 }
 
 /* ---- formulas */
@@ -71,7 +77,21 @@ static void print_covered(const struct desk *d)
 
 /* ---- rounds */
 
-/* Prints the table that the desk shows, a line for each state of model 1, and which formulas it covers. */
+/* Prints what the next round makes of the table shown, entry by entry: how many it changes, and how many pairs of states are looked at. */
+static void print_next_round(const struct desk *d, const uint8_t *table)
+{
+    unsigned long states1 = d->standing.states1, states2 = d->standing.states2, changed = 0, pairs = 0;
+    for (unsigned long i = 0; i < states1 * states2; i++) {
+        koelchair_worked_entry entry = koelchair_entry(LENT(d), (uint8_t)(i / states2), (uint8_t)(i % states2));
+        if (entry.number != 0)
+            end_refused("entry", entry.number, entry.part);
+        changed += entry.value != table[i];
+        pairs += entry.pairs;
+    }
+    printf("  the next round changes %lu entries and looks at %lu of %lu pairs\n", changed, pairs, states1 * states2 * states1 * states2);
+}
+
+/* Prints the table that the desk shows, a line for each state of model 1, which formulas it covers, and what comes of it. */
 static void print_table(const struct desk *d)
 {
     koelchair_shown shown = koelchair_show(LENT(d));
@@ -81,6 +101,7 @@ static void print_table(const struct desk *d)
     for (size_t i = 0; i < shown.length; i++)
         printf("%s%d%s", i % columns == 0 ? "    " : " ", table[i], i % columns == columns - 1 ? "\n" : "");
     print_covered(d);
+    print_next_round(d, table);
 }
 
 /* Works one row and prints the answer, and the table after the last row of a round. */

@@ -1,4 +1,4 @@
-/* Measures the stack that each call and the listing take, at the greatest sizes: 64 elements, 64 states, 16 propositions and eight formulas of 255 bytes.
+/* Measures the stack that each call, sizes, entry and the listing take, at the greatest sizes: 64 elements, 64 states, 16 propositions and eight formulas of 255 bytes.
    A call runs on a stack of its own whose bytes were all set to one value; those that have another value after it were written. What
    running nothing takes there is subtracted. Each call is measured with two values, and the greater figure is printed. Bytes that a call
    sets aside and never writes are not seen, unless it writes below them.
@@ -131,6 +131,13 @@ static void judge(void) { answer = koelchair_judge(LENT, table, sizeof table); }
 
 static void sizes(void) { answer.kind = koelchair_sizes(LENT).number == 0 ? KOELCHAIR_OPENED : KOELCHAIR_REFUSED; }
 
+/* Of two states whose propositions do not end the entry, so that pairs are looked at. */
+static void entry(void)
+{
+    koelchair_worked_entry worked = koelchair_entry(LENT, 3, 12);
+    answer.kind = worked.pairs > 0 ? KOELCHAIR_OPENED : KOELCHAIR_REFUSED;
+}
+
 static void listing(void)
 {
     size_t length = koelchair_listing(case_bytes, case_length, text);
@@ -182,6 +189,7 @@ int main(void)
     printf("share %zu\n", taken(share));
     printf("judge %zu\n", taken(judge));
     printf("sizes %zu\n", taken(sizes));
+    printf("entry %zu\n", taken(entry));
     printf("listing %zu\n", taken(listing));
     return EXIT_SUCCESS;
 }
