@@ -1,11 +1,11 @@
-//! The eight calls on a desk: a standing, a store and two tables. Rests on `case`, `formula`, `facts` and `rounds`.
+//! The eight calls on a desk, a standing, a store and two tables, and the work on one entry. Rests on `case`, `formula`, `facts` and `rounds`.
 
 use crate::case::{self, Content, Refusal};
 use crate::facts::{self, Facts};
 use crate::formula::{Formula, Valuer};
 use crate::lattice::Element;
 use crate::model::{Model, State};
-use crate::rounds::{self, Table};
+use crate::rounds::{self, Entry, Table};
 
 /// "a store of 24,576 bytes"; a longer one is accepted, and bytes past these are neither read nor written.
 pub const STORE_LENGTH: usize = 24_576;
@@ -32,7 +32,7 @@ pub struct Standing {
     pub second_whole: bool,
 }
 
-/// The answer of a call.
+/// The answer of a call, or of [`entry`].
 #[derive(Clone, Debug, PartialEq, Eq)]
 pub enum Reply {
     /// The call was refused.
@@ -65,6 +65,13 @@ pub enum Reply {
     PerCent(u8),
     /// Whether judge's table is a simulation.
     Says(bool),
+    /// An entry of the next round.
+    WorkedEntry {
+        /// The element.
+        element: u8,
+        /// How many pairs were looked at.
+        pairs: u32,
+    },
 }
 
 /// The reply to a call that may have been refused.
@@ -227,6 +234,31 @@ pub fn judge(
     reply(check(standing, store, first, second).and_then(|desk| {
         let table = rounds::table(&desk.content, table).ok_or(OUT_OF_RANGE)?;
         Ok(Reply::Says(rounds::is_simulation(&desk.content, &table)))
+    }))
+}
+
+/// Request 103: "working one entry of F ... also returns how many pairs (q1', q2') it looked at". Of the shown table, so that the element
+/// is what the next round has there. It is none of the eight calls.
+pub fn entry(
+    standing: &Standing,
+    store: &[u8],
+    first: &[u8],
+    second: &[u8],
+    q1: u8,
+    q2: u8,
+) -> Reply {
+    reply(check(standing, store, first, second).and_then(|desk| {
+        let content = &desk.content;
+        let entry = Entry {
+            content,
+            table: &desk.shown,
+            q1: content.model1.state(q1).ok_or(OUT_OF_RANGE)?,
+            q2: content.model2.state(q2).ok_or(OUT_OF_RANGE)?,
+        };
+        Ok(Reply::WorkedEntry {
+            element: entry.element().byte(),
+            pairs: entry.pairs(),
+        })
     }))
 }
 

@@ -2,7 +2,7 @@
 
 use crate::case::Content;
 use crate::lattice::Element;
-use crate::model::State;
+use crate::model::{Model, State};
 
 /// A table: a row for each state of model 1, with an entry for each state of model 2.
 pub type Table = Vec<Vec<Element>>;
@@ -26,32 +26,90 @@ pub fn entries(content: &Content) -> usize {
 
 /// One entry of F(S): "the meet of p1 ↔ p2 over all propositions and, over all q1', of R1(q1, q1') → the join over q2' of R2(q2, q2')
 /// met with S(q1', q2')."
-fn entry(content: &Content, table: &Table, q1: State, q2: State) -> Element {
-    let Content {
-        lattice,
-        model1,
-        model2,
-        ..
-    } = content;
-    let alike = model1
-        .propositions()
-        .map(|p| lattice.matches(model1.label(q1, p), model2.label(q2, p)));
-    let followed = model1.states().map(|to1| {
-        let answers = model2
-            .states()
-            .map(|to2| lattice.meet(model2.transition(q2, to2), table[to1.place()][to2.place()]));
-        lattice.implies(model1.transition(q1, to1), lattice.join_over(answers))
-    });
-    lattice.meet(lattice.meet_over(alike), lattice.meet_over(followed))
+pub struct Entry<'a> {
+    /// The lattice and the models.
+    pub content: &'a Content,
+    /// S.
+    pub table: &'a Table,
+    /// The state of model 1.
+    pub q1: State,
+    /// The state of model 2.
+    pub q2: State,
+}
+
+impl Entry<'_> {
+    /// The entry.
+    pub fn element(&self) -> Element {
+        self.meet_over(self.content.model1.states())
+    }
+
+    /// Request 103: how many pairs (q1', q2') are looked at, "exactly those for which the meet over the propositions and all smaller
+    /// q1' isn't bottom and, for that q1', the join over smaller q2' isn't top."
+    pub fn pairs(&self) -> u32 {
+        let Content {
+            lattice,
+            model1,
+            model2,
+            ..
+        } = self.content;
+        let mut pairs = 0;
+        for to1 in model1.states() {
+            let meet = self.meet_over(smaller(model1, to1));
+            for to2 in model2.states() {
+                let join = self.join_over(to1, smaller(model2, to2));
+                pairs += u32::from(meet != lattice.bottom() && join != lattice.top());
+            }
+        }
+        pairs
+    }
+
+    /// The meet over the propositions and these q1'.
+    fn meet_over(&self, states: impl Iterator<Item = State>) -> Element {
+        let Content {
+            lattice,
+            model1,
+            model2,
+            ..
+        } = self.content;
+        let alike = model1
+            .propositions()
+            .map(|p| lattice.matches(model1.label(self.q1, p), model2.label(self.q2, p)));
+        let followed = states.map(|to1| {
+            let join = self.join_over(to1, model2.states());
+            lattice.implies(model1.transition(self.q1, to1), join)
+        });
+        lattice.meet(lattice.meet_over(alike), lattice.meet_over(followed))
+    }
+
+    /// For a q1', the join over these q2'.
+    fn join_over(&self, to1: State, states: impl Iterator<Item = State>) -> Element {
+        let Content {
+            lattice, model2, ..
+        } = self.content;
+        lattice.join_over(states.map(|to2| {
+            let entry = self.table[to1.place()][to2.place()];
+            lattice.meet(model2.transition(self.q2, to2), entry)
+        }))
+    }
+}
+
+/// The states of a model that are smaller than one of them.
+fn smaller(model: &Model, than: State) -> impl Iterator<Item = State> {
+    model
+        .states()
+        .filter(move |state| state.place() < than.place())
 }
 
 /// Row q1 of F(S), "for all q2".
 pub fn row(content: &Content, table: &Table, q1: State) -> Vec<Element> {
-    content
-        .model2
-        .states()
-        .map(|q2| entry(content, table, q1, q2))
-        .collect()
+    let entry = |q2| Entry {
+        content,
+        table,
+        q1,
+        q2,
+    };
+    let states = content.model2.states();
+    states.map(|q2| entry(q2).element()).collect()
 }
 
 /// "A table S is a simulation when S = F(S)."

@@ -38,7 +38,7 @@ fn alter(desk: &mut Desk, length: usize, numbers: &mut Numbers) {
     }
 }
 
-/// The six calls that alter nothing, with any arguments.
+/// The six calls that alter nothing and the work on an entry, with any arguments.
 fn ask(desk: &Desk, numbers: &mut Numbers) {
     let (a, b, c) = (odd(numbers), odd(numbers) % 4, odd(numbers));
     let formula = a % 4;
@@ -55,6 +55,8 @@ fn ask(desk: &Desk, numbers: &mut Numbers) {
         desk.score(),
         desk.share(c),
         desk.judge(&table),
+        desk.entry(b, c % 4),
+        desk.entry(a, c),
     ] {
         assert_eq!(answer == broken, !shown);
     }

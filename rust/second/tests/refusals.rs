@@ -206,7 +206,7 @@ fn number_10_formulas() {
     }
 }
 
-/// All calls other than open are refused with a number, show with an empty part, and nothing is altered.
+/// All calls other than open, and the work on an entry, are refused with a number, show with an empty part, and nothing is altered.
 fn assert_all_refused(desk: &Desk, number: u8) {
     let mut after = desk.clone();
     assert_eq!(after.step(), refused(number));
@@ -217,6 +217,8 @@ fn assert_all_refused(desk: &Desk, number: u8) {
     assert_eq!(desk.score(), refused(number));
     assert_eq!(desk.share(0), refused(number));
     assert_eq!(desk.judge(&[0]), refused(number));
+    assert_eq!(desk.entry(0, 0), refused(number));
+    assert_eq!(desk.entry(255, 255), refused(number));
 }
 
 #[test]
@@ -348,6 +350,10 @@ fn number_13_arguments_out_of_range() {
     assert_eq!(desk.judge(&[2, 2]), Reply::Says(false));
     for table in [&[][..], &[1], &[1, 2, 2], &[1, 3], &[255, 2]] {
         assert_eq!(desk.judge(table), refused(13));
+    }
+    assert!(matches!(desk.entry(1, 0), Reply::WorkedEntry { .. }));
+    for (q1, q2) in [(2, 0), (0, 1), (2, 1), (255, 0), (0, 255)] {
+        assert_eq!(desk.entry(q1, q2), refused(13));
     }
     let none = Desk::opened(&[L3, two, STILL]);
     assert_eq!(

@@ -147,6 +147,11 @@ impl Desk {
         let (store, first, second) = (&self.store, &self.first, &self.second);
         second::judge(&self.standing, store, first, second, table)
     }
+
+    pub fn entry(&self, q1: u8, q2: u8) -> Reply {
+        let (store, first, second) = (&self.store, &self.first, &self.second);
+        second::entry(&self.standing, store, first, second, q1, q2)
+    }
 }
 
 /// Numbers that look random, always the same for the same start.
