@@ -9,9 +9,9 @@ use second::Reply;
 /// The most entries of a table for which the table of the settled desk is looked for.
 const ENTRIES_TO_SETTLE: usize = 150;
 
-/// One of the six calls that alter nothing.
+/// One of the six calls that alter nothing, or the work on an entry.
 pub fn question(random: &mut Random, shape: &Shape, desk: &Desk) -> Call {
-    match random.weighted(&[2, 4, 3, 2, 3, 4]) {
+    match random.weighted(&[2, 4, 3, 2, 3, 4, 4]) {
         0 => Call::Show,
         1 => Call::Value {
             formula: formula(random, shape),
@@ -24,7 +24,11 @@ pub fn question(random: &mut Random, shape: &Shape, desk: &Desk) -> Call {
         },
         3 => Call::Score,
         4 => Call::Share(element(random, shape)),
-        _ => Call::Judge(table(random, shape, desk)),
+        5 => Call::Judge(table(random, shape, desk)),
+        _ => Call::Entry {
+            q1: state_below(random, shape, shape.states[0]),
+            q2: state_below(random, shape, shape.states[1]),
+        },
     }
 }
 
@@ -48,6 +52,14 @@ fn state(random: &mut Random, shape: &Shape) -> u8 {
     match random.below(8) {
         0 => random.pick(&[first, second, 64, 255]) as u8,
         _ => random.below(first.max(second)) as u8,
+    }
+}
+
+/// A state of a model of so many, now and then one of the other model alone, or of none.
+fn state_below(random: &mut Random, shape: &Shape, states: usize) -> u8 {
+    match random.below(12) {
+        0 => state(random, shape),
+        _ => random.below(states) as u8,
     }
 }
 

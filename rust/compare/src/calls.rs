@@ -5,7 +5,7 @@ use crate::desks::Desk;
 use koelchair::{Element, State};
 use second::Reply;
 
-/// The eight calls, and `FinishRound`, which is as many steps as the round has rows left.
+/// The eight calls, `FinishRound`, which is as many steps as the round has rows left, and `Entry`, the work on one entry.
 #[derive(Clone, Debug)]
 pub enum Call {
     Open(Vec<u8>),
@@ -17,6 +17,7 @@ pub enum Call {
     Score,
     Share(u8),
     Judge(Vec<u8>),
+    Entry { q1: u8, q2: u8 },
 }
 
 /// The answer of the proved library, in the words of the second implementation.
@@ -42,6 +43,9 @@ pub fn proved(desk: &mut Desk, call: &Call) -> Reply {
         Call::Score => conversions::element(desk.lent().score()),
         &Call::Share(e) => conversions::per_cent(desk.lent().share(Element(e))),
         Call::Judge(table) => conversions::says(desk.lent().judge(table)),
+        &Call::Entry { q1, q2 } => {
+            conversions::worked_entry(desk.lent().entry(State(q1), State(q2)))
+        }
     }
 }
 
@@ -75,6 +79,7 @@ pub fn by_second(desk: &mut Desk, call: &Call) -> Reply {
         Call::Score => second::score(&standing, store, first, second),
         &Call::Share(e) => second::share(&standing, store, first, second, e),
         Call::Judge(table) => second::judge(&standing, store, first, second, table),
+        &Call::Entry { q1, q2 } => second::entry(&standing, store, first, second, q1, q2),
     };
     desk.standing = conversions::to_proved(standing);
     reply

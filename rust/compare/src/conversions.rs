@@ -1,6 +1,6 @@
 //! What the proved library takes and gives, in the types of the second implementation: standings both ways, and answers.
 
-use koelchair::{Element, FormulaFacts, FormulaValue, Refusal, StepAnswer};
+use koelchair::{Element, FormulaFacts, FormulaValue, Refusal, StepAnswer, WorkedEntry};
 use second::{Facts, Reply};
 
 /// The standing for the second implementation.
@@ -105,4 +105,11 @@ pub fn per_cent(answer: Result<u8, Refusal>) -> Reply {
 
 pub fn says(answer: Result<bool, Refusal>) -> Reply {
     reply(answer, Reply::Says)
+}
+
+pub fn worked_entry(answer: Result<WorkedEntry, Refusal>) -> Reply {
+    reply(answer, |WorkedEntry { value, pairs }| Reply::WorkedEntry {
+        element: value.0,
+        pairs,
+    })
 }

@@ -20,7 +20,7 @@ const REFUSALS: [&str; 13] = [
     "refusal 12",
     "refusal 13",
 ];
-const ANSWERS: [&str; 11] = [
+const ANSWERS: [&str; 13] = [
     "Opened",
     "Row",
     "Round",
@@ -32,6 +32,8 @@ const ANSWERS: [&str; 11] = [
     "PerCent",
     "Says yes",
     "Says no",
+    "WorkedEntry",
+    "WorkedEntry of no pairs",
 ];
 const NO_AX: &str = "value or whole of a formula without AX";
 const ONE_AX: &str = "value or whole of a formula with AX, none nested";
@@ -86,6 +88,8 @@ fn name(reply: &Reply) -> &'static str {
         Reply::PerCent(_) => "PerCent",
         Reply::Says(true) => "Says yes",
         Reply::Says(false) => "Says no",
+        Reply::WorkedEntry { pairs: 0, .. } => "WorkedEntry of no pairs",
+        Reply::WorkedEntry { .. } => "WorkedEntry",
     }
 }
 
