@@ -1,43 +1,57 @@
-//! Each call and the whole report, measured on one case by both implementations.
+//! Each call and the whole report, measured on one case by the proved library and by another.
 
 use crate::cases::Setting;
-use crate::desks::{self, Proved, Second};
+use crate::libraries::{assert_same, put_back, Given, Library, Proved};
 use crate::measure::{in_turn, Side, Times};
-use compare::conversions;
-use koelchair::{Element, State};
+use compare::calls::Call;
+use compare::desks::{self, Desk};
 use second::Reply;
 
-/// A case, and both desks in the middle of its second round: next row N1/2.
-pub struct Calls {
+/// A case, and a desk of it for each of the two libraries.
+pub struct Calls<'a> {
     setting: Setting,
     case: Vec<u8>,
-    proved: Proved,
-    second: Second,
+    other: &'a dyn Library,
+    proved_desk: Desk,
+    other_desk: Desk,
     settled: Vec<u8>,
     rounds: u32,
 }
 
-impl Calls {
-    /// Opens the case on both desks and steps them alike. The proved desk is also settled once, for T and for the table that is judged.
-    pub fn new(setting: Setting) -> Calls {
+impl<'a> Calls<'a> {
+    /// Both desks as opened. The case is also settled once, for T and for the table that is judged.
+    pub fn new(setting: Setting, other: &'a dyn Library) -> Calls<'a> {
         let case = setting.case();
-        let (mut proved, mut second) = (Proved::new(), Second::new());
-        assert_eq!(conversions::opened(proved.open(&case)), second.open(&case));
-        for _ in 0..setting.states1 + setting.states1 / 2 {
-            assert_eq!(conversions::stepped(proved.step()), second.step());
-        }
-        desks::assert_same(&proved, &second);
         let mut settling = koelchair::Desk::open(&case).expect("an accepted case");
         let rounds = settling.settle();
-        assert!(rounds > 2, "a case of too few rounds: another seed");
+        let opened = |library: &dyn Library| {
+            let mut desk = desks::zeroed();
+            let opened = library.call(&mut desk, &Call::Open(case.clone()));
+            assert_eq!(opened.reply(&desk), Reply::Opened);
+            desk
+        };
         Calls {
             setting,
-            case,
-            proved,
-            second,
+            other,
+            proved_desk: opened(&Proved),
+            other_desk: opened(other),
             settled: settling.show().to_vec(),
             rounds,
+            case,
         }
+    }
+
+    /// Both desks so many rounds and rows after the opening; the proved library works them.
+    pub fn at(mut self, round: u32, row: u8) -> Calls<'a> {
+        assert!(round < self.rounds, "a case of too few rounds");
+        let rounds = (0..round).map(|_| Call::FinishRound);
+        for call in rounds.chain((0..row).map(|_| Call::Step)) {
+            Proved.call(&mut self.proved_desk, &call);
+        }
+        let standing = self.proved_desk.standing;
+        assert_eq!((standing.round, standing.row), (round, row));
+        put_back(&mut self.other_desk, &self.proved_desk);
+        self
     }
 
     /// T.
@@ -45,147 +59,81 @@ impl Calls {
         self.rounds
     }
 
-    pub fn open(&self, repeat: usize) -> Times {
-        let proved = Side {
-            desk: self.proved.clone(),
-            restore: |_: &mut Proved| {},
-            call: |desk: &mut Proved| desk.open(&self.case),
-        };
-        let second = Side {
-            desk: self.second.clone(),
-            restore: |_: &mut Second| {},
-            call: |desk: &mut Second| desk.open(&self.case),
-        };
-        in_turn(repeat, proved, second, |ours, answer, theirs, reply| {
-            assert_eq!(conversions::opened(answer), reply);
-            desks::assert_same(ours, theirs);
-        })
-    }
-
-    /// Every sample begins with the standing and tables of the case's desk. Within a sample the standing is put back before each
-    /// call, which so works the same row from the same whole table again.
-    pub fn step(&self, repeat: usize) -> Times {
-        let proved = Side {
-            desk: self.proved.clone(),
-            restore: |desk: &mut Proved| desk.put_back(&self.proved),
-            call: |desk: &mut Proved| {
-                desk.standing = self.proved.standing;
-                desk.step()
-            },
-        };
-        let second = Side {
-            desk: self.second.clone(),
-            restore: |desk: &mut Second| desk.put_back(&self.second),
-            call: |desk: &mut Second| {
-                desk.standing = self.second.standing;
-                desk.step()
-            },
-        };
-        in_turn(repeat, proved, second, |ours, answer, theirs, reply| {
-            assert_eq!(conversions::stepped(answer), reply);
-            desks::assert_same(ours, theirs);
-        })
-    }
-
-    /// A call that only reads the desk; `read` puts the proved one's answer into the form of the other's, untimed.
-    fn asked<'a, A>(
-        &'a self,
-        repeat: usize,
-        proved: impl Fn(&'a Proved) -> A,
-        read: impl Fn(A) -> Reply,
-        second: impl Fn(&'a Second) -> Reply,
-    ) -> Times {
-        let proved = Side {
-            desk: &self.proved,
-            restore: |_: &mut &Proved| {},
-            call: |desk: &mut &'a Proved| proved(desk),
-        };
-        let second = Side {
-            desk: &self.second,
-            restore: |_: &mut &Second| {},
-            call: |desk: &mut &'a Second| second(desk),
-        };
-        in_turn(repeat, proved, second, |_, answer, _, reply| {
-            assert_eq!(read(answer), reply);
-        })
-    }
-
-    pub fn show(&self, repeat: usize) -> Times {
-        self.asked(
-            repeat,
-            |d| d.lent().show(),
-            conversions::shown,
-            |d| second::show(&d.standing, &d.store, &d.first, &d.second),
-        )
+    pub fn open(&self) -> Call {
+        Call::Open(self.case.clone())
     }
 
     /// A formula at the last state of model 2.
-    pub fn value(&self, repeat: usize, formula: u8) -> Times {
+    pub fn value(&self, formula: u8) -> Call {
         let state = self.setting.states2 - 1;
-        let proved = |d: &Proved| d.lent().value(formula, 2, State(state));
-        let second = |d: &Second| {
-            let (store, first, second) = (&d.store, &d.first, &d.second);
-            second::value(&d.standing, store, first, second, formula, 2, state)
-        };
-        self.asked(repeat, proved, conversions::formula_value, second)
+        Call::Value {
+            formula,
+            model: 2,
+            state,
+        }
     }
 
     /// A formula on model 2.
-    pub fn whole(&self, repeat: usize, formula: u8) -> Times {
-        self.asked(
-            repeat,
-            |d| d.lent().whole(formula, 2),
-            conversions::formula_value,
-            |d| second::whole(&d.standing, &d.store, &d.first, &d.second, formula, 2),
-        )
-    }
-
-    pub fn score(&self, repeat: usize) -> Times {
-        self.asked(
-            repeat,
-            |d| d.lent().score(),
-            conversions::element,
-            |d| second::score(&d.standing, &d.store, &d.first, &d.second),
-        )
+    pub fn whole(&self, formula: u8) -> Call {
+        Call::Whole { formula, model: 2 }
     }
 
     /// The entries at or above the element in the middle of the numbers.
-    pub fn share(&self, repeat: usize) -> Times {
-        let element = self.setting.lattice.size() / 2;
-        let proved = |d: &Proved| d.lent().share(Element(element));
-        let second = |d: &Second| {
-            let (store, first, second) = (&d.store, &d.first, &d.second);
-            second::share(&d.standing, store, first, second, element)
-        };
-        self.asked(repeat, proved, conversions::per_cent, second)
+    pub fn share(&self) -> Call {
+        Call::Share(self.setting.lattice.size() / 2)
     }
 
     /// The settled table, which is a simulation, so that every row is looked at.
-    pub fn judge(&self, repeat: usize) -> Times {
-        let table = &self.settled;
-        self.asked(
-            repeat,
-            |d| d.lent().judge(table),
-            conversions::says,
-            |d| second::judge(&d.standing, &d.store, &d.first, &d.second, table),
-        )
+    pub fn judge(&self) -> Call {
+        Call::Judge(self.settled.clone())
     }
 
-    /// From the bytes of the case to the listing.
+    /// Measures a call. Every sample begins with the standing and tables of the case's desk. Within a sample the standing is put back
+    /// before each call, so that a step works the same row from the same whole table again.
+    pub fn measure(&self, repeat: usize, call: &Call) -> Times {
+        let proved = side(&Proved, &self.proved_desk, call);
+        let other = side(self.other, &self.other_desk, call);
+        in_turn(repeat, proved, other, |ours, given, theirs, also| {
+            assert_eq!(given.reply(ours), also.reply(theirs));
+            assert_same(ours, theirs);
+        })
+    }
+
+    /// Measures the way from the bytes of the case to the listing.
     pub fn report(&self, repeat: usize) -> Times {
-        let proved = Side {
-            desk: (),
-            restore: |_: &mut ()| {},
-            call: |_: &mut ()| koelchair::listing(&self.case),
-        };
-        let second = Side {
-            desk: (),
-            restore: |_: &mut ()| {},
-            call: |_: &mut ()| second::report(&self.case),
-        };
-        in_turn(repeat, proved, second, |_, ours, _, theirs| {
+        let proved = report_side(&Proved, &self.case);
+        let other = report_side(self.other, &self.case);
+        in_turn(repeat, proved, other, |_, ours, _, theirs| {
             assert!(ours == theirs, "the listings differ");
         })
+    }
+}
+
+/// A call of a library on a desk that begins as this one.
+fn side<'a>(
+    library: &'a dyn Library,
+    start: &'a Desk,
+    call: &'a Call,
+) -> Side<Desk, impl Fn(&mut Desk) + 'a, impl Fn(&mut Desk) -> Given + 'a> {
+    Side {
+        desk: start.clone(),
+        restore: |desk: &mut Desk| put_back(desk, start),
+        call: |desk: &mut Desk| {
+            desk.standing = start.standing;
+            library.call(desk, call)
+        },
+    }
+}
+
+/// A library's listing of a case.
+fn report_side<'a>(
+    library: &'a dyn Library,
+    case: &'a [u8],
+) -> Side<(), impl Fn(&mut ()) + 'a, impl Fn(&mut ()) -> String + 'a> {
+    Side {
+        desk: (),
+        restore: |_: &mut ()| {},
+        call: |_: &mut ()| library.listing(case),
     }
 }
 
@@ -193,43 +141,97 @@ impl Calls {
 mod tests {
     use super::*;
     use crate::cases::{Lattice, FIXPOINTS, NESTED};
+    use crate::former::Former;
+    use crate::libraries::Second;
+    use std::path::{Path, PathBuf};
+    use std::process::Command;
 
-    fn calls() -> Calls {
-        Calls::new(Setting {
+    fn calls(other: &dyn Library) -> Calls<'_> {
+        let setting = Setting {
             lattice: Lattice::Chain(5),
             states1: 4,
             states2: 3,
             seed: 1,
-        })
+        };
+        Calls::new(setting, other).at(1, 2)
     }
 
     /// A call that is answered differently stops the test, as it stops the benchmark.
-    #[test]
-    fn both_answer_alike() {
-        let calls = calls();
-        let times = [
-            calls.open(1),
-            calls.step(1),
-            calls.show(1),
-            calls.value(1, NESTED),
-            calls.whole(1, FIXPOINTS),
-            calls.score(1),
-            calls.share(1),
-            calls.judge(1),
-        ];
-        assert!(times.iter().all(|t| t.proved > 0.0 && t.second > 0.0));
+    fn assert_alike(other: &dyn Library) {
+        let calls = calls(other);
+        for call in [
+            calls.open(),
+            Call::Step,
+            Call::FinishRound,
+            Call::Show,
+            calls.value(NESTED),
+            calls.whole(FIXPOINTS),
+            Call::Score,
+            calls.share(),
+            calls.judge(),
+        ] {
+            let times = calls.measure(1, &call);
+            assert!(times.proved > 0.0 && times.other > 0.0, "{call:?}");
+        }
+        assert!(calls.report(1).proved > 0.0);
     }
 
     #[test]
-    fn both_report_alike() {
-        assert!(calls().report(1).proved > 0.0);
+    fn second_answers_alike() {
+        assert_alike(&Second);
+    }
+
+    /// A folder of this test's own, removed at its end.
+    struct Folder(PathBuf);
+
+    impl Folder {
+        fn new(name: &str) -> Folder {
+            let folder = std::env::temp_dir().join(format!("{name}-{}", std::process::id()));
+            std::fs::create_dir_all(&folder).expect("a folder");
+            Folder(folder)
+        }
+
+        fn file(&self, name: &str) -> String {
+            self.0.join(name).display().to_string()
+        }
+    }
+
+    impl Drop for Folder {
+        fn drop(&mut self) {
+            let _ = std::fs::remove_dir_all(&self.0);
+        }
+    }
+
+    /// The archive that is linked, made into a shared library, answers as it does linked.
+    #[test]
+    fn a_shared_library_answers_alike() {
+        let folder = Folder::new("koelchair-bench-shared");
+        let shared = folder.file("former.so");
+        let own = Path::new(env!("CARGO_MANIFEST_DIR")).join("../../target/staticlib");
+        let archive = std::env::var_os("KOELCHAIR_ARCHIVE").map_or(own, PathBuf::from);
+        let made = Command::new("cc")
+            .args(["-shared", "-o", &shared, "-Wl,--whole-archive"])
+            .arg(archive.join("libexports.a"))
+            .arg("-Wl,--no-whole-archive")
+            .status();
+        assert!(made.expect("cc").success());
+        assert_alike(&Former::load(&shared).expect("a shared library"));
+    }
+
+    #[test]
+    fn what_is_no_shared_library() {
+        let folder = Folder::new("koelchair-bench-none");
+        let file = folder.file("text");
+        assert!(Former::load(&file).is_err_and(|error| error.starts_with(&file)));
+        std::fs::write(&file, "no library").expect("a file");
+        assert!(Former::load(&file).is_err_and(|error| error.contains(&file)));
     }
 
     #[test]
     #[should_panic(expected = "the first tables differ")]
     fn another_table_is_seen() {
-        let mut calls = calls();
-        calls.second.first[0] ^= 1;
-        calls.step(1);
+        let mut calls = calls(&Second);
+        calls.other_desk.first[0] ^= 1;
+        calls.measure(1, &Call::Step);
     }
 }

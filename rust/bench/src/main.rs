@@ -1,32 +1,55 @@
-//! Times of the proved desk and of the second implementation, side by side in one run, printed as Markdown tables.
+//! Times of the proved desk and of another, side by side in one run, printed as Markdown tables.
 //!
-//! `bench [--repeat N] [--only WORD]`: N samples of each side for every row (default 15), and only the rows in whose name, as
-//! `panel, 27; 16; step`, the word stands.
+//! `bench [--repeat N] [--only WORD] [--former FILE]`: N samples of each side for every row (default 15), and only the rows in whose name,
+//! as `panel, 27; 16; step` or `growth; (16, 16, 4)`, the word stands.
+//!
+//! The other is the second implementation, or the proved library as it was before a change, which FILE holds as a shared library. That is
+//! made from an archive of `rt staticlib exports` by
+//!
+//! ```text
+//! gcc -shared -o former.so -Wl,--whole-archive libexports.a -Wl,--no-whole-archive
+//! ```
+//!
+//! Made from the archive that is linked here, it says in another run how far the ratios move by chance and by the place of the code.
 
 mod calls;
 mod cases;
-mod desks;
+mod former;
+mod libraries;
 mod measure;
 mod random;
 mod tables;
 
+use former::Former;
+use libraries::{Library, Second};
 use std::process::exit;
 
+const USAGE: &str = "usage: bench [--repeat N] [--only WORD] [--former FILE]
+FILE is a shared library, made from the archive of another commit:
+  gcc -shared -o FILE -Wl,--whole-archive libexports.a -Wl,--no-whole-archive";
+
 fn main() {
-    let options = match Options::read(std::env::args().skip(1)) {
-        Ok(options) => options,
-        Err(message) => {
-            eprintln!("bench: {message}\nusage: bench [--repeat N] [--only WORD]");
-            exit(2);
-        }
+    if let Err(message) = run() {
+        eprintln!("bench: {message}\n{USAGE}");
+        exit(2);
+    }
+}
+
+fn run() -> Result<(), String> {
+    let options = Options::read(std::env::args().skip(1))?;
+    let other: Box<dyn Library> = match &options.former {
+        Some(file) => Box::new(Former::load(file)?),
+        None => Box::new(Second),
     };
-    tables::print(&options);
+    tables::print(&options, &*other);
+    Ok(())
 }
 
 /// What is asked for on the command line.
 struct Options {
     repeat: usize,
     only: String,
+    former: Option<String>,
 }
 
 impl Options {
@@ -34,6 +57,7 @@ impl Options {
         let mut options = Options {
             repeat: 15,
             only: String::new(),
+            former: None,
         };
         while let Some(word) = words.next() {
             let value = words.next().ok_or(format!("nothing after {word}"))?;
@@ -43,6 +67,7 @@ impl Options {
                     _ => return Err(format!("{value} is no number of samples")),
                 },
                 "--only" => options.only = value,
+                "--former" => options.former = Some(value),
                 _ => return Err(format!("{word} is no option")),
             }
         }

@@ -46,16 +46,16 @@ impl<D, A, R: Fn(&mut D), C: Fn(&mut D) -> A> Side<D, R, C> {
 #[derive(Clone, Copy)]
 pub struct Times {
     pub proved: f64,
-    pub second: f64,
+    pub other: f64,
     pub samples: usize,
     lower: f64,
     upper: f64,
 }
 
 impl Times {
-    /// The second implementation's time as a multiple of the proved one's: above 1 the proved one is the faster.
+    /// The other side's time as a multiple of the proved one's: above 1 the proved one is the faster.
     pub fn ratio(&self) -> f64 {
-        self.second / self.proved
+        self.other / self.proved
     }
 
     /// A quarter of the ratios is below the first of these, and a quarter above the second.
@@ -68,7 +68,7 @@ impl Times {
 pub fn in_turn<D, A, R, C, E, B, S, F>(
     repeat: usize,
     mut proved: Side<D, R, C>,
-    mut second: Side<E, S, F>,
+    mut other: Side<E, S, F>,
     same: impl Fn(&D, A, &E, B),
 ) -> Times
 where
@@ -77,25 +77,25 @@ where
     S: Fn(&mut E),
     F: Fn(&mut E) -> B,
 {
-    let (proved_calls, second_calls) = (proved.calls(), second.calls());
-    let (mut proved_times, mut second_times) = (Vec::new(), Vec::new());
+    let (proved_calls, other_calls) = (proved.calls(), other.calls());
+    let (mut proved_times, mut other_times) = (Vec::new(), Vec::new());
     let (start, row) = (Instant::now(), ROW * repeat as u32);
     while proved_times.len() < repeat && (proved_times.len() < FEWEST || start.elapsed() < row) {
         let (proved_time, proved_answer) = proved.sample(proved_calls);
-        let (second_time, second_answer) = second.sample(second_calls);
-        same(&proved.desk, proved_answer, &second.desk, second_answer);
+        let (other_time, other_answer) = other.sample(other_calls);
+        same(&proved.desk, proved_answer, &other.desk, other_answer);
         proved_times.push(proved_time);
-        second_times.push(second_time);
+        other_times.push(other_time);
     }
-    summary(proved_times, second_times)
+    summary(proved_times, other_times)
 }
 
-fn summary(mut proved: Vec<f64>, mut second: Vec<f64>) -> Times {
-    let pairs = proved.iter().zip(&second);
-    let mut ratios: Vec<f64> = pairs.map(|(proved, second)| second / proved).collect();
+fn summary(mut proved: Vec<f64>, mut other: Vec<f64>) -> Times {
+    let pairs = proved.iter().zip(&other);
+    let mut ratios: Vec<f64> = pairs.map(|(proved, other)| other / proved).collect();
     Times {
         proved: quantile(&mut proved, 0.5),
-        second: quantile(&mut second, 0.5),
+        other: quantile(&mut other, 0.5),
         samples: ratios.len(),
         lower: quantile(&mut ratios, 0.25),
         upper: quantile(&mut ratios, 0.75),
@@ -117,7 +117,7 @@ mod tests {
     #[test]
     fn medians_and_ratios() {
         let times = summary(vec![1.0, 2.0, 4.0], vec![2.0, 6.0, 4.0]);
-        assert_eq!((times.proved, times.second, times.samples), (2.0, 4.0, 3));
+        assert_eq!((times.proved, times.other, times.samples), (2.0, 4.0, 3));
         assert_eq!(times.ratio(), 2.0);
         assert_eq!(times.middle_half(), (1.5, 2.5));
     }

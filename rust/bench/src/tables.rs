@@ -2,8 +2,10 @@
 
 use crate::calls::Calls;
 use crate::cases::{Lattice, Setting, FIXPOINTS, NESTED};
+use crate::libraries::Library;
 use crate::measure::Times;
 use crate::Options;
+use compare::calls::Call;
 
 /// The seed of all values.
 const SEED: u64 = 1;
@@ -19,36 +21,38 @@ const SIZES: [(Lattice, u8); 7] = [
     (Lattice::PowerSet(6), 64),
 ];
 
-/// A call's name, and how it is measured.
-type Measured = (&'static str, fn(&Calls, usize) -> Times);
+/// A call's name, and the call on a case; none for the report.
+type Named = (&'static str, fn(&Calls) -> Option<Call>);
 
 /// The calls in the order of the table.
-const CALLS: [Measured; 10] = [
-    ("open", Calls::open),
-    ("step", Calls::step),
-    ("show", Calls::show),
-    ("value, AX EX AX", |c, repeat| c.value(repeat, NESTED)),
-    ("value, three fixpoints", |c, n| c.value(n, FIXPOINTS)),
-    ("whole, three fixpoints", |c, n| c.whole(n, FIXPOINTS)),
-    ("score", Calls::score),
-    ("share", Calls::share),
-    ("judge", Calls::judge),
-    ("report", Calls::report),
+const CALLS: [Named; 10] = [
+    ("open", |calls| Some(calls.open())),
+    ("step", |_| Some(Call::Step)),
+    ("show", |_| Some(Call::Show)),
+    ("value, AX EX AX", |calls| Some(calls.value(NESTED))),
+    ("value, three fixpoints", |c| Some(c.value(FIXPOINTS))),
+    ("whole, three fixpoints", |c| Some(c.whole(FIXPOINTS))),
+    ("score", |_| Some(Call::Score)),
+    ("share", |calls| Some(calls.share())),
+    ("judge", |calls| Some(calls.judge())),
+    ("report", |_| None),
 ];
 
-/// Prints all tables, or the rows of them that are asked for.
-pub fn print(options: &Options) {
+/// Prints all tables, or the rows of them that are asked for, with the proved library and another.
+pub fn print(options: &Options, other: &dyn Library) {
+    let name = other.name();
     println!(
-        "Medians of up to {} samples of each side, which take turns: proved, second, proved, second, and so on. A sample repeats its call \
-         for about 0.4 ms or makes it once, and its time is that of one call. *Second / proved* is the second implementation's median as a \
+        "Medians of up to {} samples of each side, which take turns: proved, {lower}, proved, {lower}, and so on. A sample repeats its call \
+         for about 0.4 ms or makes it once, and its time is that of one call. *{name} / proved* is the other side's median as a \
          multiple of the proved one's: above 1 the proved one is the faster, so many times. Half of the ratios of two samples that \
-         follow one another are within the *middle half*. After each two samples the answers, and for open and step the standings \
-         and tables too, were compared, and were equal.\n",
-        options.repeat
+         follow one another are within the *middle half*. After each two samples the answers, the standings and the tables were \
+         compared, and were equal.\n",
+        options.repeat,
+        lower = name.to_lowercase(),
     );
-    let checks = print_calls(options);
-    print_checks(&checks);
-    print_growth(options);
+    let checks = print_calls(options, other);
+    print_checks(&checks, name);
+    print_growth(options, other);
 }
 
 // ---- the calls
@@ -62,43 +66,68 @@ struct Check {
 }
 
 /// Prints the table of calls; gives the rows of the next table.
-fn print_calls(options: &Options) -> Vec<Check> {
+fn print_calls(options: &Options, other: &dyn Library) -> Vec<Check> {
     let sizes = SIZES.map(|(lattice, states)| (lattice, states, wanted(options, lattice, states)));
     if sizes.iter().all(|(_, _, calls)| calls.is_empty()) {
         return Vec::new();
     }
-    println!("| Lattice, elements | States | Call | Proved, µs | Second, µs | Second / proved | Middle half | Samples |");
+    let name = other.name();
+    println!("| Lattice, elements | States | Call | Proved, µs | {name}, µs | {name} / proved | Middle half | Samples |");
     println!("|---|---|---|---|---|---|---|---|");
     let checks = sizes
         .into_iter()
         .filter(|(_, _, calls)| !calls.is_empty())
-        .filter_map(|(lattice, states, calls)| print_size(options.repeat, lattice, states, &calls))
+        .filter_map(|(lattice, states, wanted)| {
+            let setting = square(lattice, states);
+            print_size(options.repeat, setting, other, &wanted)
+        })
         .collect();
     println!();
     checks
 }
 
 /// The calls that are asked for at this size.
-fn wanted(options: &Options, lattice: Lattice, states: u8) -> Vec<Measured> {
+fn wanted(options: &Options, lattice: Lattice, states: u8) -> Vec<Named> {
     CALLS
         .into_iter()
         .filter(|(call, _)| options.wants(&format!("{lattice}; {states}; {call}")))
         .collect()
 }
 
-/// Prints the rows of one size; gives the times of show and step where both are among them.
-fn print_size(repeat: usize, lattice: Lattice, states: u8, wanted: &[Measured]) -> Option<Check> {
-    let calls = Calls::new(Setting {
+/// Models of so many states each.
+fn square(lattice: Lattice, states: u8) -> Setting {
+    Setting {
         lattice,
         states1: states,
         states2: states,
         seed: SEED,
-    });
+    }
+}
+
+/// The calls in the middle of the second round, next row N1/2.
+fn halfway(setting: Setting, other: &dyn Library) -> Calls<'_> {
+    let calls = Calls::new(setting, other);
+    assert!(calls.rounds() > 2, "a case of too few rounds: another seed");
+    calls.at(1, setting.states1 / 2)
+}
+
+/// Prints the rows of one size; gives the times of show and step where both are among them.
+fn print_size(
+    repeat: usize,
+    setting: Setting,
+    other: &dyn Library,
+    wanted: &[Named],
+) -> Option<Check> {
+    let (lattice, states) = (setting.lattice, setting.states1);
+    let calls = halfway(setting, other);
     let (mut show, mut step) = (None, None);
-    for &(call, measure) in wanted {
-        let times = measure(&calls, repeat);
-        print!("| {lattice} | {states} | {call}");
-        match call {
+    for &(name, call) in wanted {
+        let times = match call(&calls) {
+            Some(call) => calls.measure(repeat, &call),
+            None => calls.report(repeat),
+        };
+        print!("| {lattice} | {states} | {name}");
+        match name {
             "report" => print!(", {} rounds", calls.rounds()),
             "show" => show = Some(times),
             "step" => step = Some(times),
@@ -116,16 +145,19 @@ fn print_size(repeat: usize, lattice: Lattice, states: u8, wanted: &[Measured]) 
 
 // ---- the check of the desk
 
-fn print_checks(checks: &[Check]) {
+fn print_checks(checks: &[Check], other: &str) {
     if checks.is_empty() {
         return;
     }
     println!(
         "Every call but open begins with the check of its desk: the store is read as a case and its lattice's codes are worked out anew, then \
-         the standing and both tables are looked at. show does this and nothing else (the second one's show also copies the table), so its time is taken for the check's, and \
-         the rest of a step is the row.\n"
+         the standing and both tables are looked at. show does this and nothing else (that of the second implementation also copies the table), \
+         so its time is taken for the check's, and the rest of a step is the row.\n"
     );
-    println!("| Lattice, elements | States | Check, proved, µs | Step, proved, µs | Check's share of a step, proved | The same, second |");
+    println!(
+        "| Lattice, elements | States | Check, proved, µs | Step, proved, µs | Check's share of a step, proved | The same, {} |",
+        other.to_lowercase()
+    );
     println!("|---|---|---|---|---|---|");
     for check in checks {
         println!(
@@ -135,7 +167,7 @@ fn print_checks(checks: &[Check]) {
             micros(check.show.proved),
             micros(check.step.proved),
             per_cent(check.show.proved, check.step.proved),
-            per_cent(check.show.second, check.step.second)
+            per_cent(check.show.other, check.step.other)
         );
     }
     println!();
@@ -165,7 +197,7 @@ const GROWTH: [(u8, u8, u8); 17] = [
 ];
 
 /// Prints how the check and the row of a step grow with each size, on chains.
-fn print_growth(options: &Options) {
+fn print_growth(options: &Options, other: &dyn Library) {
     let rows = GROWTH.map(|sizes| (sizes, format!("growth; {sizes:?}")));
     if !rows.iter().any(|(_, name)| options.wants(name)) {
         return;
@@ -174,23 +206,29 @@ fn print_growth(options: &Options) {
         "How a step grows, on chains of n elements: first with N1 alone, then with N2, then with n, the others being 16, then with both \
          models. The row is what the step takes beyond the check, the difference of the two medians.\n"
     );
-    println!("| N1 | N2 | n | Step, proved, µs | Step, second, µs | Second / proved | Check, proved, µs | Row, proved, µs |");
+    println!(
+        "| N1 | N2 | n | Step, proved, µs | Step, {}, µs | {} / proved | Check, proved, µs | Row, proved, µs |",
+        other.name().to_lowercase(),
+        other.name()
+    );
     println!("|---|---|---|---|---|---|---|---|");
     for ((states1, states2, size), name) in rows {
         if !options.wants(&name) {
             continue;
         }
-        let calls = Calls::new(Setting {
+        let setting = Setting {
             lattice: Lattice::Chain(size),
             states1,
             states2,
             seed: SEED,
-        });
-        let (step, show) = (calls.step(options.repeat), calls.show(options.repeat));
+        };
+        let calls = halfway(setting, other);
+        let step = calls.measure(options.repeat, &Call::Step);
+        let show = calls.measure(options.repeat, &Call::Show);
         println!(
             "| {states1} | {states2} | {size} | {} | {} | {:.2} | {} | {} |",
             micros(step.proved),
-            micros(step.second),
+            micros(step.other),
             step.ratio(),
             micros(show.proved),
             micros(step.proved - show.proved)
@@ -207,7 +245,7 @@ fn columns(times: &Times) -> String {
     format!(
         "{} | {} | {:.2} | {lower:.2} to {upper:.2} | {}",
         micros(times.proved),
-        micros(times.second),
+        micros(times.other),
         times.ratio(),
         times.samples
     )

@@ -1,0 +1,82 @@
+//! What is measured: the proved library, and the second implementation beside it. `former` has the third.
+
+use compare::calls::{self, Call};
+use compare::desks::Desk;
+use second::Reply;
+
+/// An implementation of the calls.
+pub trait Library {
+    /// Its name in the tables.
+    fn name(&self) -> &'static str;
+
+    /// Makes a call of a desk.
+    fn call(&self, desk: &mut Desk, call: &Call) -> Given;
+
+    /// What the program `report` prints for a case.
+    fn listing(&self, case: &[u8]) -> String;
+}
+
+/// What a call gives. Of the table that is shown it is the length alone, so that no time goes on a copy.
+pub enum Given {
+    Reply(Reply),
+    Shown(usize),
+}
+
+impl Given {
+    /// The reply, from the desk that gave it.
+    pub fn reply(self, desk: &Desk) -> Reply {
+        match self {
+            Given::Reply(reply) => reply,
+            Given::Shown(length) => Reply::Shown(desk.whole()[..length].to_vec()),
+        }
+    }
+}
+
+pub struct Proved;
+
+impl Library for Proved {
+    fn name(&self) -> &'static str {
+        "Proved"
+    }
+
+    fn call(&self, desk: &mut Desk, call: &Call) -> Given {
+        match call {
+            Call::Show => Given::Shown(desk.lent().show().len()),
+            _ => Given::Reply(calls::proved(desk, call)),
+        }
+    }
+
+    fn listing(&self, case: &[u8]) -> String {
+        koelchair::listing(case)
+    }
+}
+
+pub struct Second;
+
+impl Library for Second {
+    fn name(&self) -> &'static str {
+        "Second"
+    }
+
+    fn call(&self, desk: &mut Desk, call: &Call) -> Given {
+        Given::Reply(calls::by_second(desk, call))
+    }
+
+    fn listing(&self, case: &[u8]) -> String {
+        second::report(case)
+    }
+}
+
+/// Puts the standing and the tables back; no call that is measured with this alters the store.
+pub fn put_back(desk: &mut Desk, start: &Desk) {
+    desk.standing = start.standing;
+    desk.first.copy_from_slice(&start.first);
+    desk.second.copy_from_slice(&start.second);
+}
+
+/// Stops unless both desks have the same standing and the same tables. The layout of a store is each implementation's own.
+pub fn assert_same(proved: &Desk, other: &Desk) {
+    assert_eq!(proved.standing, other.standing, "the standings differ");
+    assert!(proved.first == other.first, "the first tables differ");
+    assert!(proved.second == other.second, "the second tables differ");
+}
