@@ -5,6 +5,7 @@ use crate::libraries::{assert_same, put_back, Given, Library, Proved};
 use crate::measure::{in_turn, Side, Times};
 use compare::calls::Call;
 use compare::desks::{self, Desk};
+use koelchair::State;
 use second::Reply;
 
 /// A case, and a desk of it for each of the two libraries.
@@ -107,6 +108,19 @@ impl<'a> Calls<'a> {
             assert!(ours == theirs, "the listings differ");
         })
     }
+
+    /// The mean of the pairs that are looked at for an entry of a row of the next round, and of all its rows.
+    pub fn pairs(&self, row: u8) -> (f64, f64) {
+        let (states1, states2) = (self.setting.states1, self.setting.states2);
+        let desk = self.proved_desk.lent();
+        let pairs = |q1, q2| {
+            let entry = desk.entry(State(q1), State(q2)).expect("two states");
+            f64::from(entry.pairs)
+        };
+        let of_row = |q1| (0..states2).map(|q2| pairs(q1, q2)).sum::<f64>() / f64::from(states2);
+        let of_all = (0..states1).map(of_row).sum::<f64>() / f64::from(states1);
+        (of_row(row), of_all)
+    }
 }
 
 /// A call of a library on a desk that begins as this one.
@@ -140,7 +154,7 @@ fn report_side<'a>(
 #[cfg(test)]
 mod tests {
     use super::*;
-    use crate::cases::{Lattice, FIXPOINTS, NESTED};
+    use crate::cases::{Drawing, Lattice, FIXPOINTS, NESTED};
     use crate::former::Former;
     use crate::libraries::Second;
     use std::path::{Path, PathBuf};
@@ -151,6 +165,7 @@ mod tests {
             lattice: Lattice::Chain(5),
             states1: 4,
             states2: 3,
+            drawing: Drawing::Usual,
             seed: 1,
         };
         Calls::new(setting, other).at(1, 2)
@@ -233,5 +248,23 @@ mod tests {
         let mut calls = calls(&Second);
         calls.other_desk.first[0] ^= 1;
         calls.measure(1, &Call::Step);
+    }
+
+    /// No pair is left out where nothing ends early.
+    #[test]
+    fn pairs_of_dense_drawings() {
+        for lattice in [Lattice::Panel, Lattice::Chain(64), Lattice::PowerSet(6)] {
+            let setting = Setting {
+                lattice,
+                states1: 5,
+                states2: 7,
+                drawing: Drawing::Dense,
+                seed: 1,
+            };
+            let calls = Calls::new(setting, &Second);
+            let last = calls.rounds() - 1;
+            assert_eq!(calls.pairs(2), (35.0, 35.0));
+            assert_eq!(calls.at(last, 0).pairs(2), (35.0, 35.0));
+        }
     }
 }

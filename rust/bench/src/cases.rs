@@ -1,9 +1,9 @@
-//! The cases that are measured: three sorts of lattice, models of any size with values drawn by a seed, and five formulas.
+//! The cases that are measured: three sorts of lattice, models of any size with values drawn by a seed, densely or not, and five formulas.
 
 use crate::random::Random;
 use std::fmt;
 
-/// A lattice. Element 0 is its bottom and n − 1 its top.
+/// A lattice. Element 0 is its bottom, n − 1 its top, and n − 2 is next below top.
 #[derive(Clone, Copy)]
 pub enum Lattice {
     /// The 27 elements of three answers no, unsure or yes, which the case names by one byte.
@@ -37,11 +37,12 @@ impl Lattice {
         part
     }
 
-    /// Whether i is at or below j, in a chain or a power set.
+    /// Whether i is at or below j.
     fn at_most(self, i: u8, j: u8) -> bool {
         match self {
+            Lattice::Panel => i / 9 <= j / 9 && i / 3 % 3 <= j / 3 % 3 && i % 3 <= j % 3,
+            Lattice::Chain(_) => i <= j,
             Lattice::PowerSet(_) => i & j == i,
-            _ => i <= j,
         }
     }
 }
@@ -59,11 +60,31 @@ impl fmt::Display for Lattice {
 /// The propositions of each model.
 const PROPOSITIONS: u8 = 4;
 
-/// So many of a state's transitions are drawn, one perhaps twice, and the others are bottom.
-const SUCCESSORS: u8 = 16;
+/// How the transitions and the propositions of both models are drawn. A transition that is not drawn is bottom.
+#[derive(Clone, Copy)]
+pub enum Drawing {
+    /// 16 transitions a state, one perhaps twice; one in eight propositions, and the others are top, so that the table does not fall to
+    /// bottom at once.
+    Usual,
+    /// Three transitions a state; each proposition is top or bottom, so that most states differ.
+    Apart,
+    /// Three transitions a state, and all propositions.
+    Sparse,
+    /// All transitions, at or below the element next below top and not bottom; the propositions are top. So no join is top and no meet
+    /// is bottom, and nothing ends early.
+    Dense,
+}
 
-/// One in so many proposition values is drawn, and the others are top, so that the table does not fall to bottom at once.
-const DRAWN: u8 = 8;
+impl fmt::Display for Drawing {
+    fn fmt(&self, f: &mut fmt::Formatter) -> fmt::Result {
+        f.write_str(match self {
+            Drawing::Usual => "16 transitions",
+            Drawing::Apart => "3 transitions, propositions differ",
+            Drawing::Sparse => "3 transitions",
+            Drawing::Dense => "all transitions",
+        })
+    }
+}
 
 /// The number of the formula AX EX AX of p0 or not-p1.
 pub const NESTED: u8 = 0;
@@ -86,6 +107,7 @@ pub struct Setting {
     pub lattice: Lattice,
     pub states1: u8,
     pub states2: u8,
+    pub drawing: Drawing,
     pub seed: u64,
 }
 
@@ -95,30 +117,62 @@ impl Setting {
         let mut random = Random::new(self.seed);
         let mut parts = vec![self.lattice.part()];
         for states in [self.states1, self.states2] {
-            parts.push(model(&mut random, self.lattice.size(), states));
+            parts.push(self.model(&mut random, states));
         }
         parts.extend(FORMULAS.map(<[u8]>::to_vec));
         laid_out(&parts)
     }
-}
 
-fn model(random: &mut Random, size: u8, states: u8) -> Vec<u8> {
-    let mut part = vec![states, PROPOSITIONS];
-    part.extend((0..states).map(|_| random.below(size)));
-    for _ in 0..states {
-        for _ in 0..PROPOSITIONS {
-            let drawn = random.below(DRAWN) == 0;
-            part.push(if drawn { random.below(size) } else { size - 1 });
+    fn model(self, random: &mut Random, states: u8) -> Vec<u8> {
+        let mut part = vec![states, PROPOSITIONS];
+        part.extend((0..states).map(|_| random.below(self.lattice.size())));
+        for _ in 0..states {
+            part.extend((0..PROPOSITIONS).map(|_| self.proposition(random)));
+        }
+        for _ in 0..states {
+            part.extend(self.transitions(random, states));
+        }
+        part
+    }
+
+    /// The value of a proposition at a state.
+    fn proposition(self, random: &mut Random) -> u8 {
+        let (size, top) = (self.lattice.size(), self.lattice.size() - 1);
+        match self.drawing {
+            Drawing::Usual if random.below(8) > 0 => top,
+            Drawing::Usual | Drawing::Sparse => random.below(size),
+            Drawing::Apart => top * random.below(2),
+            Drawing::Dense => top,
         }
     }
-    for _ in 0..states {
+
+    /// The transitions that leave a state.
+    fn transitions(self, random: &mut Random, states: u8) -> Vec<u8> {
         let mut row = vec![0; usize::from(states)];
-        for _ in 0..SUCCESSORS {
-            row[usize::from(random.below(states))] = random.below(size);
+        let drawn = match self.drawing {
+            Drawing::Usual => 16,
+            Drawing::Apart | Drawing::Sparse => 3,
+            Drawing::Dense => {
+                row.fill_with(|| self.between(random));
+                return row;
+            }
+        };
+        for _ in 0..drawn {
+            row[usize::from(random.below(states))] = random.below(self.lattice.size());
         }
-        part.extend(row);
+        row
     }
-    part
+
+    /// An element at or below that next below top, and not bottom.
+    fn between(self, random: &mut Random) -> u8 {
+        let size = self.lattice.size();
+        loop {
+            let element = random.below(size);
+            if element != 0 && self.lattice.at_most(element, size - 2) {
+                return element;
+            }
+        }
+    }
 }
 
 /// The case with these parts, one after another.

@@ -1,7 +1,7 @@
 //! Times of the proved desk and of another, side by side in one run, printed as Markdown tables.
 //!
 //! `bench [--repeat N] [--only WORD] [--former FILE]`: N samples of each side for every row (default 15), and only the rows in whose name,
-//! as `panel, 27; 16; step` or `growth; (16, 16, 4)`, the word stands.
+//! as `panel, 27; 16; step`, `growth; (16, 16, 4)` or `density; panel, 27; 3 transitions`, the word stands.
 //!
 //! The other is the second implementation, or the proved library as it was before a change, which FILE holds as a shared library. That is
 //! made from an archive of `rt staticlib exports` by

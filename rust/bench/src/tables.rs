@@ -1,7 +1,8 @@
-//! The tables that are printed: the calls, what a call spends on the check of its desk, and how a step grows.
+//! The tables that are printed: the calls, what a call spends on the check of its desk, how a step grows, and how it goes by the density of
+//! the drawings.
 
 use crate::calls::Calls;
-use crate::cases::{Lattice, Setting, FIXPOINTS, NESTED};
+use crate::cases::{Drawing, Lattice, Setting, FIXPOINTS, NESTED};
 use crate::libraries::Library;
 use crate::measure::Times;
 use crate::Options;
@@ -53,6 +54,7 @@ pub fn print(options: &Options, other: &dyn Library) {
     let checks = print_calls(options, other);
     print_checks(&checks, name);
     print_growth(options, other);
+    print_densities(options, other);
 }
 
 // ---- the calls
@@ -78,7 +80,7 @@ fn print_calls(options: &Options, other: &dyn Library) -> Vec<Check> {
         .into_iter()
         .filter(|(_, _, calls)| !calls.is_empty())
         .filter_map(|(lattice, states, wanted)| {
-            let setting = square(lattice, states);
+            let setting = square(lattice, states, Drawing::Usual);
             print_size(options.repeat, setting, other, &wanted)
         })
         .collect();
@@ -95,11 +97,12 @@ fn wanted(options: &Options, lattice: Lattice, states: u8) -> Vec<Named> {
 }
 
 /// Models of so many states each.
-fn square(lattice: Lattice, states: u8) -> Setting {
+fn square(lattice: Lattice, states: u8, drawing: Drawing) -> Setting {
     Setting {
         lattice,
         states1: states,
         states2: states,
+        drawing,
         seed: SEED,
     }
 }
@@ -220,6 +223,7 @@ fn print_growth(options: &Options, other: &dyn Library) {
             lattice: Lattice::Chain(size),
             states1,
             states2,
+            drawing: Drawing::Usual,
             seed: SEED,
         };
         let calls = halfway(setting, other);
@@ -237,6 +241,77 @@ fn print_growth(options: &Options, other: &dyn Library) {
     println!();
 }
 
+// ---- the density of the drawings
+
+/// The lattices and the drawings of the table; both models have so many states.
+const DENSE_LATTICES: [Lattice; 3] = [Lattice::Panel, Lattice::Chain(64), Lattice::PowerSet(6)];
+const DRAWINGS: [Drawing; 4] = [
+    Drawing::Apart,
+    Drawing::Sparse,
+    Drawing::Usual,
+    Drawing::Dense,
+];
+const STATES: u8 = 64;
+
+/// Prints how a step and a whole round go by the transitions and propositions, at round 0 and at the last round.
+fn print_densities(options: &Options, other: &dyn Library) {
+    let rows = DENSE_LATTICES.map(|lattice| DRAWINGS.map(|drawing| (lattice, drawing)));
+    let wanted = |&(lattice, drawing): &_| options.wants(&format!("density; {lattice}; {drawing}"));
+    let rows: Vec<(Lattice, Drawing)> = rows.concat().into_iter().filter(wanted).collect();
+    if rows.is_empty() {
+        return;
+    }
+    let name = other.name();
+    println!(
+        "How a step and a whole round in one call (finish_round) go by the density of the drawings, of {STATES} states each. The first line of \
+         a drawing is worked from the table of round 0, all of which is top, the second from that of round T − 1, which is the settled \
+         one. An entry ends once its meet is bottom, propositions first, and the join for a state of model 1 once it is top: *pairs* is the \
+         mean of the pairs of states that are looked at, of {}, for an entry of the row that the step works, and for one of the round. In \
+         brackets is the middle half.\n",
+        grouped(&(u32::from(STATES) * u32::from(STATES)).to_string())
+    );
+    println!(
+        "| Lattice, elements | Drawing | Round | Check, µs | Step, µs | Row, µs | Pairs, row | {name} / proved, step | Round, µs | Pairs, round | {name} / proved, round |"
+    );
+    println!("|---|---|---|---|---|---|---|---|---|---|---|");
+    for (lattice, drawing) in rows {
+        let last = Calls::new(square(lattice, STATES, drawing), other).rounds() - 1;
+        for round in [0, last] {
+            print_density(
+                options.repeat,
+                square(lattice, STATES, drawing),
+                other,
+                round,
+            );
+        }
+    }
+    println!();
+}
+
+/// Prints a row of the table: a step in the middle of a round, and the whole of it.
+fn print_density(repeat: usize, setting: Setting, other: &dyn Library, round: u32) {
+    let row = setting.states1 / 2;
+    let calls = || Calls::new(setting, other);
+    let (begun, halfway) = (calls().at(round, 0), calls().at(round, row));
+    let show = halfway.measure(repeat, &Call::Show);
+    let step = halfway.measure(repeat, &Call::Step);
+    let whole = begun.measure(repeat, &Call::FinishRound);
+    let (of_row, of_round) = begun.pairs(row);
+    println!(
+        "| {} | {} | {round} | {} | {} | {} | {} | {} | {} | {} | {} |",
+        setting.lattice,
+        setting.drawing,
+        micros(show.proved),
+        micros(step.proved),
+        micros(step.proved - show.proved),
+        grouped(&format!("{of_row:.0}")),
+        ratio(&step),
+        micros(whole.proved),
+        grouped(&format!("{of_round:.0}")),
+        ratio(&whole)
+    );
+}
+
 // ---- figures
 
 /// Both medians, their ratio, the middle half of the ratios, and how many samples they are of.
@@ -249,6 +324,12 @@ fn columns(times: &Times) -> String {
         times.ratio(),
         times.samples
     )
+}
+
+/// The ratio of the medians, and the middle half of the ratios.
+fn ratio(times: &Times) -> String {
+    let (lower, upper) = times.middle_half();
+    format!("{:.2} ({lower:.2} to {upper:.2})", times.ratio())
 }
 
 /// Nanoseconds as microseconds, with three figures or all before the point, these in groups of three.
