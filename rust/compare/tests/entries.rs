@@ -16,14 +16,14 @@ use std::collections::BTreeMap;
 use std::io::Write;
 
 /// Numbers of states: the ends of blocks of 4 and of 16, those beside them, and the greatest.
-const STATES: [usize; 12] = [1, 3, 4, 5, 8, 15, 16, 17, 31, 33, 63, 64];
+const STATES: [usize; 14] = [1, 2, 3, 4, 5, 8, 15, 16, 17, 18, 31, 33, 63, 64];
 
 /// Numbers of states over a lattice of 64 elements, for which the second implementation takes milliseconds an entry.
 const FEW_STATES: [usize; 4] = [1, 3, 4, 5];
 
 /// Of a table with more entries some are taken.
-const ALL_ENTRIES: usize = 300;
-const SOME_ENTRIES: usize = 12;
+const ALL_ENTRIES: usize = 150;
+const SOME_ENTRIES: usize = 20;
 
 /// N1 up to which models are counted as small; the proved code goes by 16 states of model 1 at a time.
 const SMALL: usize = 16;
