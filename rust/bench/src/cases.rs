@@ -3,7 +3,7 @@
 use crate::random::Random;
 use std::fmt;
 
-/// A lattice. Element 0 is its bottom, n − 1 its top, and n − 2 is next below top.
+/// A lattice. Element 0 is its bottom and n − 1 its top.
 #[derive(Clone, Copy)]
 pub enum Lattice {
     /// The 27 elements of three answers no, unsure or yes, which the case names by one byte.
@@ -45,6 +45,16 @@ impl Lattice {
             Lattice::PowerSet(_) => i & j == i,
         }
     }
+
+    /// An element below top with none between the two.
+    fn next_below_top(self, random: &mut Random) -> u8 {
+        let step = match self {
+            Lattice::Panel => [1, 3, 9][usize::from(random.below(3))],
+            Lattice::Chain(_) => 1,
+            Lattice::PowerSet(things) => 1 << random.below(things),
+        };
+        self.size() - 1 - step
+    }
 }
 
 impl fmt::Display for Lattice {
@@ -70,8 +80,8 @@ pub enum Drawing {
     Apart,
     /// Three transitions a state, and all propositions.
     Sparse,
-    /// All transitions, at or below the element next below top and not bottom; the propositions are top. So no join is top and no meet
-    /// is bottom, and nothing ends early.
+    /// All transitions, at each state at or below an element that is next below top, and not bottom; the propositions are top. So no join
+    /// is top and no meet is bottom, and nothing ends early.
     Dense,
 }
 
@@ -153,7 +163,8 @@ impl Setting {
             Drawing::Usual => 16,
             Drawing::Apart | Drawing::Sparse => 3,
             Drawing::Dense => {
-                row.fill_with(|| self.between(random));
+                let most = self.lattice.next_below_top(random);
+                row.fill_with(|| self.above_bottom(random, most));
                 return row;
             }
         };
@@ -163,12 +174,11 @@ impl Setting {
         row
     }
 
-    /// An element at or below that next below top, and not bottom.
-    fn between(self, random: &mut Random) -> u8 {
-        let size = self.lattice.size();
+    /// An element at or below this one, and not bottom.
+    fn above_bottom(self, random: &mut Random, most: u8) -> u8 {
         loop {
-            let element = random.below(size);
-            if element != 0 && self.lattice.at_most(element, size - 2) {
+            let element = random.below(self.lattice.size());
+            if element != 0 && self.lattice.at_most(element, most) {
                 return element;
             }
         }

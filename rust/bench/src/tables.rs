@@ -275,14 +275,11 @@ fn print_densities(options: &Options, other: &dyn Library) {
     );
     println!("|---|---|---|---|---|---|---|---|---|---|---|");
     for (lattice, drawing) in rows {
-        let last = Calls::new(square(lattice, STATES, drawing), other).rounds() - 1;
+        let setting = square(lattice, STATES, drawing);
+        let last = Calls::new(setting, other).rounds() - 1;
+        assert!(last > 0, "a case of too few rounds: another seed");
         for round in [0, last] {
-            print_density(
-                options.repeat,
-                square(lattice, STATES, drawing),
-                other,
-                round,
-            );
+            print_density(options.repeat, setting, other, round);
         }
     }
     println!();

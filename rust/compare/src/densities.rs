@@ -15,8 +15,8 @@ pub enum Density {
     Middle,
     /// No transition is bottom, and no propositions.
     Dense,
-    /// All transitions at or below one element that is next below top, and propositions that are all alike: no join is top, and no
-    /// meet is bottom.
+    /// At each state transitions at or below an element that is next below top, and propositions that are all alike: no join is top,
+    /// and no meet is bottom.
     Never,
 }
 
@@ -101,7 +101,7 @@ fn successors(random: &mut Random, lattice: &Lattice, density: Density, states: 
         }
         Density::Dense => row.fill_with(|| above_bottom(random, lattice)),
         Density::Never => {
-            let most = next_below_top(lattice);
+            let most = next_below_top(random, lattice);
             row.fill_with(|| element_where(random, lattice, |e| lattice.at_most(e, most)));
         }
     }
@@ -123,9 +123,11 @@ fn element_where(random: &mut Random, lattice: &Lattice, has: impl Fn(usize) -> 
 }
 
 /// An element below top with none between the two; of a lattice of one element that one.
-fn next_below_top(lattice: &Lattice) -> usize {
-    let below_top = |e: &usize| *e != usize::from(lattice.top());
-    let others: Vec<usize> = (0..lattice.size).filter(below_top).collect();
-    let greatest = |&e: &usize| others.iter().all(|&x| x == e || !lattice.at_most(e, x));
-    others.iter().copied().find(greatest).unwrap_or(0)
+fn next_below_top(random: &mut Random, lattice: &Lattice) -> usize {
+    if lattice.size == 1 {
+        return 0;
+    }
+    let top = usize::from(lattice.top());
+    let above = |e: usize| (0..lattice.size).filter(move |&x| x != e && lattice.at_most(e, x));
+    usize::from(element_where(random, lattice, |e| above(e).eq([top])))
 }
