@@ -10,7 +10,9 @@
 //! gcc -shared -o former.so -Wl,--whole-archive libexports.a -Wl,--no-whole-archive
 //! ```
 //!
-//! Made from the archive that is linked here, it says in another run how far the ratios move by chance and by the place of the code.
+//! Where the linker places the code can alone move a ratio by a third. Less so where the functions of both archives begin at multiples of
+//! 64, by `objcopy --set-section-alignment '.text.*=64' libexports.a` on copies of them; that of the linked one is in a folder which
+//! KOELCHAIR_ARCHIVE names by its whole path. A shared library of the linked archive itself shows what is left of it.
 
 mod calls;
 mod cases;
