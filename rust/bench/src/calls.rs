@@ -100,6 +100,15 @@ impl<'a> Calls<'a> {
         })
     }
 
+    /// The medians of the proved library's check, which is all that show does, and of its step, in nanoseconds. They take turns, so that
+    /// their difference, the row, is not that of the machine's speed.
+    pub fn check_and_step(&self, repeat: usize) -> (f64, f64) {
+        let show = side(&Proved, &self.proved_desk, &Call::Show);
+        let step = side(&Proved, &self.proved_desk, &Call::Step);
+        let times = in_turn(repeat, show, step, |_, _, _, _| {});
+        (times.proved, times.other)
+    }
+
     /// Measures the way from the bytes of the case to the listing.
     pub fn report(&self, repeat: usize) -> Times {
         let proved = report_side(&Proved, &self.case);

@@ -207,7 +207,7 @@ fn print_growth(options: &Options, other: &dyn Library) {
     }
     println!(
         "How a step grows, on chains of n elements: first with N1 alone, then with N2, then with n, the others being 16, then with both \
-         models. The row is what the step takes beyond the check, the difference of the two medians.\n"
+         models. The row is what a step takes beyond the check, the difference of the medians of show and of step by turns.\n"
     );
     println!(
         "| N1 | N2 | n | Step, proved, µs | Step, {}, µs | {} / proved | Check, proved, µs | Row, proved, µs |",
@@ -228,14 +228,14 @@ fn print_growth(options: &Options, other: &dyn Library) {
         };
         let calls = halfway(setting, other);
         let step = calls.measure(options.repeat, &Call::Step);
-        let show = calls.measure(options.repeat, &Call::Show);
+        let (check, beside) = calls.check_and_step(options.repeat);
         println!(
             "| {states1} | {states2} | {size} | {} | {} | {:.2} | {} | {} |",
             micros(step.proved),
             micros(step.other),
             step.ratio(),
-            micros(show.proved),
-            micros(step.proved - show.proved)
+            micros(check),
+            micros(beside - check)
         );
     }
     println!();
@@ -290,19 +290,19 @@ fn print_density(repeat: usize, setting: Setting, other: &dyn Library, round: u3
     let row = setting.states1 / 2;
     let calls = || Calls::new(setting, other);
     let (begun, halfway) = (calls().at(round, 0), calls().at(round, row));
-    let show = halfway.measure(repeat, &Call::Show);
-    let step = halfway.measure(repeat, &Call::Step);
+    let (check, step) = halfway.check_and_step(repeat);
+    let against = halfway.measure(repeat, &Call::Step);
     let whole = begun.measure(repeat, &Call::FinishRound);
     let (of_row, of_round) = begun.pairs(row);
     println!(
         "| {} | {} | {round} | {} | {} | {} | {} | {} | {} | {} | {} |",
         setting.lattice,
         setting.drawing,
-        micros(show.proved),
-        micros(step.proved),
-        micros(step.proved - show.proved),
+        micros(check),
+        micros(step),
+        micros(step - check),
         grouped(&format!("{of_row:.0}")),
-        ratio(&step),
+        ratio(&against),
         micros(whole.proved),
         grouped(&format!("{of_round:.0}")),
         ratio(&whole)
