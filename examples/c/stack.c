@@ -117,6 +117,13 @@ static void step(void)
     answer = moved.answer;
 }
 
+static void finish_round(void)
+{
+    koelchair_moved moved = koelchair_finish_round(LENT);
+    standing = moved.standing;
+    answer = moved.answer;
+}
+
 static void show(void)
 {
     koelchair_shown shown = koelchair_show(LENT);
@@ -182,6 +189,7 @@ int main(void)
     make_case();
     printf("open  %zu\n", taken(open_case));
     printf("step  %zu\n", taken(step));
+    printf("finish_round %zu\n", taken(finish_round));
     printf("show  %zu\n", taken(show));
     for (formula = 0; formula < FORMULAS; formula++)
         printf("value %zu, whole %zu of formula %d\n", taken(value), taken(whole), formula);
