@@ -158,8 +158,8 @@ fn entry_at(s: &[u8], n2: usize, q1: State, q2: State) -> Element
     Element(s[elements::index(q1.0) * n2 + elements::index(q2.0)])
 }
 
-// Entry (q1, q2) of F of the table s, from what was prepared for its row.
-pub fn entry_from(
+// Entry (q1, q2) of F of the table s, from what was prepared for its row, whatever the propositions give.
+fn work_entry(
     w: &Codes,
     l: Lattice,
     m1: &[u8],
@@ -176,13 +176,6 @@ pub fn entry_from(
     ensures { λ r. ⌜ EntryIs (now (w .entry)) l (now (m1 .entry)) (now (m2 .entry)) (now (s .entry)) (q1 .0) (q2 .0) (r .value .0) (r .pairs) ⌝ }
 {
     let x = alike[elements::index(q2.0)];
-    if x == 0 {
-        let bottom = l.bottom;
-        return Entry {
-            value: bottom,
-            pairs: 0,
-        };
-    }
     let n2 = model::states(m2);
     let mut row = [0u64; 64];
     model::transition_codes(w, m2, q2, false, &mut row, 0);
@@ -206,6 +199,33 @@ pub fn entry_from(
     }
 }
 
+// The same. Where the propositions meet in bottom, nothing else is done.
+pub fn entry_from(
+    w: &Codes,
+    l: Lattice,
+    m1: &[u8],
+    m2: &[u8],
+    s: &[u8],
+    q1: State,
+    alike: &[u64; 64],
+    left: &[u64; 64],
+    table: &[u64],
+    q2: State,
+) -> Entry
+    requires { ⌜ Coded (now w) l × Shaped (now m1) (now m2) (now s) × (q1 .0 < getD (now m1) 0 0) × (q2 .0 < getD (now m2) 0 0)
+        × Prepared (now w) l (now m1) (now m2) (now s) (q1 .0) (now alike) (now left) (now table) ⌝ }
+    ensures { λ r. ⌜ EntryIs (now (w .entry)) l (now (m1 .entry)) (now (m2 .entry)) (now (s .entry)) (q1 .0) (q2 .0) (r .value .0) (r .pairs) ⌝ }
+{
+    if alike[elements::index(q2.0)] == 0 {
+        let bottom = l.bottom;
+        return Entry {
+            value: bottom,
+            pairs: 0,
+        };
+    }
+    work_entry(w, l, m1, m2, s, q1, alike, left, table, q2)
+}
+
 // Entry (q1, q2) of F of the table s alone.
 pub fn entry_of(
     w: &Codes,
@@ -223,5 +243,5 @@ pub fn entry_of(
     let mut left = [0u64; 64];
     let mut table = [0u64; 4096];
     prepare(w, l, m1, m2, s, q1, &mut alike, &mut left, &mut table);
-    entry_from(w, l, m1, m2, s, q1, &alike, &left, &table, q2)
+    work_entry(w, l, m1, m2, s, q1, &alike, &left, &table, q2)
 }

@@ -15,7 +15,7 @@ use second::Reply;
 use std::collections::BTreeMap;
 use std::io::Write;
 
-/// Numbers of states: the ends of blocks of 4 and of 16, those beside them, and the greatest.
+/// Numbers of states: the ends of blocks of 16 words, numbers beside them, small ones, and the greatest.
 const STATES: [usize; 14] = [1, 2, 3, 4, 5, 8, 15, 16, 17, 18, 31, 33, 63, 64];
 
 /// Numbers of states over a lattice of 64 elements, for which the second implementation takes milliseconds an entry.
