@@ -1,4 +1,4 @@
-/* Measures the stack that each call, sizes, entry and the listing take, at the greatest sizes: 64 elements, 64 states, 16 propositions and eight formulas of 255 bytes.
+/* Measures the stack that each call, finish_round, sizes, entry and the listing take, at the greatest sizes: 64 elements, 64 states, 16 propositions and eight formulas of 255 bytes.
    A call runs on a stack of its own whose bytes were all set to one value; those that have another value after it were written. What
    running nothing takes there is subtracted. Each call is measured with two values, and the greater figure is printed. Bytes that a call
    sets aside and never writes are not seen, unless it writes below them.

@@ -1,5 +1,5 @@
-// The six calls that only read, with the standing by value, and `whole_table`, which chooses the table that they read.
-//   tables: `show`, `score`, `share` and `judge`
+// The six calls that only read, with the standing by value, and `whole_table`, which chooses the one that show, score and share read.
+//   tables: `whole_table`, `show`, `score`, `share` and `judge`
 //   formulas: `whole` and `value`
 mod formulas;
 mod tables;

@@ -3,8 +3,6 @@
 use crate::CodeAndPairs;
 ghost use mathlib.Core.Path.{_≡_};
 ghost use Prim.Native.Nat.{_+_, _≤_};
-ghost use mathlib.Core.Bool.{not};
-ghost use lib.Dec.{eqb};
 ghost use lib.ListN.{length};
 ghost use Rattle.entries.specs.Codes.{WithinTop};
 ghost use Rattle.entries.specs.Joins.{joinCode, Gap, wordsJoin, Listed, Joined, FirstTop, BeforeTop};

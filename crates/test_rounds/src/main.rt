@@ -1,4 +1,4 @@
-// The worked examples 1 to 4 and 6 of document 01, and one of request 103, by the functions on tables: each round, how many pairs its entries looked at,
+// The worked examples 1 to 4 and 6 of document 01, and one for request 103, by the functions on tables: each round, how many pairs its entries looked at,
 // T, score, and the shares as of request 101.
 use elements::Codes;
 use elements::Element;

@@ -114,6 +114,7 @@ pub indicator-most : (b : Bool) → indicator b ≤ 1
 indicator-most true = omega arith
 indicator-most false = omega arith
 
+-- no more than all are counted
 pub count-most : (n : ℕ) (f : ℕ → Bool) → count n f ≤ n
 unfolding count
 count-most zero f = le-refl _

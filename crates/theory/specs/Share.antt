@@ -165,7 +165,6 @@ module _ (c t : ℕ) where
 
 -- ---- share
 
--- no more than all are counted
 module _ {A : Type 0} (O : Ops A) (n : ℕ) where
   pub share-nearest-even : (S : ℕ → A) (l : A) → 0 < n → NearestEven (count n (λ i. O .atMost l (S i))) n (share O n S l)
   unfolding share

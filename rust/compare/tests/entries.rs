@@ -25,7 +25,7 @@ const FEW_STATES: [usize; 4] = [1, 3, 4, 5];
 const ALL_ENTRIES: usize = 150;
 const SOME_ENTRIES: usize = 20;
 
-/// N1 up to which models are counted as small; the proved code goes by 16 states of model 1 at a time.
+/// N1 up to which models are counted as small: a step of the proved code then keeps the table's codes in less room.
 const SMALL: usize = 16;
 
 /// How often each kind was met, for models 1 that are small and for others.

@@ -1,5 +1,4 @@
 -- `entries::entry_at` meets its contract: its place. Assumes nothing.
-use mathlib.Core.Path.{_≡_}
 use Rattle.model.specs.Places.{prod-le}
 use borrow.Author.Needs.{needs}
 use native.Mathlib.Omega.{arith}

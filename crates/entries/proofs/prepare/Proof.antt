@@ -1,5 +1,4 @@
 -- `entries::prepare` meets its contract: what the three calls ensure. Assumes nothing.
-use mathlib.Core.Path.{_≡_, _∙_}
 use Rattle.entries.specs.Codes.{model-pair}
 use Rattle.entries.specs.Words.{low-at}
 use borrow.Author.Needs.{needs}

@@ -1,11 +1,10 @@
 -- `entries::work_entry` meets its contract: the transitions of model 2, then the meet. Assumes nothing.
-use mathlib.Core.Path.{_≡_, refl, sym, ap, _∙_}
+use mathlib.Core.Path.{refl}
 use Rattle.entries.specs.Prepared.{row-gap, row-within, entry-met}
 use Rattle.entries.specs.Codes.{propositions-within}
 use Rattle.entries.specs.Words.{low-at}
 use Rattle.elements.specs.Words.{codeIn}
 use Rattle.model.specs.Places.{row-le}
-use Prim.Native.Nat.{ℕ}
 use lib.ListN.{getD}
 use borrow.Author.Needs.{needs}
 use native.Mathlib.Omega.{arith}

@@ -1,5 +1,5 @@
 -- `rounds::work_row` meets its contract: the entries below q2 are worked, written and compared. Assumes nothing.
-use mathlib.Core.Path.{_≡_, refl, _∙_}
+use mathlib.Core.Path.{_≡_, refl}
 use Prim.Native.Nat.{_+_, _≤_, _-_}
 use lib.ListN.{length, getD, length-set}
 use Rattle.model.specs.Places.{prod-le}

@@ -1,7 +1,5 @@
 -- `exports::is_below` meets its contract: by the two tests.
-use mathlib.Core.Path.{_≡_}
 use borrow.Author.Tests.{lt-ltb, le-ltb}
-use borrow.Author.Needs.{needs}
 use Rattle.exports.proofs.worked.is_below.Statement.{statement}
 use Rattle.exports.proofs.worked.is_below.Tie as tie
 

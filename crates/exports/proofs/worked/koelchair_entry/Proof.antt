@@ -1,5 +1,5 @@
 -- `exports::koelchair_entry` meets its contract: by the examination, the range of the states, then by the entry.
-use mathlib.Core.Path.{refl, sym, _∙_}
+use mathlib.Core.Path.{sym, _∙_}
 use Rattle.desk.specs.Desk.{Desk}
 use Rattle.desk_check.specs.Read.{deskOf}
 use Rattle.desk_check.specs.Held.{HeldDesk, when-held}

@@ -1,9 +1,9 @@
 -- `rounds::join_columns` meets its contract: the joins over the states below r, all of which are top where it ends early. Assumes nothing.
-use mathlib.Core.Path.{_≡_, refl, sym, ap, _∙_}
+use mathlib.Core.Path.{_≡_, sym, ap, _∙_}
 use mathlib.Core.Bool.{false}
 use Prim.Native.Nat.{ℕ, _≤_, _-_}
 use lib.Bits.{bitAnd, bitOr}
-use lib.ListN.{length, getD}
+use lib.ListN.{length}
 use Rattle.elements.specs.Words.{codeIn}
 use Rattle.elements.specs.Laws.{within-trans, and-left}
 use Rattle.model.specs.Reading.{leavingCode}

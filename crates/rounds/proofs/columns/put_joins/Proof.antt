@@ -1,9 +1,8 @@
 -- `rounds::put_joins` meets its contract: the joins, then their column. Assumes nothing.
-use mathlib.Core.Path.{_≡_, refl, _∙_}
+use mathlib.Core.Path.{refl}
 use Rattle.entries.specs.Words.{filled-same}
 use Rattle.rounds.specs.Rows.{spread-as}
 use borrow.Author.Needs.{needs}
-use native.Mathlib.Omega.{arith}
 use Rattle.rounds.proofs.columns.put_joins.Statement.{statement}
 use Rattle.rounds.proofs.columns.put_joins.Tie as tie
 
