@@ -1,5 +1,6 @@
 -- Demand 3: one claim about every list of calls from any desk, refused ones included, with an accepted opening in it. Rests on Run.
 --   FactsAnswered: value or whole answered these facts of a formula; BoundedBy: the shown entries bound a formula; Covers: when this is promised
+--   Passes: judge says yes of a table; BoundedIn: the entries of a table bound a formula
 --   Claim: the claim, a field for each part of it; Demand3: there are a last accepted opening and a T of which it holds
 -- Demand3Holds proves it.
 use Prim.Native.Nat.{ℕ, _+_, _*_, _-_, _%_, _≤_, _<_}
@@ -11,14 +12,14 @@ use lib.ListN.{length, getD}
 use Rattle.theory.specs.Lattice.{LongestChain}
 use Rattle.theory.specs.Formula.{Formula, fixpointFree, nestedAX, UniversalSentence}
 use Rattle.theory.specs.Value.{valueAt}
-use Rattle.theory.specs.Simulation.{SameTable, AtMostTable, Bounds, GreatestSimulation}
+use Rattle.theory.specs.Simulation.{SameTable, AtMostTable, Bounds, Simulation, GreatestSimulation}
 use Rattle.refusal.specs.declared.Refusal.the-variants.{ShortDesk, SpoiledDesk}
 use Rattle.formula.specs.declared.FormulaFacts.{FormulaFacts}
 use Rattle.casefile.specs.Reading.{Content, refused, content, caseReading, storeReading}
 use Rattle.desk.specs.Desk.{Desk, Question, Call, Reply}
 use Rattle.desk.specs.Case.{ops, model1, model2, N1, tableSize, formulaIn, roundIn, IsT, tableBytes}
 use Rattle.desk.specs.Refused.{short, spoiled, examined, accepted}
-use Rattle.desk.specs.View.{shownTable}
+use Rattle.desk.specs.View.{shownTable, givenTable}
 use Rattle.desk.specs.Perform.{asked, showAnswer}
 use Rattle.desk.specs.Run.{run, LastOpening, answersSince, roundAfter, answerAfter, viewAfter, AnsweredFrom}
 
@@ -44,12 +45,19 @@ module _ (c : Content) (T : ℕ) (answers : List Reply) (d : Desk) where
   Below = AtMostTable (ops c) (model1 c) (model2 c)
 
   -- 'A pair's entry is at most "not the formula's value at the pair's state of model 2, joined with its value at the pair's state of model 1"'
+  abbrev pub BoundedIn : (ℕ → ℕ → ℕ) → Formula → Type 0
+  BoundedIn S φ = Bounds (ops c) (model1 c) (model2 c) S (valueAt (ops c) (model1 c) φ) (valueAt (ops c) (model2 c) φ)
+
   abbrev pub BoundedBy : Formula → Type 0
-  BoundedBy φ = Bounds (ops c) (model1 c) (model2 c) (shownTable c d) (valueAt (ops c) (model1 c) φ) (valueAt (ops c) (model2 c) φ)
+  BoundedBy = BoundedIn (shownTable c d)
 
   -- the conditions under which demand 3 promises it, of a formula with the facts x: no EX, and either no fixpoint and fewer than r nested AX, or r = T
   abbrev pub Covers : FormulaFacts → Type 0
   Covers x = (x .ex ≡ false) × (((x .fixpoint ≡ false) × (x .nesting < r)) ⊎ (r ≡ T))
+
+  -- judge says yes of the table t
+  abbrev pub Passes : List ℕ → Type 0
+  Passes t = asked (Question.Judge t) d ≡ Reply.Says true
 
   pub record Claim : Type 0 where
     -- 'after the list the standing's round is r, its next row is s modulo N1 while r is below T and 0 at T, and it is settled
@@ -71,6 +79,13 @@ module _ (c : Content) (T : ℕ) (answers : List Reply) (d : Desk) where
     -- request 102: that the shown entries bound a formula of the case is known from the facts that value or whole answers of it. By
     -- `question-next` these are the same after every list with this last accepted opening, so that one answer serves for all later rounds.
     pub covered : (f : ℕ) (x : FormulaFacts) → FactsAnswered d f x → Covers x → BoundedBy (formulaIn c f)
+    -- request 104: 'Whatever it passes must lie at or below the greatest simulation', whatever that is, 'and keep the bound for every closed
+    -- universal formula', at every pair and whatever round is shown
+    pub passed-below : (t : List ℕ) → Passes t → (G : ℕ → ℕ → ℕ) → GreatestSimulation (ops c) (model1 c) (model2 c) G → Below (givenTable c t) G
+    pub passed-bounds : (t : List ℕ) → Passes t → (φ : Formula) → UniversalSentence (model1 c .propositions) φ → BoundedIn (givenTable c t) φ
+    -- every simulation passes. What show answers passes exactly from round T − 1 on, whose table is that of round T: so on every settled desk
+    pub simulation-passes : (S : ℕ → ℕ → ℕ) → Simulation (ops c) (model1 c) (model2 c) S → Passes (tableBytes c S)
+    pub shown-passes : (t : List ℕ) → showAnswer d ≡ Reply.Shown t → Passes t ↔ (T ≤ r + 1)
     -- 'T is at most N1·N2·(h − 1) + 1, h being the number of elements in the lattice's longest chain'; there is such an h
     pub h-exists : (h : ℕ) × LongestChain (ops c) h
     pub T-most : (h : ℕ) → LongestChain (ops c) h → T ≤ tableSize c * (h - 1) + 1

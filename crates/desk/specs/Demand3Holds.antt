@@ -1,8 +1,8 @@
--- Demand 3 holds. Rests on Demand3, Listed, Next, Stands, RefusedLaws, formula's RoundTrip, and theory's Rounds, Preservation, Height and Sharp.
+-- Demand 3 holds. Rests on Demand3, Listed, Next, Judged, Stands, RefusedLaws, formula's RoundTrip, and theory's Rounds, Preservation, Height and Sharp.
 --   demand3: every list of calls with an accepted opening in it has the demand; listed: the claim holds for whatever last accepted opening and T
 --   claimed: the claim from the invariant; facts-own, covered-shown: the facts that value and whole answer, and the bound that follows; T-most-sharp:
 --   another limit of T
---   ranges, asked-next; value-next, whole-next, score-next, share-next, judge-yes, judge-no: what it says of the questions one by one
+--   ranges, asked-next; value-next, whole-next, score-next, share-next, judge-next: what it says of the questions one by one
 use Prim.Native.Nat.{ℕ, suc, _+_, _-_, _≤_, _<_}
 use mathlib.Core.Path.{_≡_, refl, sym, ap, _∙_, subst}
 use mathlib.Core.Bool.{Bool, true, false}
@@ -13,12 +13,11 @@ use borrow.Author.Tests.{not-false}
 use lib.ListN.{length, getD}
 use Rattle.theory.specs.Value.{valueAt, wholeValue}
 use Rattle.theory.specs.Formula.{Formula, fixpointFree, nestedAX, UniversalSentence}
-use Rattle.theory.specs.Simulation.{Simulation, score, share}
+use Rattle.theory.specs.Simulation.{score, share}
 use Rattle.theory.specs.Height.{longest-chain}
 use Rattle.theory.specs.Rounds.{T-at-most, settled-greatest, below-rounds, fixed-below, F-mono}
 use Rattle.theory.specs.Preservation.{bounded-by-round, bounded-at-T}
 use Rattle.theory.specs.Sharp.{T-sharp}
-use Rattle.theory.specs.TestLaws.{false-true, not-passed, not-failed}
 use Rattle.refusal.specs.declared.Refusal.{Refusal}
 use Rattle.refusal.specs.declared.Refusal.the-variants.{ShortDesk, SpoiledDesk}
 use Rattle.formula.specs.declared.FormulaFacts.{FormulaFacts}
@@ -26,27 +25,25 @@ use Rattle.formula.specs.Answer.{factsOf}
 use Rattle.formula.specs.RoundTrip.{formula-part}
 use Rattle.casefile.specs.Reading.{Content}
 use Rattle.casefile.specs.Content.{content-sound}
-use Rattle.entries.specs.Table.{tableOf}
-use Rattle.rounds.specs.Table.{simulationTest}
-use Rattle.rounds.specs.Round.{simulation-test}
 use Rattle.desk.specs.Desk.{Desk, Question, Call, Reply}
-use Rattle.desk.specs.Case.{ops, model1, model2, N2, tableSize, modelIn, formulaIn, operator, roundIn, IsT, entryAt}
+use Rattle.desk.specs.Case.{ops, model1, model2, tableSize, modelIn, formulaIn, operator, roundIn, IsT, entryAt, tableBytes}
 use Rattle.desk.specs.Refused.{InRange, accepted, numberReply}
 use Rattle.desk.specs.Moved.{opened}
-use Rattle.desk.specs.View.{View}
+use Rattle.desk.specs.View.{View, givenTable}
 use Rattle.desk.specs.Perform.{perform, asked, answerTo, moved}
 use Rattle.desk.specs.Run.{run, openings, LastOpening, answersSince, roundAfter, answerAfter, viewAfter}
-use Rattle.desk.specs.RefusedLaws.{perform-refused, perform-accepted, refused-refusal, OpenAccepted, open-long, open-accepted}
+use Rattle.desk.specs.RefusedLaws.{perform-accepted, OpenAccepted, open-long, open-accepted, unrefused-accepted}
 use Rattle.desk.specs.RulesLaws.{spoiled-exactly}
 use Rattle.desk.specs.Stands.{known-sound, Stands, opening-starts}
 use Rattle.desk.specs.Next.{at, stands-unspoiled, never-11-or-12, ranges-are, shows, below-shown, shown-below, show-is, answered-from}
+use Rattle.desk.specs.Judged.{PostFixed, judge-yes, judge-no, passed-below, passed-bounds, simulation-passes, round-passes}
 use Rattle.desk.specs.Listed.{run-append, last-opening, opening-T, Since, since}
 use Rattle.desk.specs.Demand3.{FactsAnswered, by-value, by-whole, BoundedBy, Covers, Claim, Demand3}
 
 -- ---- the bounds, and the facts that value and whole answer
 
 formula-value-accepted : (q : Question) (d : Desk) (e : ℕ) (x : FormulaFacts) → asked q d ≡ Reply.FormulaValue e x → accepted (Call.Ask q) d ≡ true
-formula-value-accepted q d e x p = not-failed _ (λ a. let r = refused-refusal (Call.Ask q) d a in never (r .0) (sym (ap (λ y. y .reply) (perform-refused (Call.Ask q) d (r .0) (r .1))) ∙ p))
+formula-value-accepted q d e x p = unrefused-accepted q d (Reply.FormulaValue e x) p never
   where
     never : (r : Refusal) → numberReply r ≡ Reply.FormulaValue e x → ⊥
     never r h = let z : _≡_ {A = ℕ} 0 1 = cc in omega arith
@@ -86,10 +83,16 @@ module _ {c : Content} {T : ℕ} (answers : List Reply) (d : Desk) (w : Stands c
       let u = sentence f x (own .0) (own .1) (h .0) in
       ⊎-elim (λ l. shown-by-round (formulaIn c f) u (not-false _ (ap (λ (y : FormulaFacts). y .fixpoint) (sym (own .1)) ∙ l .0)) (rw (own .1) at (l .1))) (λ z. shown-at-T z (formulaIn c f) u) (h .1)
 
+same-bytes : {x y : List ℕ} → Reply.Shown x ≡ Reply.Shown y → x ≡ y
+same-bytes e = cc
+
 module _ {c : Content} {T : ℕ} where
   pub claimed : (answers : List Reply) (d : Desk) → Stands c T (length answers) d → ((i : ℕ) → i < length answers → getD answers i Reply.Row ≡ answerAfter c T (suc i)) → Claim c T answers d
   claimed answers d w each =
-      let L = known-sound (w .known) .laws in
+      let sound = known-sound (w .known) in
+      let L = sound .laws in
+      let v = viewAfter c T (length answers) in
+      let n = answered-from w in
       let h = longest-chain (ops c) (λ a. refl) in
       let p = at w in
       record {
@@ -103,6 +106,10 @@ module _ {c : Content} {T : ℕ} where
         bounded-by-round = shown-by-round answers d w;
         bounded-at-T = shown-at-T answers d w;
         covered = covered-shown answers d w;
+        passed-below = passed-below v n sound;
+        passed-bounds = passed-bounds v n sound;
+        simulation-passes = simulation-passes v n sound;
+        shown-passes = λ t e. let z : tableBytes c (roundIn c (v .round)) ≡ t = same-bytes (sym (show-is w) ∙ e) in rw z at (round-passes v n sound T (w .known .isT) (v .round));
         T-greatest = settled-greatest L (model1 c) (model2 c) T (w .known .isT);
         h-exists = (h .0, h .2);
         T-most = λ n l. T-at-most L (model1 c) (model2 c) n l T (w .known .isT);
@@ -144,24 +151,9 @@ module _ {c : Content} {T : ℕ} {answers : List Reply} {d : Desk} (w : Claim c 
       → asked (Question.Share e) d ≡ Reply.PerCent (share (ops c) (tableSize c) (entryAt c (roundIn c (roundAfter c T (length answers)))) e)
   share-next e a = asked-next (Question.Share e) a
 
-  module _ (t : List ℕ) (a : accepted (Call.Ask (Question.Judge t)) d ≡ true) where
-    abbrev test : Bool
-    test = simulationTest (model1 c) (model2 c) (operator c) (tableOf t (N2 c))
-
-    judged : asked (Question.Judge t) d ≡ Reply.Says test
-    judged = asked-next (Question.Judge t) a
-
-    judge-test : (test ≡ true) ↔ Simulation (ops c) (model1 c) (model2 c) (tableOf t (N2 c))
-    judge-test = simulation-test (ops c) (model1 c) (model2 c) (operator c) (tableOf t (N2 c))
-
-    says : (x y : Bool) → Reply.Says x ≡ Reply.Says y → x ≡ y
-    says x y q = cc
-
-    pub judge-yes : (asked (Question.Judge t) d ≡ Reply.Says true) ↔ Simulation (ops c) (model1 c) (model2 c) (tableOf t (N2 c))
-    judge-yes = (λ q. judge-test .0 (says test true (sym judged ∙ q)), λ h. judged ∙ ap Reply.Says (judge-test .1 h))
-
-    pub judge-no : (asked (Question.Judge t) d ≡ Reply.Says false) ↔ ¬ (Simulation (ops c) (model1 c) (model2 c) (tableOf t (N2 c)))
-    judge-no = (λ q h. false-true (says test false (sym judged ∙ q)) (judge-test .1 h), λ n. judged ∙ ap Reply.Says (not-passed test (λ p. n (judge-test .0 p))))
+  pub judge-next : (t : List ℕ) → accepted (Call.Ask (Question.Judge t)) d ≡ true
+      → ((asked (Question.Judge t) d ≡ Reply.Says true) ↔ PostFixed c (givenTable c t)) × ((asked (Question.Judge t) d ≡ Reply.Says false) ↔ ¬ (PostFixed c (givenTable c t)))
+  judge-next t a = (judge-yes view (w .question-next) t a, judge-no view (w .question-next) t a)
 
 -- for every list of calls, every desk, whatever last accepted opening there is, and whatever is T
 pub listed : (ks : List Call) (d : Desk) (l : LastOpening ks d) (T : ℕ) → IsT (l .holds) T → Claim (l .holds) T (answersSince l) (run ks d)

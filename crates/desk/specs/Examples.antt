@@ -23,7 +23,7 @@ use Rattle.casefile.specs.Directory.{partStart, partSize, placed, misplaced, pa
 use Rattle.casefile.specs.Reading.{formulasReading, modelsReading, caseReading}
 use Rattle.casefile.specs.Gapless.{pairs, joined, gapless}
 use Rattle.casefile.specs.Examples.{reportCase}
-use Rattle.rounds.specs.Table.{rowSame, changedBelow, simulationTest}
+use Rattle.rounds.specs.Table.{rowSame, changedBelow, rowAtMost, postFixedTest}
 use Rattle.desk.specs.Desk.{Desk, Question, Call, Reply}
 use Rattle.desk.specs.Refused.{short, rulesObeyed, spoiled, examined, accepted, refusedReply}
 use Rattle.desk.specs.Moved.{opened, worked, stepped}
@@ -48,7 +48,8 @@ zeros =
 abbrev nested : ℕ → FormulaFacts
 nested n = record { nesting = n; fixpoint = false; ex = false }
 
--- worked example 1 with formula p, which report prints: rounds 2, row 0: 1, score 1, formula 0: 1 1
+-- worked example 1 with formula p, which report prints: rounds 2, row 0: 1, score 1, formula 0: 1 1. For request 104: the table 0 is sound and not
+-- tight, 1 is tight, and 2 is too high
 abbrev pub calls1 : List (Call × Reply)
 calls1 =
     (Call.Open reportCase, Reply.Opened)
@@ -58,6 +59,9 @@ calls1 =
     ∷ (Call.Ask Question.Score, Reply.Element 1)
     ∷ (Call.Ask (Question.Whole 0 1), Reply.FormulaValue 1 (nested 0))
     ∷ (Call.Ask (Question.Whole 0 2), Reply.FormulaValue 1 (nested 0))
+    ∷ (Call.Ask (Question.Judge (0 ∷ [])), Reply.Says true)
+    ∷ (Call.Ask (Question.Judge (1 ∷ [])), Reply.Says true)
+    ∷ (Call.Ask (Question.Judge (2 ∷ [])), Reply.Says false)
     ∷ []
 
 -- worked example 4 with AX of not-p: 'Round 1 is 1 0 / 0 0, round 2 all 0, T = 3. AX of not-p has value 1 at state 0 of model 2 and 0 in
@@ -110,5 +114,5 @@ abbrev pub AnswersAs : List (Call × Reply) → Type 0
 AnswersAs l = replies (map (λ x. x .0) l) zeros ≡ map (λ x. x .1) l
 
 pub examples-answer : AnswersAs calls1 × AnswersAs calls4
-unfolding imp iff bigMeet bigJoin iterate bind allNext someNext eval valueAt wholeValue propositionPart successorPart F roundOf score count share isMeet isJoin meetOf joinOf topOf botOf element closedUnder overProps nestedBinders nestedAX fixpointFree universal allBelow firstBelow isPanel latticeOf explicitForm latticeForm reflexive antisymmetric transitive partialOrder meetsAndJoins distributive complementRules require partReading latticeReading elementsOnly modelTest byCode parse formulaReading partStart partSize placed misplaced partsFrom formulasReading modelsReading caseReading pairs joined gapless tab rowSame changedBelow simulationTest short rulesObeyed spoiled examined accepted opened worked stepped answer moved lentAfter perform replies
+unfolding imp iff bigMeet bigJoin iterate bind allNext someNext eval valueAt wholeValue propositionPart successorPart F roundOf score count share isMeet isJoin meetOf joinOf topOf botOf element closedUnder overProps nestedBinders nestedAX fixpointFree universal allBelow firstBelow isPanel latticeOf explicitForm latticeForm reflexive antisymmetric transitive partialOrder meetsAndJoins distributive complementRules require partReading latticeReading elementsOnly modelTest byCode parse formulaReading partStart partSize placed misplaced partsFrom formulasReading modelsReading caseReading pairs joined gapless tab rowSame changedBelow rowAtMost postFixedTest short rulesObeyed spoiled examined accepted opened worked stepped answer moved lentAfter perform replies
 examples-answer = (refl, refl)

@@ -1,5 +1,5 @@
 -- What each call answers and what it makes of the desk. Rests on Desk, Case, View, Refused, Moved, the theory, formula's Answer and
--- the Table of entries and of rounds.
+-- rounds' Table.
 --   answerTo: what an accepted question answers, and what it leaves in the buffers that it is lent, from its view alone
 --   answer, moved, lentAfter: the answer of an accepted call, the desk after it, and what it leaves in the buffers that it is lent
 --   perform: these three (After) of any call, once it is examined (performed); asked, showAnswer: what a question and what show answers
@@ -10,25 +10,25 @@ use Rattle.theory.specs.Value.{valueAt, wholeValue}
 use Rattle.theory.specs.Simulation.{score, share}
 use Rattle.formula.specs.Answer.{factsOf}
 use Rattle.casefile.specs.Reading.{Content, CaseReading, refused, content}
-use Rattle.entries.specs.Table.{tableOf}
-use Rattle.rounds.specs.Table.{simulationTest}
+use Rattle.rounds.specs.Table.{postFixedTest}
 use Rattle.desk.specs.Desk.{Desk, Question, Call, Reply, Answered, replyAlone, wholeTable, callLentBuffers}
-use Rattle.desk.specs.Case.{ops, model1, model2, N2, tableSize, modelIn, formulaIn, operator, entryAt}
-use Rattle.desk.specs.View.{View, viewOf}
+use Rattle.desk.specs.Case.{ops, model1, model2, tableSize, modelIn, formulaIn, operator, entryAt}
+use Rattle.desk.specs.View.{View, givenTable, viewOf}
 use Rattle.desk.specs.Refused.{examined, refusedReply}
 use Rattle.desk.specs.Moved.{opened, stepped, stepAnswer}
 
 -- ---- an accepted call, on the content c
 
 -- 'value gives a formula's element at a state of model 1 or 2; whole on a model', and both 'pass these three on with the element', the formula's
--- facts (request 102); score and share are those of the shown entries; 'judge (..) says yes exactly when it is a simulation'
+-- facts (request 102); score and share are those of the shown entries; judge says yes exactly where 'S at or below F(S) everywhere', S being its
+-- table (request 104)
 abbrev pub answerTo : Question → View → Answered
 answerTo Question.Score v = replyAlone (Reply.Element (score (ops (v .holds)) (model1 (v .holds)) (model2 (v .holds)) (v .shown)))
 answerTo (Question.Value f m q) v = replyAlone (Reply.FormulaValue (valueAt (ops (v .holds)) (modelIn (v .holds) m) (formulaIn (v .holds) f) q) (factsOf (formulaIn (v .holds) f)))
 answerTo (Question.Whole f m) v = replyAlone (Reply.FormulaValue (wholeValue (ops (v .holds)) (modelIn (v .holds) m) (formulaIn (v .holds) f)) (factsOf (formulaIn (v .holds) f)))
 answerTo (Question.Share e) v = replyAlone (Reply.PerCent (share (ops (v .holds)) (tableSize (v .holds)) (entryAt (v .holds) (v .shown)) e))
 answerTo (Question.Judge t) v =
-    replyAlone (Reply.Says (simulationTest (model1 (v .holds)) (model2 (v .holds)) (operator (v .holds)) (tableOf t (N2 (v .holds)))))
+    replyAlone (Reply.Says (postFixedTest (model1 (v .holds)) (model2 (v .holds)) (operator (v .holds)) (ops (v .holds)) (givenTable (v .holds) t)))
 
 -- 'show gives the first N1·N2 bytes of the whole table'
 unfoldable pub answer : Call → Content → Desk → Reply

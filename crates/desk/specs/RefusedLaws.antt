@@ -4,22 +4,23 @@
 --   is-short, open-long, is-spoiled, in-store: which refusal, and when; Unspoiled: neither 11 nor 12 applies
 --   OpenAccepted, open-accepted, OtherAccepted, other-accepted: what an accepted call knows of its desk
 --   Outcome, outcome: what may come of a call that does not open; opens-or-not: a call opens or does not
---   accepted-content, refused-refusal, content-accepted: accepted or refused, and never both
+--   accepted-content, refused-refusal, content-accepted: accepted or refused, and never both; unrefused-accepted: a question that answers no refusal
+--     is accepted
 use Prim.Native.Nat.{ℕ}
 use mathlib.Core.Path.{_≡_, refl, sym, ap, _∙_}
 use mathlib.Core.Bool.{Bool, true, false, cond, not}
 use mathlib.Core.Logic.{_⊎_, inl, inr}
 use mathlib.Core.List.{List}
 use mathlib.Core.Option.{Option, none, some}
-use Rattle.theory.specs.TestLaws.{false-true}
+use Rattle.theory.specs.TestLaws.{false-true, not-failed}
 use Rattle.refusal.specs.declared.Refusal.{Refusal}
 use Rattle.refusal.specs.declared.Refusal.the-variants.{ShortDesk, SpoiledDesk}
 use Rattle.casefile.specs.Reading.{Content, CaseReading, refused, content, caseReading, storeReading}
 use Rattle.casefile.specs.Accepted.{refused-content}
-use Rattle.desk.specs.Desk.{Desk, Call, isOpen, callLentBuffers}
+use Rattle.desk.specs.Desk.{Desk, Question, Call, Reply, isOpen, callLentBuffers}
 use Rattle.desk.specs.View.{viewOf}
-use Rattle.desk.specs.Refused.{short, obeysFor, spoiledAs, Rules, spoiled, callConditions, firstRefusal, afterRules, ofStore, afterShort, examined, isContent, accepted, refusedReply}
-use Rattle.desk.specs.Perform.{perform, performed, answer, moved, lentAfter}
+use Rattle.desk.specs.Refused.{short, obeysFor, spoiledAs, Rules, spoiled, callConditions, firstRefusal, afterRules, ofStore, afterShort, examined, isContent, accepted, numberReply, refusedReply}
+use Rattle.desk.specs.Perform.{perform, performed, asked, answer, moved, lentAfter}
 use Rattle.desk.specs.RulesLaws.{rules-in, spoiled-exactly}
 
 -- ---- 'a refusal alters nothing'
@@ -151,3 +152,6 @@ refused-refusal k d a = go (examined k d) refl a
 pub content-accepted : (k : Call) (d : Desk) (c : Content) → examined k d ≡ content c → accepted k d ≡ true
 unfolding accepted
 content-accepted k d c e = ap isContent e
+
+pub unrefused-accepted : (q : Question) (d : Desk) (x : Reply) → asked q d ≡ x → ((r : Refusal) → numberReply r ≡ x → ⊥) → accepted (Call.Ask q) d ≡ true
+unrefused-accepted q d x p never = not-failed _ (λ a. let r = refused-refusal (Call.Ask q) d a in never (r .0) (sym (ap (λ y. y .reply) (perform-refused (Call.Ask q) d (r .0) (r .1))) ∙ p))

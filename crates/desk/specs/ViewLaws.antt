@@ -1,19 +1,22 @@
--- A question reads a table only at the pairs of states. Rests on View, Refused, Perform, theory's Rounds and Share.
+-- A question reads a table only at the pairs of states. Rests on View, Refused, Perform, theory's Rounds, Share and Loop, rounds' Round.
 --   SameView: views that agree at the pairs of states
 --   conditions-cong, answer-cong: a question has the same first refusal, and the same answer, from two of them
---   entries-cong: the entries of a table in the order of its bytes
-use Prim.Native.Nat.{ℕ, zero, suc, _*_, _/_, _%_, _<_}
-use mathlib.Core.Path.{_≡_, refl, ap}
+--   entries-cong: the entries of a table in the order of its bytes; bytes-table: these bytes hold them
+use Prim.Native.Nat.{ℕ, zero, suc, _+_, _*_, _/_, _%_, _<_}
+use mathlib.Core.Path.{_≡_, refl, ap, ap₂, _∙_}
 use mathlib.Core.Bool.{Bool}
 use mathlib.Core.List.{List, [], _∷_}
-use native.Mathlib.Nat.{mod-lt, div-lt-iff-lt-mul}
+use native.Mathlib.Nat.{mod-lt, div-lt-iff-lt-mul, mul-add-div-right, mul-add-mod-self-right, div-eq-of-lt, mod-eq-of-lt, add-zero}
 use native.Mathlib.Omega.{arith}
 use Rattle.theory.specs.Simulation.{SameTable}
 use Rattle.theory.specs.Rounds.{score-cong}
 use Rattle.theory.specs.Share.{share-cong}
+use Rattle.theory.specs.Loop.{tab-at}
 use Rattle.casefile.specs.Reading.{Content}
+use Rattle.entries.specs.Table.{tableOf}
+use Rattle.rounds.specs.Round.{cell-lt}
 use Rattle.desk.specs.Desk.{Question, Reply, replyAlone}
-use Rattle.desk.specs.Case.{ops, model1, model2, N1, N2, tableSize, entryAt}
+use Rattle.desk.specs.Case.{ops, model1, model2, N1, N2, tableSize, entryAt, tableBytes}
 use Rattle.desk.specs.View.{View}
 use Rattle.desk.specs.Refused.{Condition, conditionTest, firstRefusal}
 use Rattle.desk.specs.Perform.{answerTo}
@@ -31,6 +34,12 @@ entries-cong c S U h i l = let p : 0 < N2 c = not-none (N2 c) l in h (i / N2 c) 
     not-none : (n : ℕ) → i < N1 c * n → 0 < n
     not-none zero l = omega arith
     not-none (suc n) l = omega arith
+
+-- the bytes of a table hold its entries
+pub bytes-table : (c : Content) (S : ℕ → ℕ → ℕ) → SameTable (ops c) (model1 c) (model2 c) (tableOf (tableBytes c S) (N2 c)) S
+bytes-table c S q₁ l q₂ m =
+    tab-at (entryAt c S) (tableSize c) (q₁ * N2 c + q₂) (cell-lt (N1 c) (N2 c) q₁ q₂ l m)
+    ∙ ap₂ S (mul-add-div-right (omega arith) q₁ q₂ ∙ ap (λ (k : ℕ). q₁ + k) (div-eq-of-lt m) ∙ add-zero q₁) (mul-add-mod-self-right q₁ (N2 c) q₂ ∙ mod-eq-of-lt m)
 
 -- two views that differ in their tables alone: condition by condition, and question by question
 module _ (c : Content) (round : ℕ) (settled : Bool) (S U : ℕ → ℕ → ℕ) (h : SameTable (ops c) (model1 c) (model2 c) S U) where

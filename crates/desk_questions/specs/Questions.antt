@@ -1,6 +1,6 @@
 -- What the questions are answered, from what the code found. Rests on desk_check's Held, entries' Table, rounds' Table, share's ShareIn, valuer's Values and
 -- formula's Answer.
---   Readable, caseScore, caseSimulation, rangeTest: the terms of the code's contracts
+--   Readable, caseScore, casePostFixed, rangeTest: the terms of the code's contracts
 --   readable, model-over, formula-on-model, whole-fits, some-entries: a held desk meets what these terms and the functions ask
 --   held-show, held-score, held-share, held-judge, held-whole, held-value: each question answered
 --   share-outside, judge-long, judge-high, whole-outside, value-outside, value-state: each refused with 13
@@ -26,7 +26,7 @@ use Rattle.casefile.specs.Directory.{partCount, partAt}
 use Rattle.casefile.specs.Conditions.{Placed}
 use Rattle.valuer.specs.Values.{ModelOver, ValueAt, WholeValue}
 use Rattle.entries.specs.Table.{Shaped}
-use Rattle.rounds.specs.Table.{scoreIn, simulationIn}
+use Rattle.rounds.specs.Table.{scoreIn, postFixedIn}
 use Rattle.rounds.specs.Round.{byte-at}
 use Rattle.share.specs.ShareIn.{shareIn, shareIn-is}
 use Rattle.desk.specs.Desk.{Desk, Question, Call, Reply, wholeTable}
@@ -48,12 +48,12 @@ pub record Readable (w : List ℕ) (l : Lattice) (b table : List ℕ) : Type 0 w
   pub parts : 3 ≤ partCount b
   pub shaped : Shaped (partAt b 1) (partAt b 2) table
 
--- the score of a table, and whether it is a simulation, for the models of the case b, by the codes w and the numbers l of a lattice
+-- the score of a table, and whether it is at or below F of it, for the models of the case b, by the codes w and the numbers l of a lattice
 abbrev pub caseScore : List ℕ → Lattice → List ℕ → List ℕ → ℕ
 caseScore w l b table = scoreIn w l (partAt b 1) (partAt b 2) table
 
-abbrev pub caseSimulation : List ℕ → Lattice → List ℕ → List ℕ → Bool
-caseSimulation w l b table = simulationIn w l (partAt b 1) (partAt b 2) table
+abbrev pub casePostFixed : List ℕ → Lattice → List ℕ → List ℕ → Bool
+casePostFixed w l b table = postFixedIn w l (partAt b 1) (partAt b 2) table
 
 abbrev pub rangeTest : ℕ → ℕ → ℕ → Bool
 rangeTest f m formulas = ltb f formulas && isModel m
@@ -118,7 +118,7 @@ module _ {d : Desk} {z : Sizes} {w : List ℕ} (h : HeldDesk d z w) where
 
   -- ---- judge
 
-  pub held-judge : (n : ℕ) (b : List ℕ) (x : Bool) → n ≡ z .states1 * z .states2 → eqb (length b) n ≡ true → tableObeys n (z .lattice .size) b ≡ true → x ≡ caseSimulation w (z .lattice) bytes b → Does (Call.Ask (Question.Judge b)) d (Reply.Says x) d
+  pub held-judge : (n : ℕ) (b : List ℕ) (x : Bool) → n ≡ z .states1 * z .states2 → eqb (length b) n ≡ true → tableObeys n (z .lattice .size) b ≡ true → x ≡ casePostFixed w (z .lattice) bytes b → Does (Call.Ask (Question.Judge b)) d (Reply.Says x) d
   held-judge n b x m l r f =
       let l' : eqb (length b) (N1 (h .case .holds) * N2 (h .case .holds)) ≡ true = rw (m, h .case .sizes) at l in
       let r' = rw (m, h .case .sizes) at r in

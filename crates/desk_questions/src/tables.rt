@@ -15,7 +15,7 @@ ghost use mathlib.Core.Path.{_≡_};
 ghost use mathlib.Core.Bool.{cond};
 ghost use Rattle.desk.specs.Desk.{Call, Question, Reply};
 ghost use Rattle.desk_questions.specs.Answer.{Reads, Asks, elementReply, shareReply, judgeReply};
-ghost use Rattle.desk_questions.specs.Questions.{Readable, caseScore, caseSimulation};
+ghost use Rattle.desk_questions.specs.Questions.{Readable, caseScore, casePostFixed};
 
 // ---- show
 
@@ -96,16 +96,16 @@ pub fn share<'a>(
     }
 }
 
-fn simulation_of(w: &Codes, l: Lattice, bytes: &[u8], table: &[u8]) -> bool
+fn post_fixed_of(w: &Codes, l: Lattice, bytes: &[u8], table: &[u8]) -> bool
     requires { ⌜ Readable (now w) l (now bytes) (now table) ⌝ }
-    ensures { λ r. ⌜ r ≡ caseSimulation (now (w .entry)) l (now (bytes .entry)) (now (table .entry)) ⌝ }
+    ensures { λ r. ⌜ r ≡ casePostFixed (now (w .entry)) l (now (bytes .entry)) (now (table .entry)) ⌝ }
 {
     let m1 = casefile::part(bytes, 1);
     let m2 = casefile::part(bytes, 2);
-    rounds::is_simulation(w, l, m1, m2, table)
+    rounds::is_post_fixed(w, l, m1, m2, table)
 }
 
-// Whether a table is a simulation.
+// Whether each entry of a table is at or below that of F of the table.
 pub fn judge(s: Standing, store: &[u8], first: &[u8], second: &[u8], table: &[u8]) -> JudgeAnswer
     ensures { λ r. ⌜ Asks (Question.Judge (now (table .entry))) s (now (store .entry)) (now (first .entry)) (now (second .entry)) (judgeReply r) ⌝ }
 {
@@ -122,7 +122,7 @@ pub fn judge(s: Standing, store: &[u8], first: &[u8], second: &[u8], table: &[u8
                 return JudgeAnswer::Refused(Refusal::OutOfRange);
             }
             let bytes = &store[..STORE_LENGTH];
-            JudgeAnswer::Says(simulation_of(&w, l, bytes, table))
+            JudgeAnswer::Says(post_fixed_of(&w, l, bytes, table))
         }
     }
 }

@@ -6,7 +6,7 @@ ghost use lib.ListN.{length, getD};
 ghost use Rattle.theory.specs.Lists.{tab, written};
 ghost use Rattle.theory.specs.Simulation.{indicator};
 ghost use Rattle.theory.specs.Test.{allBelow};
-ghost use Rattle.elements.specs.Words.{codeIn, negatedCodeIn, valueCode, decodeIn, atMostIn, Coded};
+ghost use Rattle.elements.specs.Words.{codeIn, negatedCodeIn, valueCode, decodeIn, within, atMostIn, Coded};
 
 // An element of the lattice, by its number.
 pub struct Element(pub u8);
@@ -102,6 +102,20 @@ pub fn at_most(w: &Codes, a: Element, b: Element) -> bool
     let x = code(w, a);
     let y = code(w, b);
     (x & y) == x
+}
+
+// Each of `count` bytes of s from `from` on is at or below the element whose code stands at its place in `codes`: up to the first that is not.
+pub fn all_at_most(w: &Codes, s: &[u8], from: usize, count: usize, codes: &[u64; 64]) -> bool
+    requires { ⌜ (from + count ≤ length (now s)) × (count ≤ 64) ⌝ }
+    ensures { λ r. ⌜ r ≡ allBelow count (λ i. within (codeIn (now (w .entry)) (getD (now (s .entry)) (from + i) 0)) (getD (now (codes .entry)) i 0)) ⌝ }
+{
+    for i in 0..count {
+        let x = code(w, Element(s[from + i]));
+        if (x & codes[i]) != x {
+            return false;
+        }
+    }
+    true
 }
 
 // The codes of `count` bytes of s from `from` on, written at the place `at` of out.

@@ -5,7 +5,7 @@
 --   TableCoded, table-itself: a table's codes; InnerCoded: those of its inner joins
 --   WithinTop, propositions-within, row-folded-within: codes are within the top's
 --   joins-of, inner-of, meets-of: the joins and the meets so far, and those of all states
---   entry-decoded: the code of an entry is turned back into F's entry
+--   entry-of, entry-decoded: the code of an entry is that of F's entry, and is turned back into it
 --   code-within, bottom-test, top-test: a code is within the top's, bottom is the word 0, and top the greatest word
 use Prim.Native.Nat.{ℕ, zero, suc, _%_, _≤_, _<_}
 use mathlib.Core.Path.{_≡_, refl, sym, ap, _∙_}
@@ -164,8 +164,9 @@ module _ {w : List ℕ} {l : Lattice} (c : Coded w l) (m₁ m₂ s : List ℕ) w
         (meet-of c (propositions-of q₁ q₂)
         (fold-meets c k _ _ (code-of c (l .top .0)) (λ i m. join-of c (negated-of c (modelOf m₁ .transition q₁ i)) (h .at i (omega arith)))))
 
+    pub entry-of : {J : ℕ → ℕ → ℕ} → InnerCoded w l m₁ m₂ s J q₂ → CodeOf w (entryCode w top m₁ m₂ J q₁ q₂) (entryIn w l m₁ m₂ s q₁ q₂)
+    entry-of h = rw (meet-whole (opsIn w l) (modelOf m₁) (modelOf m₂) (tableOf s (getD m₂ 0 0)) q₁ q₂) at (meets-of h (getD m₁ 0 0) (omega arith))
+
     pub entry-decoded : {J : ℕ → ℕ → ℕ} → InnerCoded w l m₁ m₂ s J q₂ → decodeIn w (entryCode w top m₁ m₂ J q₁ q₂) ≡ entryIn w l m₁ m₂ s q₁ q₂
-    unfolding F meetBefore
-    entry-decoded h =
-        decode-in c (meets-of h (getD m₁ 0 0) (omega arith)) (meet-lt c (propositionPart (opsIn w l) (modelOf m₁) (modelOf m₂) q₁ q₂) _)
-        ∙ meet-whole (opsIn w l) (modelOf m₁) (modelOf m₂) (tableOf s (getD m₂ 0 0)) q₁ q₂
+    unfolding F
+    entry-decoded h = decode-in c (entry-of h) (meet-lt c (propositionPart (opsIn w l) (modelOf m₁) (modelOf m₂) q₁ q₂) _)

@@ -1,5 +1,5 @@
 -- The listing of a case is what a desk answers that was last opened with it and is settled. Rests on Text, and for the proof on Settled,
--- Entries and desk's Demand3Holds.
+-- Entries and desk's ViewLaws and Demand3Holds.
 --   Answers, textOfAnswers: what a settled desk answers, and the text of it
 --   answers-are: it has such answers; listing-answered: whatever they are, the listing is their text
 use Prim.Native.Nat.{ℕ, _+_, _*_, _<_}
@@ -7,22 +7,19 @@ use mathlib.Core.Path.{_≡_, refl, sym, ap, ap₂, _∙_}
 use mathlib.Core.Bool.{true}
 use mathlib.Core.Logic.{inl, inr}
 use mathlib.Core.List.{List, _++_}
-use native.Mathlib.Nat.{mul-add-div-right, mul-add-mod-self-right, div-eq-of-lt, mod-eq-of-lt, add-zero}
-use native.Mathlib.Omega.{arith}
 use lib.ListN.{length}
 use Rattle.theory.specs.Value.{wholeValue}
 use Rattle.theory.specs.Simulation.{SameTable, score}
-use Rattle.theory.specs.Loop.{tab-at}
 use Rattle.formula.specs.declared.FormulaFacts.{FormulaFacts}
 use Rattle.formula.specs.Answer.{factsOf}
 use Rattle.casefile.specs.Reading.{Content}
 use Rattle.entries.specs.Table.{tableOf}
-use Rattle.rounds.specs.Round.{cell-lt}
 use Rattle.desk.specs.Desk.{Desk, Question, Call, Reply}
 use Rattle.desk.specs.Case.{ops, model1, model2, N1, N2, tableSize, modelIn, formulaIn, roundIn, entryAt, tableBytes, IsT}
 use Rattle.desk.specs.Perform.{asked, showAnswer}
 use Rattle.desk.specs.Run.{run, LastOpening, answersSince, roundAfter}
 use Rattle.desk.specs.RefusedLaws.{open-accepted}
+use Rattle.desk.specs.ViewLaws.{bytes-table}
 use Rattle.desk.specs.Listed.{opening-T}
 use Rattle.desk.specs.Demand3.{Claim}
 use Rattle.desk.specs.Demand3Holds.{listed, ranges, whole-next, score-next}
@@ -46,12 +43,6 @@ textOfAnswers c T table e v₁ v₂ =
     lastItem roundsLabel T ++ rowsText (tableOf table (N2 c)) (N1 c) (N2 c) ++ lastItem scoreLabel e ++ each (length (c .formulas)) (λ f. formulaText f (v₁ f) (v₂ f))
 
 -- ---- the proof
-
--- the bytes of a table hold its entries
-bytes-table : (c : Content) (S : ℕ → ℕ → ℕ) → SameTable (ops c) (model1 c) (model2 c) (tableOf (tableBytes c S) (N2 c)) S
-bytes-table c S q₁ l q₂ m =
-    tab-at (entryAt c S) (tableSize c) (q₁ * N2 c + q₂) (cell-lt (N1 c) (N2 c) q₁ q₂ l m)
-    ∙ ap₂ S (mul-add-div-right (omega arith) q₁ q₂ ∙ ap (λ (k : ℕ). q₁ + k) (div-eq-of-lt m) ∙ add-zero q₁) (mul-add-mod-self-right q₁ (N2 c) q₂ ∙ mod-eq-of-lt m)
 
 same-element : (x : Reply) (a b : ℕ) → x ≡ Reply.Element a → x ≡ Reply.Element b → a ≡ b
 same-element x a b p q = cc

@@ -4,6 +4,7 @@
 --   round-none, round-more, round-reached: no row, one row more, all rows
 --   round-done, RoundDone: after all rows of round r the table is round r + 1, unchanged exactly when the two are equal
 --   round-test, simulation-test: a round that changes nothing is the test for a simulation, which exactly the simulations pass
+--   post-fixed-test: the test whether S is at or below G(S) says so
 --   top-round, byte-at, shown-bytes, cell-lt: round 0; the entries as bytes
 --   Worked, worked-none, worked-more, worked-round, row-elements: the rows alone
 --   changed-none, changed-more, unchanged-simulation, unchanged-round: what changed alone
@@ -22,7 +23,7 @@ use lib.Seq.{ext-getD, getD-take, length-take-le}
 use Rattle.theory.specs.Lattice.{Ops, Element}
 use Rattle.theory.specs.Model.{Model}
 use Rattle.theory.specs.Part.{modelOf}
-use Rattle.theory.specs.Simulation.{F, roundOf, SameTable, FixedBy}
+use Rattle.theory.specs.Simulation.{F, roundOf, SameTable, FixedBy, PostFixedBy}
 use Rattle.theory.specs.Rounds.{F-cong}
 use Rattle.theory.specs.Loop.{tab-at, tab-length}
 use Rattle.theory.specs.Lists.{tab}
@@ -32,7 +33,7 @@ use Rattle.theory.specs.TestLaws.{not-and, all-at, all-in}
 use Rattle.elements.specs.declared.Lattice.{Lattice}
 use Rattle.model.specs.Places.{row-le}
 use Rattle.entries.specs.Table.{tableOf, FIn}
-use Rattle.rounds.specs.Table.{rowWritten, entrySame, rowSame, rowChanged, changedBelow, simulationTest}
+use Rattle.rounds.specs.Table.{rowWritten, entrySame, rowSame, rowChanged, changedBelow, simulationTest, entryAtMost, rowAtMost, postFixedTest}
 
 -- in `out` the rows below q are those of F S, and every byte past them is that of `before`
 pub record Worked (M₁ M₂ : Model ℕ) (G : (ℕ → ℕ → ℕ) → ℕ → ℕ → ℕ) (S : ℕ → ℕ → ℕ) (before : List ℕ) (q : ℕ) (out : List ℕ) : Type 0 where
@@ -127,6 +128,15 @@ module _ (O : Ops ℕ) (M₁ M₂ : Model ℕ) (G : (ℕ → ℕ → ℕ) → �
   simulation-test S = (
     λ t q₁ l q₂ m. eqb-true _ _ (all-at _ (entrySame M₁ M₂ G S q₁) (all-at _ (rowSame M₁ M₂ G S) t q₁ l) q₂ m),
     λ s. all-in _ _ (λ q₁ l. all-in _ _ (λ q₂ m. eq-eqb _ _ (s q₁ l q₂ m))),
+  )
+
+  -- ---- the test whether a table is at or below G of it
+
+  pub post-fixed-test : (S : ℕ → ℕ → ℕ) → (postFixedTest M₁ M₂ G O S ≡ true) ↔ PostFixedBy O M₁ M₂ G S
+  unfolding postFixedTest rowAtMost
+  post-fixed-test S = (
+    λ t q₁ l q₂ m. all-at _ (entryAtMost M₁ M₂ G O S q₁) (all-at _ (rowAtMost M₁ M₂ G O S) t q₁ l) q₂ m,
+    λ s. all-in _ _ (λ q₁ l. all-in _ _ (λ q₂ m. s q₁ l q₂ m)),
   )
 
   -- ---- whether a round changed anything

@@ -1,9 +1,8 @@
 -- One row: where it stands in a table, and what a loop over a row's entries has done so far.
 -- Rests on entries' Table, theory's Test and Written, and model's Places.
 --   RowAt, row-at: where a row stands; held-by: a table is held
---   same-eqb, differ-eqb: the test of two bytes that stand for two entries
 --   RowSoFar: the entries so far are written and compared; row-none, row-more, row-all: its begin, turn and end
---   RowOut, rowSameAs: the elements of codes written and compared; compared alone
+--   RowOut: the elements of codes written and compared
 --   row-written: at the row's end, what `row` says
 use Prim.Native.Nat.{ℕ, _+_, _*_, _≤_, _<_}
 use mathlib.Core.Path.{_≡_, refl, sym, _∙_}
@@ -42,13 +41,6 @@ row-at m₁ m₂ s q₁ n₂ w h l e f =
       within = row-le q₁ (getD m₁ 0 0) (getD m₂ 0 0) l;
     })
 
--- d and e stand for x and y: the test whether x equals y
-pub same-eqb : {d e x y : ℕ} → d ≡ x → e ≡ y → d ≡ e → eqb x y ≡ true
-same-eqb p q z = eq-eqb _ _ (sym p ∙ z ∙ q)
-
-pub differ-eqb : {d e x y : ℕ} → d ≡ x → e ≡ y → (d ≡ e → ⊥) → eqb x y ≡ false
-differ-eqb p q z = ne-eqb _ _ (λ w. z (p ∙ w ∙ sym q))
-
 -- ---- a loop over the entries of a row: f is written from `at` on and compared with g
 
 pub record RowSoFar (changed : Bool) (at : ℕ) (f g : ℕ → ℕ) (before : List ℕ) (q : ℕ) (out : List ℕ) : Type 0 where
@@ -75,10 +67,6 @@ row-all {q = q} {n = n} u a b = let e : q ≡ n = omega arith in rw e at u
 -- the elements of n codes are written into `before` from `at` on, which gives `out`; `changed` says whether any differs from that of s
 abbrev pub RowOut : List ℕ → List ℕ → List ℕ → ℕ → ℕ → List ℕ → List ℕ → Bool → Type 0
 RowOut w codes s at n before out changed = RowSoFar changed at (λ q. decodeIn w (getD codes q 0)) (λ q. getD s (at + q) 0) before n out
-
--- the elements of n codes are the bytes of s from `at` on
-unfoldable pub rowSameAs : List ℕ → List ℕ → List ℕ → ℕ → ℕ → Bool
-rowSameAs w codes s at n = allBelow n (λ q. eqb (getD s (at + q) 0) (decodeIn w (getD codes q 0)))
 
 pub row-written : {m₁ m₂ : List ℕ} {q₁ n₂ at : ℕ} {f g : ℕ → ℕ} {before out : List ℕ} {changed : Bool} → RowAt m₁ m₂ q₁ n₂ at → n₂ ≡ getD m₂ 0 0 → RowSoFar changed at f g before n₂ out → (out ≡ written (q₁ * getD m₂ 0 0) (tab f (getD m₂ 0 0) 0) before) × (changed ≡ not (allBelow (getD m₂ 0 0) (λ i. eqb (g i) (f i))))
 row-written h e u = (rw (← h .here, ← e) (u .out-is), rw (← e) (u .changed-is))

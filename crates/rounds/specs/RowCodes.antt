@@ -1,5 +1,6 @@
 -- A row of F from the codes of its entries. Rests on Table, Row and Codes, and entries' Table and Codes.
---   row-in: the row that is written, and whether it differs; row-same-in: whether it is the same
+--   row-in: the row that is written, and whether it differs
+--   rowWithin, row-within: whether a row of the table is at or below it, by codes; post-fixed-in: whether all are
 use Prim.Native.Nat.{ℕ, _+_, _<_}
 use mathlib.Core.Path.{_≡_, sym, ap, _∙_}
 use mathlib.Core.Bool.{Bool, not}
@@ -13,11 +14,11 @@ use Rattle.theory.specs.Loop.{tab-at, tab-length, filled-all}
 use Rattle.theory.specs.Test.{allBelow}
 use Rattle.theory.specs.TestLaws.{all-cong}
 use Rattle.elements.specs.declared.Lattice.{Lattice}
-use Rattle.elements.specs.Words.{codeIn, decodeIn, Coded}
+use Rattle.elements.specs.Words.{codeIn, decodeIn, within, Coded}
 use Rattle.entries.specs.Table.{entryIn}
-use Rattle.entries.specs.Codes.{entryCode, entry-decoded}
-use Rattle.rounds.specs.Table.{rowSame, RowIn, rowSameIn}
-use Rattle.rounds.specs.Row.{RowAt, RowSoFar, RowOut, rowSameAs, row-written}
+use Rattle.entries.specs.Codes.{codesOfTable, entryCode, entry-of, entry-decoded}
+use Rattle.rounds.specs.Table.{rowSame, rowAtMost, postFixedTest, RowIn, postFixedIn}
+use Rattle.rounds.specs.Row.{RowAt, RowSoFar, RowOut, row-written}
 use Rattle.rounds.specs.Codes.{byRow, JoinsOf, joins-inner}
 
 tab-cong : (f g : ℕ → ℕ) (n : ℕ) → ((i : ℕ) → i < n → f i ≡ g i) → tab f n 0 ≡ tab g n 0
@@ -39,6 +40,20 @@ module _ {w : List ℕ} {l : Lattice} (c : Coded w l) {m₁ m₂ s joins codes :
       record { out-is = u .out-is ∙ ap (λ (x : List ℕ). written at x before) (tab-cong _ _ n₂ decoded); changed-is = u .changed-is ∙ ap not same-tests } in
       rw (a .here) at (row-written a e v)
 
-  pub row-same-in : rowSameAs w codes s at n₂ ≡ rowSameIn w l m₁ m₂ s q₁
-  unfolding rowSameAs rowSame
-  row-same-in = same-tests ∙ rw (a .here, e)
+-- ---- the test whether a table is at or below F of it
+
+-- row q₁ of s, by its codes, is within the codes of F's row, which are worked from the inner joins
+abbrev pub rowWithin : List ℕ → ℕ → List ℕ → List ℕ → List ℕ → List ℕ → ℕ → Bool
+rowWithin w top m₁ m₂ s joins q₁ = allBelow (getD m₂ 0 0) (λ q₂. within (codesOfTable w m₂ s q₁ q₂) (entryCode w top m₁ m₂ (byRow joins) q₁ q₂))
+
+-- from the codes of F's row
+pub row-within : (w : List ℕ) (top : ℕ) (m₁ m₂ s joins codes : List ℕ) {q₁ n₂ at : ℕ} → RowAt m₁ m₂ q₁ n₂ at → n₂ ≡ getD m₂ 0 0
+    → Filled (entryCode w top m₁ m₂ (byRow joins) q₁) (getD m₂ 0 0) codes → allBelow n₂ (λ q. within (codeIn w (getD s (at + q) 0)) (getD codes q 0)) ≡ rowWithin w top m₁ m₂ s joins q₁
+row-within w top m₁ m₂ s joins codes {n₂ = n₂} {at = at} a e f = all-cong n₂ _ _ (λ q k. ap (within (codeIn w (getD s (at + q) 0))) (f .at q (omega (arith, e)))) ∙ rw (a .here, e)
+
+-- the code of an entry of F is that of its element, so that the rows are at or below F's
+pub post-fixed-in : {w : List ℕ} {l : Lattice} (c : Coded w l) {m₁ m₂ s joins : List ℕ} → JoinsOf w m₁ m₂ s joins
+    → allBelow (getD m₁ 0 0) (rowWithin w (codeIn w (l .top .0)) m₁ m₂ s joins) ≡ postFixedIn w l m₁ m₂ s
+unfolding postFixedTest rowAtMost
+post-fixed-in {w} c {m₁} {m₂} {s} j =
+    all-cong _ _ _ (λ q₁ _. all-cong _ _ _ (λ q₂ m. ap (within (codesOfTable w m₂ s q₁ q₂)) (entry-of c m₁ m₂ s q₁ q₂ (joins-inner c j q₂ m) .eq)))

@@ -3,14 +3,16 @@
 -- and entries' Table.
 --   Room: what the functions ask of a table to write into
 --   rowWritten, entrySame, rowSame, rowChanged, changedBelow, simulationTest: a row in its place, what it changes, S = G(S)
+--   entryAtMost, rowAtMost, postFixedTest: S at or below G(S)
 --   scoreIn: score
---   RowIn, rowSameIn, simulationIn: what working a row does, the tests on bytes
+--   RowIn, postFixedIn: what working a row does, the test on bytes
 use Prim.Native.Nat.{ℕ, _*_, _≤_}
 use mathlib.Core.Path.{_≡_}
 use mathlib.Core.Bool.{Bool, not}
 use mathlib.Core.List.{List}
 use lib.Dec.{eqb}
 use lib.ListN.{length, getD}
+use Rattle.theory.specs.Lattice.{Ops}
 use Rattle.theory.specs.Model.{Model}
 use Rattle.theory.specs.Part.{modelOf}
 use Rattle.theory.specs.Simulation.{score}
@@ -48,6 +50,18 @@ module _ (M₁ M₂ : Model ℕ) (G : (ℕ → ℕ → ℕ) → ℕ → ℕ → 
   unfoldable pub simulationTest : (ℕ → ℕ → ℕ) → Bool
   simulationTest S = allBelow (M₁ .states) (rowSame S)
 
+  module _ (O : Ops ℕ) where
+    -- S is at or below G S at (q1, q2); in row q1
+    abbrev pub entryAtMost : (ℕ → ℕ → ℕ) → ℕ → ℕ → Bool
+    entryAtMost S q₁ q₂ = O .atMost (S q₁ q₂) (G S q₁ q₂)
+
+    unfoldable pub rowAtMost : (ℕ → ℕ → ℕ) → ℕ → Bool
+    rowAtMost S q₁ = allBelow (M₂ .states) (entryAtMost S q₁)
+
+    -- S at or below G(S), as a test; with F for G it is request 104's 'S at or below F(S) everywhere'
+    unfoldable pub postFixedTest : (ℕ → ℕ → ℕ) → Bool
+    postFixedTest S = allBelow (M₁ .states) (rowAtMost S)
+
 -- ---- the terms of the contracts, with the codes w and the numbers l of a lattice
 
 module _ (w : List ℕ) (l : Lattice) (m₁ m₂ : List ℕ) where
@@ -62,9 +76,6 @@ module _ (w : List ℕ) (l : Lattice) (m₁ m₂ : List ℕ) where
         (out ≡ rowWritten (modelOf m₁) (modelOf m₂) (FIn w l m₁ m₂) (tableOf s (getD m₂ 0 0)) q₁ before)
         × (changed ≡ rowChanged (modelOf m₁) (modelOf m₂) (FIn w l m₁ m₂) (tableOf s (getD m₂ 0 0)) q₁)
 
-    -- row q₁ of s is that of F of s; all rows are
-    abbrev pub rowSameIn : ℕ → Bool
-    rowSameIn q₁ = rowSame (modelOf m₁) (modelOf m₂) (FIn w l m₁ m₂) (tableOf s (getD m₂ 0 0)) q₁
-
-    abbrev pub simulationIn : Bool
-    simulationIn = simulationTest (modelOf m₁) (modelOf m₂) (FIn w l m₁ m₂) (tableOf s (getD m₂ 0 0))
+    -- s is at or below F of s
+    abbrev pub postFixedIn : Bool
+    postFixedIn = postFixedTest (modelOf m₁) (modelOf m₂) (FIn w l m₁ m₂) (opsIn w l) (tableOf s (getD m₂ 0 0))

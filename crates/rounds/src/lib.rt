@@ -1,4 +1,4 @@
-// The simulation operator on tables that are held as bytes: a row, a round, whether a table is a simulation, and score. Everything is worked on
+// The simulation operator on tables that are held as bytes: a row, a round, whether a table is at or below F of it, and score. Everything is worked on
 // the codes of elements (crate `elements`), and an entry is turned back into its element once. A row alone is worked entry by entry (crate
 // `entries`), a round by the inner joins that its rows share.
 //   columns: the codes of all rows of a round
@@ -20,9 +20,9 @@ ghost use Rattle.theory.specs.Part.{ModelShape};
 ghost use Rattle.elements.specs.Words.{Coded};
 ghost use Rattle.entries.specs.Table.{Shaped};
 ghost use Rattle.entries.specs.Words.{rowWords};
-ghost use Rattle.rounds.specs.Table.{Room, RowIn, scoreIn, simulationIn};
+ghost use Rattle.rounds.specs.Table.{Room, RowIn, scoreIn, postFixedIn};
 ghost use Rattle.rounds.specs.Round.{RoundIn};
-ghost use Rattle.rounds.specs.Row.{RowOut, rowSameAs};
+ghost use Rattle.rounds.specs.Row.{RowOut};
 ghost use Rattle.rounds.specs.Codes.{initialCode, joinOf, JoinsOf};
 ghost use Rattle.rounds.specs.Early.{TopOf};
 
@@ -127,27 +127,13 @@ fn inner_joins(w: &Codes, top: u64, m1: &[u8], m2: &[u8], s: &[u8], joins: &mut 
     all_joins(w, top, m2, &table, n1, joins);
 }
 
-// ---- the test for a simulation
+// ---- the test against F
 
-// Whether the elements of n codes are the bytes of s from `at` on: they are compared up to the first that differs.
-fn row_same(w: &Codes, l: Lattice, codes: &[u64; 64], s: &[u8], at: usize, n: usize) -> bool
-    requires { ⌜ Coded (now w) l × (n ≤ 64) × (at + n ≤ length (now s)) ⌝ }
-    ensures { λ r. ⌜ r ≡ rowSameAs (now (w .entry)) (now (codes .entry)) (now (s .entry)) at n ⌝ }
-{
-    for q in 0..n {
-        let byte = s[at + q];
-        let e = elements::decode(w, l, codes[q], Element(byte));
-        if byte != e.0 {
-            return false;
-        }
-    }
-    true
-}
-
-// Whether the table s is a simulation.
-pub fn is_simulation(w: &Codes, l: Lattice, m1: &[u8], m2: &[u8], s: &[u8]) -> bool
+// Whether each entry of the table s is at or below that of F of s: row by row, up to the first entry that is not. No code is turned back into an
+// element.
+pub fn is_post_fixed(w: &Codes, l: Lattice, m1: &[u8], m2: &[u8], s: &[u8]) -> bool
     requires { ⌜ Coded (now w) l × Shaped (now m1) (now m2) (now s) ⌝ }
-    ensures { λ r. ⌜ r ≡ simulationIn (now (w .entry)) l (now (m1 .entry)) (now (m2 .entry)) (now (s .entry)) ⌝ }
+    ensures { λ r. ⌜ r ≡ postFixedIn (now (w .entry)) l (now (m1 .entry)) (now (m2 .entry)) (now (s .entry)) ⌝ }
 {
     let n1 = model::states(m1);
     let n2 = model::states(m2);
@@ -157,7 +143,7 @@ pub fn is_simulation(w: &Codes, l: Lattice, m1: &[u8], m2: &[u8], s: &[u8]) -> b
     let mut codes = [0u64; 64];
     for q1 in 0..n1 {
         row_from(w, top, m1, m2, &joins, State(q1 as u8), &mut codes);
-        if !row_same(w, l, &codes, s, q1 * n2, n2) {
+        if !elements::all_at_most(w, s, q1 * n2, n2, &codes) {
             return false;
         }
     }

@@ -1,4 +1,4 @@
-// The calls by value on the worked examples of document 01 and of requests 101 and 102. Each line of the input is a call: its word, and the bytes
+// The calls by value on the worked examples of document 01 and of requests 101, 102 and 104. Each line of the input is a call: its word, and the bytes
 // that it takes, in hexadecimal. The table is shown after each step. A line that begins with # is printed as it is.
 use desk_check::Standing;
 use desk_moves::OpenAnswer;

@@ -1,5 +1,5 @@
 // The worked examples 1 to 4 and 6 of document 01, and one for request 103, by the functions on tables: each round, how many pairs its entries looked at,
-// T, score, and the shares as of request 101.
+// whether its table is at or below F of it (request 104), T, score, and the shares as of request 101.
 use elements::Codes;
 use elements::Element;
 use elements::Lattice;
@@ -64,6 +64,17 @@ fn show_all_pairs(w: &Codes, l: Lattice, m1: &[u8], m2: &[u8], s: &[u8])
     }
 }
 
+// Whether each entry of a table is at or below that of F of the table.
+fn show_sound(w: &Codes, l: Lattice, m1: &[u8], m2: &[u8], s: &[u8])
+    requires { ⌜ Coded (now w) l × Shaped (now m1) (now m2) (now s) ⌝ }
+{
+    if rounds::is_post_fixed(w, l, m1, m2, s) {
+        test_printing::say(b"sound\n");
+    } else {
+        test_printing::say(b"not sound\n");
+    }
+}
+
 // What is said of the round that changed nothing.
 fn show_settled(w: &Codes, l: Lattice, m1: &[u8], m2: &[u8], s: &[u8], r: usize)
     requires { ⌜ Coded (now w) l × Shaped (now m1) (now m2) (now s) ⌝ }
@@ -71,11 +82,6 @@ fn show_settled(w: &Codes, l: Lattice, m1: &[u8], m2: &[u8], s: &[u8], r: usize)
     say(b"settled ", r);
     let e = rounds::score(w, l, m1, m2, s);
     say(b"score ", e.0 as usize);
-    if rounds::is_simulation(w, l, m1, m2, s) {
-        test_printing::say(b"a simulation\n");
-    } else {
-        test_printing::say(b"no simulation\n");
-    }
 }
 
 // ---- an example
@@ -94,6 +100,7 @@ fn settle(w: &Codes, l: Lattice, m1: &[u8], m2: &[u8])
         let changed = rounds::round(w, l, m1, m2, &s, &mut out);
         show_round(r, &out, n1, n2);
         show_all_pairs(w, l, m1, m2, &s);
+        show_sound(w, l, m1, m2, &out);
         if !changed {
             show_settled(w, l, m1, m2, &out, r);
             return;

@@ -13,7 +13,7 @@ use Rattle.theory.specs.Lattice.{Ops, Laws, AtMost, imp, bigMeet, bigJoi
 use Rattle.theory.specs.Model.{Model}
 use Rattle.theory.specs.Formula.{Formula, bottom, top, prop, negated, var, or, and, AX, EX, mu, nu, closedUnder, universal, fixpointFree, overProps, nestedAX, UniversalSentence}
 use Rattle.theory.specs.Value.{iterate, bind, allNext, someNext, eval, enough, valueAt, wholeValue}
-use Rattle.theory.specs.Simulation.{propositionPart, successorPart, F, roundOf, round, AtMostTable, Bounds, FirstUnchanged, score}
+use Rattle.theory.specs.Simulation.{propositionPart, successorPart, F, roundOf, round, PostFixedBy, Bounds, FirstUnchanged, score}
 use Rattle.theory.specs.Folds.{bigMeet-le, bigMeet-mono, bigJoin-lub, join-bigMeet, meet-mono, join-mono, imp-mono, imp-meet, imp-join, imp-bot, imp-top, imp-neg, iff-l, iff-r, de-morgan-join}
 use Rattle.theory.specs.TestLaws.{and-l, and-r, false-true}
 use Rattle.theory.specs.Fixpoint.{applications-le}
@@ -86,7 +86,7 @@ module _ {A : Type 0} {O : Ops A} (L : Laws O) (M₁ M₂ : Model A) where
 
   -- ---- for a table at or below its F: every universal formula, fixpoints among them
 
-  module _ (S : ℕ → ℕ → A) (sound : AtMostTable O M₁ M₂ S (F O M₁ M₂ S)) where
+  module _ (S : ℕ → ℕ → A) (sound : PostFixedBy O M₁ M₂ (F O M₁ M₂) S) where
     bounds-iterate : (f g : (ℕ → A) → ℕ → A) → ((x y : ℕ → A) → Bounds O M₁ M₂ S x y → Bounds O M₁ M₂ S (f x) (g y)) → (x y : ℕ → A) → Bounds O M₁ M₂ S x y → (t : ℕ) → Bounds O M₁ M₂ S (iterate t f x) (iterate t g y)
     unfolding iterate
     bounds-iterate f g h x y b zero = b

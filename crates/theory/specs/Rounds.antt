@@ -5,11 +5,13 @@
 --   rounds-descend, below-rounds, round-element: theorem 3
 --   T-exists, T-unique, T-at-most, T-at-most-size, rounds-lower, T-of-one-element: theorem 4
 --   settled-greatest, settled-below, above-settled: theorem 5
+--   post-fixed-below, round-post-fixed: S at or below F(S) lies at or below every greatest simulation; which rounds are so
 --   stays, fixed-at-T, descend, below-every, fixed-below, rounds-element, exists-T, T-within: the same of any operator like F
 use Prim.Native.Nat.{ℕ, zero, suc, _+_, _*_, _-_, _≤_, _<_}
 use mathlib.Core.Path.{_≡_, refl, sym, ap, _∙_, subst}
+use mathlib.Core.Logic.{_↔_, ⊎-elim}
 use mathlib.Core.List.{List}
-use native.Mathlib.Nat.{not-suc-le-zero, mul-zero}
+use native.Mathlib.Nat.{not-suc-le-zero, eq-or-lt-of-le, mul-zero}
 use native.Mathlib.Numerals.{sub-one}
 use native.Mathlib.Decide.{le-ind}
 use native.Mathlib.Omega.{arith}
@@ -17,7 +19,7 @@ use lib.ListN.{length}
 use Rattle.theory.specs.Lattice.{Ops, Laws, AtMost, Element, Chain, LongestChain, imp}
 use Rattle.theory.specs.Model.{Model}
 use Rattle.theory.specs.Value.{someNext}
-use Rattle.theory.specs.Simulation.{successorPart, F, round, roundOf, SameTable, AtMostTable, FixedBy, FirstUnchangedOf, FirstUnchanged, GreatestSimulation, score}
+use Rattle.theory.specs.Simulation.{successorPart, F, round, roundOf, SameTable, AtMostTable, FixedBy, PostFixedBy, FirstUnchangedOf, FirstUnchanged, GreatestSimulation, score}
 use Rattle.theory.specs.Folds.{meet-mono, bigMeet-cong, bigJoin-cong}
 use Rattle.theory.specs.Finite.{First}
 use Rattle.theory.specs.Descent.{Unlowered, lowerings, first-unlowered, lowerings-le, downwards, apart-most}
@@ -83,12 +85,12 @@ module _ {A : Type 0} {O : Ops A} (L : Laws O) (M₁ M₂ : Model A) where
     descend (suc r) q₁ q₂ = mono _ _ (λ q₁' l q₂' m. descend r q₁' q₂') q₁ q₂
 
     -- a table that G does not lower lies at or below every round
-    pub below-every : (S : ℕ → ℕ → A) → AtMostTable O M₁ M₂ S (G S) → (r : ℕ) → AtMostTable O M₁ M₂ S (roundOf O M₁ M₂ G r)
+    pub below-every : (S : ℕ → ℕ → A) → PostFixedBy O M₁ M₂ G S → (r : ℕ) → AtMostTable O M₁ M₂ S (roundOf O M₁ M₂ G r)
     unfolding roundOf
     below-every S h zero q₁ l q₂ m = L .top-max _
     below-every S h (suc r) q₁ l q₂ m = L .trans (h q₁ l q₂ m) (mono _ _ (below-every S h r) q₁ q₂)
 
-    pub fixed-below : (S : ℕ → ℕ → A) → FixedBy O M₁ M₂ G S → AtMostTable O M₁ M₂ S (G S)
+    pub fixed-below : (S : ℕ → ℕ → A) → FixedBy O M₁ M₂ G S → PostFixedBy O M₁ M₂ G S
     fixed-below S s q₁ l q₂ m = rw (← s q₁ l q₂ m) (L .rfl _)
 
     -- all rounds together lower at most N1·N2·(h − 1) entries
@@ -133,7 +135,7 @@ module _ {A : Type 0} {O : Ops A} (L : Laws O) (M₁ M₂ : Model A) where
   pub rounds-descend : (r q₁ q₂ : ℕ) → AtMost O (round O M₁ M₂ (suc r) q₁ q₂) (round O M₁ M₂ r q₁ q₂)
   rounds-descend = descend (F O M₁ M₂) (λ S U. F-mono)
 
-  pub below-rounds : (S : ℕ → ℕ → A) → AtMostTable O M₁ M₂ S (F O M₁ M₂ S) → (r : ℕ) → AtMostTable O M₁ M₂ S (round O M₁ M₂ r)
+  pub below-rounds : (S : ℕ → ℕ → A) → PostFixedBy O M₁ M₂ (F O M₁ M₂) S → (r : ℕ) → AtMostTable O M₁ M₂ S (round O M₁ M₂ r)
   below-rounds = below-every (F O M₁ M₂) (λ S U. F-mono)
 
   pub round-element : (r q₁ q₂ : ℕ) → Element O (round O M₁ M₂ r q₁ q₂)
@@ -163,9 +165,41 @@ module _ {A : Type 0} {O : Ops A} (L : Laws O) (M₁ M₂ : Model A) where
   pub settled-greatest : (T : ℕ) → FirstUnchanged O M₁ M₂ T → GreatestSimulation O M₁ M₂ (round O M₁ M₂ T)
   settled-greatest T f = record { isFixed = fixed-at-T O M₁ M₂ (F O M₁ M₂) (λ S U. F-cong O M₁ M₂) T f; greatest = λ U u. below-rounds U (fixed-below (F O M₁ M₂) (λ S U. F-mono) U u) T }
 
-  pub settled-below : (T : ℕ) → FirstUnchanged O M₁ M₂ T → AtMostTable O M₁ M₂ (round O M₁ M₂ T) (F O M₁ M₂ (round O M₁ M₂ T))
+  pub settled-below : (T : ℕ) → FirstUnchanged O M₁ M₂ T → PostFixedBy O M₁ M₂ (F O M₁ M₂) (round O M₁ M₂ T)
   settled-below T f = fixed-below (F O M₁ M₂) (λ S U. F-mono) _ (settled-greatest T f .isFixed)
 
   -- 'Each entry is at or above the greatest simulation's.'
   pub above-settled : (T : ℕ) → FirstUnchanged O M₁ M₂ T → (r : ℕ) → AtMostTable O M₁ M₂ (round O M₁ M₂ T) (round O M₁ M₂ r)
   above-settled T f r = below-rounds (round O M₁ M₂ T) (settled-below T f) r
+
+  -- ---- tables at or below their F (request 104)
+
+  -- such a table lies at or below the greatest simulation, whatever it is
+  pub post-fixed-below : (S : ℕ → ℕ → A) → PostFixedBy O M₁ M₂ (F O M₁ M₂) S → (U : ℕ → ℕ → A) → GreatestSimulation O M₁ M₂ U → AtMostTable O M₁ M₂ S U
+  post-fixed-below S h U g =
+      let w = exists-T (F O M₁ M₂) (λ S U. F-mono) F-element (O .size) (chain-size L) in
+      λ q₁ l q₂ m. L .trans (below-rounds S h (w .0) q₁ l q₂ m) (g .greatest _ (settled-greatest (w .0) (w .2) .isFixed) q₁ l q₂ m)
+
+  -- round r is such a table exactly from round T − 1 on, which equals round T: before that a round lowers an entry
+  pub round-post-fixed : (T : ℕ) → FirstUnchanged O M₁ M₂ T → (r : ℕ) → PostFixedBy O M₁ M₂ (F O M₁ M₂) (round O M₁ M₂ r) ↔ (T ≤ r + 1)
+  unfolding roundOf
+  round-post-fixed T f r = (first, last)
+    where
+      first : PostFixedBy O M₁ M₂ (F O M₁ M₂) (round O M₁ M₂ r) → T ≤ r + 1
+      first h =
+          let same : SameTable O M₁ M₂ (round O M₁ M₂ (suc r)) (round O M₁ M₂ r) = λ q₁ l q₂ m. L .antisym (round-element (suc r) q₁ q₂) (round-element r q₁ q₂) (rounds-descend r q₁ q₂) (h q₁ l q₂ m) in
+          let x : ¬ (suc r < T) = λ l. f .least (suc r) (omega arith) l (subst (λ (n : ℕ). SameTable O M₁ M₂ (round O M₁ M₂ (suc r)) (round O M₁ M₂ n)) (sym (sub-one (suc r))) same) in
+          omega arith
+
+      last : T ≤ r + 1 → PostFixedBy O M₁ M₂ (F O M₁ M₂) (round O M₁ M₂ r)
+      last l q₁ k q₂ m = rw (same q₁ k q₂ m) (L .rfl _)
+        where
+          F-stays : (n : ℕ) → T ≤ n → SameTable O M₁ M₂ (round O M₁ M₂ n) (round O M₁ M₂ T)
+          F-stays = stays O M₁ M₂ (F O M₁ M₂) (λ S U. F-cong O M₁ M₂) T f
+
+          same : SameTable O M₁ M₂ (round O M₁ M₂ (suc r)) (round O M₁ M₂ r)
+          same =
+              ⊎-elim
+              (λ (e : T ≡ suc r). let z : T - 1 ≡ r = omega arith in rw (z, e) at (f .unchanged))
+              (λ (e : T < suc r). λ q₁ k q₂ m. F-stays (suc r) (omega arith) q₁ k q₂ m ∙ sym (F-stays r (omega arith) q₁ k q₂ m))
+              (eq-or-lt-of-le (omega arith))

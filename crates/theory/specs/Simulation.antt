@@ -3,6 +3,7 @@
 --   AllPairs, SameTable, AtMostTable, Bounds: tables at the pairs of states
 --   round, FirstUnchanged, Simulation, GreatestSimulation: the rounds, T, and the simulations; of any operator roundOf, FirstUnchangedOf,
 --     FixedBy, GreatestFixedBy
+--   PostFixedBy: S at or below F(S), of any operator
 --   score; share, by indicator, count, goesUp and perCent
 use Prim.Native.Nat.{ℕ, zero, suc, _+_, _*_, _-_, _/_, _%_, _<_}
 use mathlib.Core.Path.{_≡_}
@@ -66,6 +67,10 @@ module _ {A : Type 0} (O : Ops A) (M₁ M₂ : Model A) where
     pub record GreatestFixedBy (S : ℕ → ℕ → A) : Type 0 where
       pub isFixed : FixedBy S
       pub greatest : (U : ℕ → ℕ → A) → FixedBy U → AtMostTable U S
+
+    -- 'S at or below F(S) everywhere' (request 104): S is a post-fixed point of G, which the request calls sound
+    abbrev pub PostFixedBy : (ℕ → ℕ → A) → Type 0
+    PostFixedBy S = AtMostTable S (G S)
 
   abbrev pub round : ℕ → ℕ → ℕ → A
   round = roundOf F

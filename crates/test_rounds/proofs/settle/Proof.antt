@@ -32,19 +32,24 @@ show-all-pairs-requires c κs =
     let p = c .before .before .before .before .before .before .before .before .before .before .before .before .before .pre in
     (p .0, record { first = p .1; second = p .2; same-propositions = p .3; held = omega arith })
 
+show-sound-requires : tie.Need-show-sound-requires Inv-loop μ-loop
+show-sound-requires c κs =
+    let p = c .before .before .before .before .before .before .before .before .before .before .before .before .before .before .before .pre in
+    (p .0, record { first = p .1; second = p .2; same-propositions = p .3; held = omega (arith, c .before .before .before .before .before .before .round .ensures .worked .same-length) })
+
 show-settled-requires : tie.Need-show-settled-requires Inv-loop μ-loop
 show-settled-requires c κs =
-    let p = c .before .before .before .before .before .before .before .before .before .before .before .before .before .before .before .before .pre in
-    (p .0, record { first = p .1; second = p .2; same-propositions = p .3; held = omega (arith, c .before .before .before .before .before .before .before .round .ensures .worked .same-length) })
+    let p = c .before .before .before .before .before .before .before .before .before .before .before .before .before .before .before .before .before .before .pre in
+    (p .0, record { first = p .1; second = p .2; same-propositions = p .3; held = omega (arith, c .before .before .before .before .before .before .before .before .before .round .ensures .worked .same-length) })
 
 loop-again : tie.Need-loop-again Inv-loop μ-loop
 loop-again c =
-    let i = c .before .before .before .before .before .before .before .before .before .before .loop .inv in
-    let e = c .before .before .before .before .before .before .round .ensures .worked .same-length ∙ i .2 in
+    let i = c .before .before .before .before .before .before .before .before .before .before .before .before .loop .inv in
+    let e = c .before .before .before .before .before .before .before .before .round .ensures .worked .same-length ∙ i .2 in
     (omega arith, e, e, i .3, i .4)
 
 pub settle-spec : {M : Type 1} → statement M
 settle-spec =
     tie.close (tie.spec Inv-loop μ-loop (λ c κs. search needs) (λ c κs. search needs) loop-holds (λ c. search needs)
-    (λ c. search needs) round-requires (λ c. search needs) show-round-requires (λ c. search needs) show-all-pairs-requires (λ c. search needs) show-settled-requires
+    (λ c. search needs) round-requires (λ c. search needs) show-round-requires (λ c. search needs) show-all-pairs-requires (λ c. search needs) show-sound-requires (λ c. search needs) show-settled-requires
     (λ c. search needs) (λ c. search needs) (λ c. search needs) loop-again (λ c. search needs))

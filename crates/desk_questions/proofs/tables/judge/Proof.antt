@@ -33,8 +33,8 @@ slice-aggregate-bytes c =
     let z = c .before .before .before .before .before .before .before in
     sym (length-take-le 24576 (desk (z .before .before) .store) (held z .lengths .store-long))
 
-simulation-of-requires : tie.Need-simulation-of-requires
-simulation-of-requires c κs =
+post-fixed-of-requires : tie.Need-post-fixed-of-requires
+post-fixed-of-requires c κs =
     let z = c .before .before .before .before .before .before .before .before in
     readable (held z) _ (omega (arith, c .before .before .before .before .before .table-size .ensures .0))
 
@@ -44,9 +44,9 @@ returns-3 c = refused-call (Call.Ask (Question.Judge (c .before .before .before 
 returns-4 : tie.Need-returns-4
 returns-4 c =
     let z = c .before .before .before .before .before .before .before .before .before in
-    held-judge (held z) _ _ _ (c .before .before .before .before .before .before .table-size .ensures .0) (eq-eqb _ _ (c .before .before .before .before .before .if1 .left)) (sym (table-obeys (c .before .before .before .before .before .before .before .before .before .before .before .before .before .before .before .before .before .args .table .now) _ _ _ _ (c .before .before .before .before .below .ensures) refl) ∙ not-false _ (c .before .before .before .if2 .left)) (c .simulation-of .ensures)
+    held-judge (held z) _ _ _ (c .before .before .before .before .before .before .table-size .ensures .0) (eq-eqb _ _ (c .before .before .before .before .before .if1 .left)) (sym (table-obeys (c .before .before .before .before .before .before .before .before .before .before .before .before .before .before .before .before .before .args .table .now) _ _ _ _ (c .before .before .before .before .below .ensures) refl) ∙ not-false _ (c .before .before .before .if2 .left)) (c .post-fixed-of .ensures)
 
 pub judge-spec : {M : Type 1} → statement M
 judge-spec =
     tie.close (tie.spec (λ c κs. search needs) (λ c. search needs) (λ c. search needs) (λ c κs. search needs) returns
-    (λ c κs. omega arith) returns-2 slice-aggregate-bytes simulation-of-requires returns-3 returns-4)
+    (λ c κs. omega arith) returns-2 slice-aggregate-bytes post-fixed-of-requires returns-3 returns-4)
