@@ -111,7 +111,8 @@ pub fn all_at_most(w: &Codes, s: &[u8], from: usize, count: usize, codes: &[u64;
 {
     for i in 0..count {
         let x = code(w, Element(s[from + i]));
-        if (x & codes[i]) != x {
+        let y = codes[i];
+        if (x & y) != x {
             return false;
         }
     }
