@@ -1,4 +1,4 @@
-//! The eight calls on a desk, a standing, a store and two tables, and the work on one entry. Rests on `case`, `formula`, `facts` and `rounds`.
+//! The eight calls on a desk, a standing, a store and two tables, the work on one entry, and F of a table. Rests on `case`, `formula`, `facts` and `rounds`.
 
 use crate::case::{self, Content, Refusal};
 use crate::facts::{self, Facts};
@@ -63,7 +63,7 @@ pub enum Reply {
     },
     /// A share in per cent.
     PerCent(u8),
-    /// Whether judge's table is a simulation.
+    /// Whether judge's table is sound.
     Says(bool),
     /// An entry of the next round.
     WorkedEntry {
@@ -223,7 +223,8 @@ pub fn share(standing: &Standing, store: &[u8], first: &[u8], second: &[u8], ele
     }))
 }
 
-/// "judge takes a table of N1·N2 elements and says yes exactly when it is a simulation."
+/// "judge takes a table of N1·N2 elements", and since request 104 says yes exactly when it is sound: "Theorem 3 of source document 000 needs
+/// only S at or below F(S) everywhere. Judge shall say yes exactly then."
 pub fn judge(
     standing: &Standing,
     store: &[u8],
@@ -233,8 +234,23 @@ pub fn judge(
 ) -> Reply {
     reply(check(standing, store, first, second).and_then(|desk| {
         let table = rounds::table(&desk.content, table).ok_or(OUT_OF_RANGE)?;
-        Ok(Reply::Says(rounds::is_simulation(&desk.content, &table)))
+        Ok(Reply::Says(rounds::is_sound(&desk.content, &table)))
     }))
+}
+
+/// F of a table, or nothing where judge refuses it. It is none of the eight calls: by it a test knows which entries of the table are too
+/// high, and which are lower than they could be.
+pub fn f_of(
+    standing: &Standing,
+    store: &[u8],
+    first: &[u8],
+    second: &[u8],
+    table: &[u8],
+) -> Option<Vec<u8>> {
+    let desk = check(standing, store, first, second).ok()?;
+    let table = rounds::table(&desk.content, table)?;
+    let f = rounds::f_of(&desk.content, &table);
+    Some(f.iter().flatten().map(|element| element.byte()).collect())
 }
 
 /// Request 103: "working one entry of F ... also returns how many pairs (q1', q2') it looked at". Of the shown table, so that the element

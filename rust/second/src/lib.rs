@@ -5,8 +5,8 @@
 //! fixpoints by iteration until nothing changes. No call panics, whatever its arguments hold.
 //!
 //! Modules: `lattice`, `model`, `formula` (the parts of a case and their values), `facts` (of a formula as it is written), `case`
-//! (directory, refusals 1 to 10, layout of the store), `rounds` (F and what is read off a table), `desk` (the eight calls, and the
-//! work on one entry), `report` (the listing).
+//! (directory, refusals 1 to 10, layout of the store), `rounds` (F and what is read off a table), `desk` (the eight calls, the work
+//! on one entry, and F of a table), `report` (the listing).
 
 #![forbid(unsafe_code)]
 #![deny(missing_docs)]
@@ -21,8 +21,8 @@ mod report;
 mod rounds;
 
 pub use desk::{
-    entry, judge, open, score, share, show, step, value, whole, Reply, Standing, STORE_LENGTH,
-    TABLE_LENGTH,
+    entry, f_of, judge, open, score, share, show, step, value, whole, Reply, Standing,
+    STORE_LENGTH, TABLE_LENGTH,
 };
 pub use facts::Facts;
 pub use report::report;

@@ -1,4 +1,4 @@
-//! F, the simulations, the score and the share: what is worked out from a table. Rests on `case` for the lattice and the models.
+//! F, the sound tables, the score and the share: what is worked out from a table. Rests on `case` for the lattice and the models.
 
 use crate::case::Content;
 use crate::lattice::Element;
@@ -112,12 +112,17 @@ pub fn row(content: &Content, table: &Table, q1: State) -> Vec<Element> {
     states.map(|q2| entry(q2).element()).collect()
 }
 
-/// "A table S is a simulation when S = F(S)."
-pub fn is_simulation(content: &Content, table: &Table) -> bool {
-    content
-        .model1
-        .states()
-        .all(|q1| row(content, table, q1) == table[q1.place()])
+/// F(S), whole.
+pub fn f_of(content: &Content, table: &Table) -> Table {
+    let states = content.model1.states();
+    states.map(|q1| row(content, table, q1)).collect()
+}
+
+/// Whether a table is sound: "S at or below F(S) everywhere", in the lattice's order. Two entries that are not in order make it unsound.
+pub fn is_sound(content: &Content, table: &Table) -> bool {
+    let f = f_of(content, table);
+    let mut entries = table.iter().flatten().zip(f.iter().flatten());
+    entries.all(|(&entry, &of_f)| content.lattice.at_most(entry, of_f))
 }
 
 /// "score is the meet over q1 of Q0(q1) → the join over q2 of Q0(q2) met with the shown entry."

@@ -60,6 +60,8 @@ fn ask(desk: &Desk, numbers: &mut Numbers) {
     ] {
         assert_eq!(answer == broken, !shown);
     }
+    let judged = matches!(desk.judge(&table), Reply::Says(_));
+    assert_eq!(desk.f_of(&table).is_some(), judged);
 }
 
 #[test]

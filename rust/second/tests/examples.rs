@@ -2,7 +2,7 @@
 
 mod common;
 
-use common::{case, chain, formula_value, lattice, Desk, Numbers, L2, L3, LOOP, STILL};
+use common::{case, chain, formula_value, lattice, Desk, L2, L3, LOOP, STILL};
 use second::{report, Reply, Standing};
 
 /// The bytes of the report example.
@@ -244,29 +244,6 @@ fn a_round_with_an_early_change_does_not_settle_by_its_last_row() {
     assert!(!desk.standing.changed);
     assert_eq!(desk.step(), Reply::Settled(2));
     assert_eq!(desk.show(), [0, 1]);
-}
-
-/// The settled table is at or above every table that judge calls a simulation, and is one itself.
-#[test]
-fn the_settled_table_is_the_greatest_simulation() {
-    let mut numbers = Numbers(88_172_645_463_325_252);
-    let mut several = 0;
-    for _ in 0..60 {
-        let (model1, model2) = (numbers.model(2, 1, 3), numbers.model(2, 1, 3));
-        let desk = Desk::settled(&[L3, &model1, &model2]);
-        let shown = desk.show();
-        let mut simulations = 0;
-        for number in 0..81u8 {
-            let table = [number / 27, number / 9 % 3, number / 3 % 3, number % 3];
-            if desk.judge(&table) == Reply::Says(true) {
-                simulations += 1;
-                assert!(table.iter().zip(&shown).all(|(entry, most)| entry <= most));
-            }
-        }
-        assert_eq!(desk.judge(&shown), Reply::Says(true));
-        several += usize::from(simulations > 1);
-    }
-    assert!(several > 5);
 }
 
 /// Score of one start against two: the best start of model 2 counts, as far as it is a start.

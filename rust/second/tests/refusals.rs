@@ -217,6 +217,7 @@ fn assert_all_refused(desk: &Desk, number: u8) {
     assert_eq!(desk.score(), refused(number));
     assert_eq!(desk.share(0), refused(number));
     assert_eq!(desk.judge(&[0]), refused(number));
+    assert_eq!(desk.f_of(&[0]), None);
     assert_eq!(desk.entry(0, 0), refused(number));
     assert_eq!(desk.entry(255, 255), refused(number));
 }
@@ -348,8 +349,10 @@ fn number_13_arguments_out_of_range() {
     assert_eq!((desk.share(3), desk.share(255)), (refused(13), refused(13)));
     assert_eq!(desk.judge(&[1, 2]), Reply::Says(true));
     assert_eq!(desk.judge(&[2, 2]), Reply::Says(false));
+    assert_eq!(desk.f_of(&[2, 2]), Some(vec![1, 2]));
     for table in [&[][..], &[1], &[1, 2, 2], &[1, 3], &[255, 2]] {
         assert_eq!(desk.judge(table), refused(13));
+        assert_eq!(desk.f_of(table), None);
     }
     assert!(matches!(desk.entry(1, 0), Reply::WorkedEntry { .. }));
     for (q1, q2) in [(2, 0), (0, 1), (2, 1), (255, 0), (0, 255)] {

@@ -148,6 +148,11 @@ impl Desk {
         second::judge(&self.standing, store, first, second, table)
     }
 
+    pub fn f_of(&self, table: &[u8]) -> Option<Vec<u8>> {
+        let (store, first, second) = (&self.store, &self.first, &self.second);
+        second::f_of(&self.standing, store, first, second, table)
+    }
+
     pub fn entry(&self, q1: u8, q2: u8) -> Reply {
         let (store, first, second) = (&self.store, &self.first, &self.second);
         second::entry(&self.standing, store, first, second, q1, q2)
