@@ -1,17 +1,22 @@
-//! Arguments of the calls, mostly within their range and now and then at its end or beyond it. Rests on generator, calls, cases and desks.
+//! Arguments of the calls, mostly within their range and now and then at its end or beyond it. Rests on generator, calls, cases,
+//! desks and judged.
 
-use crate::calls::{self, Call};
+use crate::calls::Call;
 use crate::cases::Shape;
 use crate::desks::Desk;
 use crate::generator::Random;
-use second::Reply;
+use crate::judged::{Judged, Rounds, ORIGINS};
 
-/// The most entries of a table for which the table of the settled desk is looked for.
-const ENTRIES_TO_SETTLE: usize = 150;
+/// What is asked of a desk.
+pub enum Question {
+    Call(Call),
+    /// That a table be judged of which it is known how it was made.
+    Judge(Judged),
+}
 
 /// One of the six calls that alter nothing, or the work on an entry.
-pub fn question(random: &mut Random, shape: &Shape, desk: &Desk) -> Call {
-    match random.weighted(&[2, 4, 3, 2, 3, 4, 4]) {
+pub fn question(random: &mut Random, shape: &Shape, desk: &Desk) -> Question {
+    let call = match random.weighted(&[2, 4, 3, 2, 3, 4, 4]) {
         0 => Call::Show,
         1 => Call::Value {
             formula: formula(random, shape),
@@ -24,12 +29,13 @@ pub fn question(random: &mut Random, shape: &Shape, desk: &Desk) -> Call {
         },
         3 => Call::Score,
         4 => Call::Share(element(random, shape)),
-        5 => Call::Judge(table(random, shape, desk)),
+        5 => return judge(random, shape, desk),
         _ => Call::Entry {
             q1: state_below(random, shape, shape.states[0]),
             q2: state_below(random, shape, shape.states[1]),
         },
-    }
+    };
+    Question::Call(call)
 }
 
 fn formula(random: &mut Random, shape: &Shape) -> u8 {
@@ -71,46 +77,36 @@ fn element(random: &mut Random, shape: &Shape) -> u8 {
     }
 }
 
-/// A table for judge: a simulation, nearly one, or none; or of a wrong length, or with a byte that is no element.
-fn table(random: &mut Random, shape: &Shape, desk: &Desk) -> Vec<u8> {
-    let entries = shape.entries();
-    match random.below(10) {
-        0..=1 => whole_entries(desk, entries),
-        2 => settled_table(desk, entries),
-        3 => with_changed_entry(random, shape, desk),
-        4 => vec![shape.bottom; entries],
-        5 => vec![shape.top; entries],
-        6 => (0..entries)
-            .map(|_| random.below(shape.elements) as u8)
-            .collect(),
-        7 => vec![shape.top; random.pick(&[entries - 1, entries + 1, 0])],
-        _ => with_no_element(random, shape),
-    }
+/// What is asked of judge: mostly a table made from the rounds of the case, else the table shown, or one that is refused.
+fn judge(random: &mut Random, shape: &Shape, desk: &Desk) -> Question {
+    let table = match random.below(10) {
+        0 => desk.whole().iter().copied().take(shape.entries()).collect(),
+        1 => {
+            let entries = shape.entries();
+            vec![shape.top; random.pick(&[entries - 1, entries + 1, 0])]
+        }
+        2 => with_no_element(random, shape),
+        _ => match made(random, desk) {
+            Some(judged) => return Question::Judge(judged),
+            None => vec![shape.top; shape.entries()],
+        },
+    };
+    Question::Call(Call::Judge(table))
 }
 
-fn whole_entries(desk: &Desk, entries: usize) -> Vec<u8> {
-    desk.whole().iter().copied().take(entries).collect()
-}
-
-/// The table that the desk comes to, found on a copy of it.
-fn settled_table(desk: &Desk, entries: usize) -> Vec<u8> {
-    let mut desk = desk.clone();
-    for _ in 0..ENTRIES_TO_SETTLE.saturating_sub(entries) {
-        let reply = calls::by_second(&mut desk, &Call::Step);
-        if let Reply::Settled(_) | Reply::Refused { .. } = reply {
-            break;
+/// A table made from the rounds of the case that the desk holds; nothing where the desk breaks a rule.
+fn made(random: &mut Random, desk: &Desk) -> Option<Judged> {
+    let rounds = Rounds::of(desk)?;
+    loop {
+        let origin = random.pick(&ORIGINS);
+        if let Some(table) = rounds.table(random, origin) {
+            return Some(Judged {
+                rounds,
+                origin,
+                table,
+            });
         }
     }
-    whole_entries(&desk, entries)
-}
-
-fn with_changed_entry(random: &mut Random, shape: &Shape, desk: &Desk) -> Vec<u8> {
-    let mut table = settled_table(desk, shape.entries());
-    if !table.is_empty() {
-        let place = random.below(table.len());
-        table[place] = random.below(shape.elements) as u8;
-    }
-    table
 }
 
 fn with_no_element(random: &mut Random, shape: &Shape) -> Vec<u8> {

@@ -84,3 +84,9 @@ pub fn by_second(desk: &mut Desk, call: &Call) -> Reply {
     desk.standing = conversions::to_proved(standing);
     reply
 }
+
+/// F of a table by the second implementation, where judge does not refuse the table.
+pub fn f_of(desk: &Desk, table: &[u8]) -> Option<Vec<u8>> {
+    let standing = conversions::to_second(desk.standing);
+    second::f_of(&standing, &desk.store, &desk.first, &desk.second, table)
+}

@@ -1,9 +1,10 @@
 //! Two desks with the same content, one for each implementation: every call is made of both, and all that they give and leave is
-//! compared. Rests on calls, counts and desks.
+//! compared. Rests on calls, counts, desks and judged.
 
 use crate::calls::{self, Call};
 use crate::counts::Counts;
 use crate::desks::Desk;
+use crate::judged::{self, Judged, Soundness};
 use second::Reply;
 
 /// What differed, in words.
@@ -61,6 +62,34 @@ impl Pair<'_> {
         }
         self.place += 1;
         Ok(proved)
+    }
+
+    /// Has both judge a table that was made from the rounds of the case which the desk holds, and gives what they say. It must be what F of
+    /// the table says, and what can come of how the table was made; and a table that passes must lie at or below the greatest simulation.
+    pub fn judge(&mut self, judged: &Judged) -> Result<bool, Difference> {
+        let Judged {
+            rounds,
+            origin,
+            table,
+        } = judged;
+        let reply = self.call(Call::Judge(table.clone()))?;
+        let (Reply::Says(yes), Some(f)) = (&reply, calls::f_of(&self.second, table)) else {
+            return Err(format!("a table of elements is answered {reply:?}"));
+        };
+        let soundness = rounds.soundness(table, &f);
+        let greatest = rounds.greatest();
+        let beyond = greatest.is_some_and(|greatest| !rounds.at_most(table, greatest));
+        let outcome = judged::outcome(*origin, soundness);
+        match outcome {
+            Some(name) if *yes == (soundness != Soundness::TooHigh) && !(*yes && beyond) => {
+                self.counts.judged(&[name]);
+                self.counts.judged(&rounds.places(table, &f));
+                Ok(*yes)
+            }
+            _ => Err(format!(
+                "judge says {yes} of {table:?}, {origin:?}; F of it is {f:?}, the greatest simulation {greatest:?}"
+            )),
+        }
     }
 
     fn difference(&self, call: &Call, proved: &Reply, second: &Reply) -> Difference {

@@ -1,6 +1,7 @@
-//! How often each refusal, each answer and each fact of a formula was met. Rests on calls and shapes.
+//! How often each refusal, each answer, each fact of a formula and each sort of judged table was met. Rests on calls, judged and shapes.
 
 use crate::calls::Call;
+use crate::judged;
 use crate::shapes::{self, SHAPES};
 use koelchair::Standing;
 use second::{Facts, Reply};
@@ -67,9 +68,9 @@ pub struct Counts {
 impl Default for Counts {
     fn default() -> Counts {
         let answers = REFUSALS.iter().chain(&ANSWERS);
-        let names = answers.chain(&FACTS).chain(&SHAPES).chain(&OTHERS);
+        let names = answers.chain(&FACTS).chain(&SHAPES).chain(&OTHERS).copied();
         Counts {
-            met: names.map(|&name| (name, 0)).collect(),
+            met: names.chain(judged::names()).map(|name| (name, 0)).collect(),
         }
     }
 }
@@ -144,10 +145,23 @@ impl Counts {
         }
     }
 
+    /// Counts what came of a judged table.
+    pub fn judged(&mut self, names: &[&'static str]) {
+        for name in names {
+            self.add(name, 1);
+        }
+    }
+
     pub fn merge(&mut self, other: &Counts) {
         for &(name, times) in &other.met {
             self.add(name, times);
         }
+    }
+
+    /// How often one of the names was met.
+    pub fn met(&self, name: &str) -> u64 {
+        let entry = self.met.iter().find(|(other, _)| *other == name);
+        entry.expect("a name of the lists above").1
     }
 
     /// What was never met.

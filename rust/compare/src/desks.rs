@@ -1,7 +1,8 @@
-//! Desks of any content and length. Rests on generator and cases.
+//! Desks of any content and length. Rests on generator, lattices and cases.
 
 use crate::cases::Shape;
 use crate::generator::Random;
+use crate::lattices::{self, Lattice};
 use koelchair::{DeskMut, DeskRef, Standing};
 
 pub const STORE_LENGTH: usize = 24_576;
@@ -48,9 +49,19 @@ impl Desk {
         }
     }
 
-    /// A formula's part in the store, by the directory there; the desk has such a formula.
+    /// A formula's part in the store; the desk has such a formula.
     pub fn formula(&self, number: u8) -> &[u8] {
-        let pair = 1 + 4 * (3 + usize::from(number));
+        self.part(3 + usize::from(number))
+    }
+
+    /// The lattice in the store of a desk that breaks no rule.
+    pub fn lattice(&self) -> Lattice {
+        lattices::of_part(self.part(0))
+    }
+
+    /// A part of the case in the store, by the directory there; the case has such a part.
+    fn part(&self, number: usize) -> &[u8] {
+        let pair = 1 + 4 * number;
         let u16_at = |place: usize| {
             let bytes = [self.store[place], self.store[place + 1]];
             usize::from(u16::from_le_bytes(bytes))

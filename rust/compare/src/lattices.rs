@@ -31,6 +31,15 @@ impl Lattice {
         self.order[i * self.size + j]
     }
 
+    /// Whether i is at or below j and another element.
+    pub fn below(&self, i: usize, j: usize) -> bool {
+        i != j && self.at_most(i, j)
+    }
+
+    pub fn meet(&self, i: usize, j: usize) -> usize {
+        greatest(self.size, |a, b| self.at_most(a, b), i, j)
+    }
+
     pub fn set(&mut self, i: usize, j: usize, to: bool) {
         self.order[i * self.size + j] = to;
     }
@@ -98,6 +107,27 @@ impl Lattice {
         part.extend(self.order.iter().map(|&b| b as u8));
         part
     }
+}
+
+/// The lattice of a part that a case within the rules has.
+pub fn of_part(part: &[u8]) -> Lattice {
+    let n = usize::from(part[0]);
+    if n == 0 {
+        return panel();
+    }
+    let (complement, order) = part[1..].split_at(n);
+    Lattice::new(
+        n,
+        |i, j| order[i * n + j] == 1,
+        |i| usize::from(complement[i]),
+    )
+}
+
+/// The greatest element that is at or below both i and j, in the order of a lattice or in that order reversed.
+pub fn greatest(size: usize, at_most: impl Fn(usize, usize) -> bool, i: usize, j: usize) -> usize {
+    let below_both = (0..size).filter(|&e| at_most(e, i) && at_most(e, j));
+    let greater = |a, b| if at_most(a, b) { b } else { a };
+    below_both.reduce(greater).expect("a lattice")
 }
 
 /// 0 below 1 below 2 and so on; the complement reverses it.
@@ -236,5 +266,28 @@ pub fn random(random: &mut Random, most: usize) -> Lattice {
         lattice
     } else {
         lattice.renumbered(random)
+    }
+}
+
+/// How many sorts [`of_sort`] has.
+pub const SORTS: usize = 9;
+
+/// Each sort of lattice in turn, and now and then its elements renumbered.
+pub fn of_sort(random: &mut Random, number: usize) -> Lattice {
+    let lattice = match number % SORTS {
+        0 => chain(1),
+        1 => chain(2),
+        2 => chain(3),
+        3 => chain(5),
+        4 => panel(),
+        5 => subsets(2, &[0, 1]),
+        6 => subsets(3, &[2, 1, 0]),
+        7 => subsets(4, &[0, 1, 2, 3]),
+        _ => self::random(random, 12),
+    };
+    if random.one_in(2) {
+        lattice.renumbered(random)
+    } else {
+        lattice
     }
 }

@@ -1,12 +1,13 @@
 //! Random cases, desks and lists of calls, on which the proved library and the second implementation are held against each other. The
 //! tests are in tests/: `lists` makes lists of calls, `listings` compares what the program `report` prints, `shares` takes tables at and
-//! beside an exact half per cent, `entries` compares the work on single entries.
+//! beside an exact half per cent, `entries` compares the work on single entries, `judges` what is said of tables.
 //!
 //! - generator: numbers from a seed
 //! - lattices, non_lattices, models, formulas: the parts of a case, within the rules and not
 //! - shapes: shapes of a formula in which its facts are easily counted wrongly
 //! - cases, damage: whole cases, within the rules, and aimed at the refusals 1 to 10
 //! - densities, work: cases of few transitions or many, and the work on one of their entries, pair by pair
+//! - judged: tables for judge, made from the rounds of a case, and what they are beside F of them
 //! - desks, alterations: desks of any content, and desks altered from outside
 //! - conversions: standings and answers of the one implementation in the types of the other, which the benchmark takes too
 //! - calls, arguments: a call made of either implementation, and what it is made with
@@ -27,6 +28,7 @@ pub mod densities;
 pub mod desks;
 pub mod formulas;
 pub mod generator;
+pub mod judged;
 pub mod lattices;
 pub mod lists;
 pub mod models;

@@ -1,7 +1,7 @@
 //! The lists of calls. A list is fixed by its seed, which also says of which kind it is. Rests on all other files.
 
 use crate::alterations;
-use crate::arguments;
+use crate::arguments::{self, Question};
 use crate::calls::Call;
 use crate::cases::{self, Scale, Shape, LARGE, LONG, SMALL};
 use crate::comparison::{Difference, Pair};
@@ -219,8 +219,10 @@ impl List<'_> {
     }
 
     fn question(&mut self) -> Result<(), Difference> {
-        let call = arguments::question(&mut self.random, &self.shape, self.pair.desk());
-        self.pair.call(call).map(drop)
+        match arguments::question(&mut self.random, &self.shape, self.pair.desk()) {
+            Question::Call(call) => self.pair.call(call).map(drop),
+            Question::Judge(judged) => self.pair.judge(&judged).map(drop),
+        }
     }
 
     /// Opens with a case that is within the rules, which only a short desk refuses.

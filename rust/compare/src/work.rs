@@ -2,7 +2,7 @@
 //! beside those of the two implementations, by which a test knows what it has compared. Rests on lattices and densities.
 
 use crate::densities::Drawn;
-use crate::lattices::Lattice;
+use crate::lattices::{self, Lattice};
 
 const AT_PROPOSITIONS: &str = "entry bottom by its propositions";
 const BEFORE_LAST: &str = "entry bottom before the last q1'";
@@ -56,8 +56,8 @@ impl<'a> Worker<'a> {
         let lattice = &case.lattice;
         Worker {
             case,
-            meets: greatest(lattice, |i, j| lattice.at_most(i, j)),
-            joins: greatest(lattice, |i, j| lattice.at_most(j, i)),
+            meets: of_all_two(lattice, |i, j| lattice.at_most(i, j)),
+            joins: of_all_two(lattice, |i, j| lattice.at_most(j, i)),
             bottom: lattice.bottom(),
             top: lattice.top(),
         }
@@ -153,14 +153,9 @@ fn join_kind(looked_at: usize, top: bool, of: usize) -> &'static str {
 }
 
 /// For each two elements the greatest that is at or below both, in the lattice's order or in that order reversed.
-fn greatest(lattice: &Lattice, at_most: impl Fn(usize, usize) -> bool) -> Vec<u8> {
+fn of_all_two(lattice: &Lattice, at_most: impl Fn(usize, usize) -> bool) -> Vec<u8> {
     let n = lattice.size;
-    let of_two = |place: usize| {
-        let below = |e: &usize| at_most(*e, place / n) && at_most(*e, place % n);
-        let greater = |a, b| if at_most(a, b) { b } else { a };
-        (0..n).filter(below).reduce(greater)
-    };
     (0..n * n)
-        .map(|place| of_two(place).expect("a lattice") as u8)
+        .map(|place| lattices::greatest(n, &at_most, place / n, place % n) as u8)
         .collect()
 }

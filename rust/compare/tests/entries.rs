@@ -58,26 +58,6 @@ impl Met {
     }
 }
 
-/// Each lattice in turn, and now and then its elements renumbered. The panel is named by its one byte where they are not.
-fn lattice(random: &mut Random, number: usize) -> Lattice {
-    let lattice = match number % 9 {
-        0 => lattices::chain(1),
-        1 => lattices::chain(2),
-        2 => lattices::chain(3),
-        3 => lattices::chain(5),
-        4 => lattices::panel(),
-        5 => lattices::subsets(2, &[0, 1]),
-        6 => lattices::subsets(3, &[2, 1, 0]),
-        7 => lattices::subsets(4, &[0, 1, 2, 3]),
-        _ => lattices::random(random, 12),
-    };
-    if random.one_in(2) {
-        lattice.renumbered(random)
-    } else {
-        lattice
-    }
-}
-
 /// Two states of each entry that is compared: all entries, or the corners of the table and some others.
 fn entries(random: &mut Random, [states1, states2]: [usize; 2]) -> Vec<(usize, usize)> {
     let all = (0..states1).flat_map(|q1| (0..states2).map(move |q2| (q1, q2)));
@@ -160,7 +140,7 @@ fn entries_agree() {
     {
         for density in DENSITIES {
             let random = &mut Random::new(number as u64);
-            let lattice = lattice(random, number);
+            let lattice = lattices::of_sort(random, number);
             let case = Drawn::new(random, lattice, density, states);
             compare_case(random, &mut pair, &case, &mut met);
             number += 1;
