@@ -129,12 +129,13 @@ static void print_score(const struct desk *d)
     printf("score %lu, entries at or above it %lu per cent\n", (unsigned long)score.value, (unsigned long)share.value);
 }
 
+/* Prints whether each entry of the table shown is at or below that of F of it. The settled table always passes. */
 static void print_judged(const struct desk *d)
 {
     koelchair_shown shown = koelchair_show(LENT(d));
     koelchair_answer says = koelchair_judge(LENT(d), shown.table == 2 ? d->second : d->first, shown.length);
     unless_refused("judge", says);
-    printf("the table is a simulation: %s\n", says.value == 1 ? "yes" : "no");
+    printf("the table is sound: %s\n", says.value == 1 ? "yes" : "no");
 }
 
 /* Prints what a formula is as it is written; false where there is no such formula. */

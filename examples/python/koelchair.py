@@ -297,7 +297,8 @@ class Desk:
         return self._asked(_library.koelchair_share, _byte(element))
 
     def judge(self, table):
-        """Whether a table of N1 · N2 elements, as bytes, is a simulation; refused with 13."""
+        """Whether a table of N1 · N2 elements, as bytes, is sound: each entry is at or below that of F of the table, in the lattice's
+        order. Such a table lies at or below the greatest simulation, and need not be a simulation itself; refused with 13."""
         table = bytes(table)
         return self._asked(_library.koelchair_judge, table, len(table)) == 1
 

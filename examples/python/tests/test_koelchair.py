@@ -36,6 +36,8 @@ class Examples(unittest.TestCase):
         self.assertEqual((desk.value(0, 1, 0), desk.whole(0, 2)), (formula_value(1, 0), formula_value(1, 0)))
         self.assertEqual((desk.share(1), desk.share(2)), (100, 0))
         self.assertEqual((desk.judge(desk.show()), desk.judge([2])), (True, False))
+        # Sound, and not a simulation.
+        self.assertIs(desk.judge([0]), True)
 
     def test_example_4(self):
         desk = koelchair.Desk(example(4))
@@ -48,6 +50,7 @@ class Examples(unittest.TestCase):
         self.assertEqual(desk.show(), bytes(4))
         self.assertEqual((desk.standing.settled, standing.settled), (True, False))
         self.assertEqual((desk.whole(0, 1), desk.whole(0, 2)), (formula_value(0, 1), formula_value(1, 1)))
+        self.assertEqual((desk.judge(bytes(4)), desk.judge([1, 0, 0, 0]), desk.judge([0, 0, 0, 1])), (True, False, False))
 
     def test_facts_of_formulas(self):
         # p & !q; AX !q; p & AX (q | AX p); AG p; AX EX AX p

@@ -92,7 +92,31 @@ impl Desk {
         self.lent().share(element)
     }
 
-    /// Whether a table of N1·N2 elements is a simulation.
+    /// Whether a table of N1·N2 elements is sound: each entry is at or below that of F of the table, in the lattice's order. Such a
+    /// table lies at or below the greatest simulation, and its entries bound every closed formula without EX. It need not be a
+    /// simulation, which equals F of itself.
+    ///
+    /// ```
+    /// use koelchair::Desk;
+    ///
+    /// // The elements 0 below 1; two models of two states without propositions, with a transition from state 0 to state 1, and a
+    /// // loop at state 1.
+    /// let case = [
+    ///     3, // parts, each with its offset and length
+    ///     13, 0, 7, 0, 20, 0, 8, 0, 28, 0, 8, 0,
+    ///     2, 1, 0, 1, 1, 0, 1, // the lattice
+    ///     2, 0, 1, 0, 0, 1, 0, 1, // model 1
+    ///     2, 0, 1, 0, 0, 1, 0, 1, // model 2
+    /// ];
+    /// let desk = Desk::open(&case)?;
+    /// // The greatest simulation.
+    /// assert_eq!(desk.judge(&[1, 1, 1, 1]), Ok(true));
+    /// // Lower than F of it at one entry, and too high at none: entry (0, 0) is not what the other entries rest on.
+    /// assert_eq!(desk.judge(&[0, 1, 1, 1]), Ok(true));
+    /// // Every entry rests on (1, 1), so that the others are too high.
+    /// assert_eq!(desk.judge(&[1, 1, 1, 0]), Ok(false));
+    /// # Ok::<(), koelchair::Refusal>(())
+    /// ```
     ///
     /// Refused with 13 where the table has another length or a byte that is no element.
     pub fn judge(&self, table: &[u8]) -> Result<bool, Refusal> {

@@ -96,7 +96,8 @@ impl<'a> DeskRef<'a> {
         answer::per_cent(raw::share(self, element.0))
     }
 
-    /// Whether a table of N1·N2 elements is a simulation, that is, whether F sends it to itself.
+    /// Whether a table of N1·N2 elements is sound, that is, whether each entry is at or below that of F of the table, in the lattice's
+    /// order; see [`Desk::judge`](crate::Desk::judge). The standing's round and the desk's tables have no part in it.
     ///
     /// Refused with 11 or 12, or with 13 where the table has another length or a byte that is no element.
     pub fn judge(self, table: &[u8]) -> Result<bool, Refusal> {

@@ -68,8 +68,49 @@ fn example_1() {
     assert_eq!(desk.whole(0, 2), Ok(formula_value(1, 0)));
     assert_eq!(desk.share(Element(1)), Ok(100));
     assert_eq!(desk.share(Element(2)), Ok(0));
-    assert_eq!(desk.judge(&[1]), Ok(true));
-    assert_eq!(desk.judge(&[2]), Ok(false));
+    // The greatest simulation is 1, and 0 is sound without being a simulation.
+    assert_eq!(
+        [0, 1, 2].map(|e| desk.judge(&[e])),
+        [Ok(true), Ok(true), Ok(false)]
+    );
+}
+
+/// With p = 1 in both models F is 1 whatever the table, since the complement keeps 1; which elements pass is said by the order alone.
+#[test]
+fn judge_goes_by_the_order() {
+    let subsets = |at_most: fn(u8, u8) -> bool| {
+        let order = (0..4).flat_map(|i| (0..4).map(move |j| u8::from(at_most(i, j))));
+        [vec![4, 3, 1, 2, 0], order.collect()].concat()
+    };
+    let model = [1, 1, 0, 1, 0];
+    let judged = |lattice: Vec<u8>| {
+        let desk = Desk::open(&cases::case(&[&lattice, &model, &model])).unwrap();
+        [0, 1, 2, 3].map(|e| desk.judge(&[e]).unwrap())
+    };
+    // Bottom and 1 itself pass; 2 is not in order with 1, and 3 is top.
+    assert_eq!(
+        judged(subsets(|i, j| i & !j == 0)),
+        [true, true, false, false]
+    );
+    // The same order reversed: 3 is bottom.
+    assert_eq!(
+        judged(subsets(|i, j| j & !i == 0)),
+        [false, true, false, true]
+    );
+}
+
+/// In both models 0 goes to 1 and 1 to itself, so that every entry of F is the entry (1, 1).
+#[test]
+fn judge_of_tables_lowered_at_some_entries() {
+    let model = [2, 0, 1, 0, 0, 1, 0, 1];
+    let mut desk = Desk::open(&cases::case(&[&cases::L2, &model, &model])).unwrap();
+    desk.settle();
+    assert_eq!(desk.show(), [1; 4]);
+    for number in 0..16u8 {
+        let table = [0, 1, 2, 3].map(|place| number >> place & 1);
+        let sound = table[3] == 1 || table == [0; 4];
+        assert_eq!(desk.judge(&table), Ok(sound), "{table:?}");
+    }
 }
 
 #[test]
