@@ -84,9 +84,22 @@ impl<'a> Calls<'a> {
         Call::Share(self.setting.lattice.size() / 2)
     }
 
-    /// The settled table, which is a simulation, so that every row is looked at.
+    /// The settled table, which passes, so that every row is looked at.
     pub fn judge(&self) -> Call {
         Call::Judge(self.settled.clone())
+    }
+
+    /// The settled table with its first entry raised to top, which is too high there. A library that holds out for equality says no too.
+    pub fn judge_too_high(&self) -> Call {
+        let opened = koelchair::Desk::open(&self.case).expect("an accepted case");
+        let top = opened.show()[0];
+        let mut table = self.settled.clone();
+        table[0] = top;
+        assert!(
+            self.first_of_f(&table) != top,
+            "top at the first entry: another seed"
+        );
+        Call::Judge(table)
     }
 
     /// Measures a call. Every sample begins with the standing and tables of the case's desk. Within a sample the standing is put back
@@ -116,6 +129,15 @@ impl<'a> Calls<'a> {
         in_turn(repeat, proved, other, |_, ours, _, theirs| {
             assert!(ours == theirs, "the listings differ");
         })
+    }
+
+    /// Entry (0, 0) of F of a table, by the proved library.
+    fn first_of_f(&self, table: &[u8]) -> u8 {
+        let mut desk = self.proved_desk.clone();
+        let second = desk.standing.second_whole;
+        desk.table(second)[..table.len()].copy_from_slice(table);
+        let entry = desk.lent().entry(State(0), State(0));
+        entry.expect("two states").value.0
     }
 
     /// The mean of the pairs that are looked at for an entry of a row of the next round, and of all its rows.
@@ -193,11 +215,23 @@ mod tests {
             Call::Score,
             calls.share(),
             calls.judge(),
+            calls.judge_too_high(),
         ] {
             let times = calls.measure(1, &call);
             assert!(times.proved > 0.0 && times.other > 0.0, "{call:?}");
         }
         assert!(calls.report(1).proved > 0.0);
+    }
+
+    #[test]
+    fn what_judge_says() {
+        let calls = calls(&Second);
+        let says = |call| {
+            let mut desk = calls.proved_desk.clone();
+            Proved.call(&mut desk, &call).reply(&desk)
+        };
+        assert_eq!(says(calls.judge()), Reply::Says(true));
+        assert_eq!(says(calls.judge_too_high()), Reply::Says(false));
     }
 
     #[test]

@@ -26,7 +26,7 @@ const SIZES: [(Lattice, u8); 7] = [
 type Named = (&'static str, fn(&Calls) -> Option<Call>);
 
 /// The calls in the order of the table.
-const CALLS: [Named; 10] = [
+const CALLS: [Named; 11] = [
     ("open", |calls| Some(calls.open())),
     ("step", |_| Some(Call::Step)),
     ("show", |_| Some(Call::Show)),
@@ -36,6 +36,9 @@ const CALLS: [Named; 10] = [
     ("score", |_| Some(Call::Score)),
     ("share", |calls| Some(calls.share())),
     ("judge", |calls| Some(calls.judge())),
+    ("judge, no at the first entry", |calls| {
+        Some(calls.judge_too_high())
+    }),
     ("report", |_| None),
 ];
 

@@ -120,9 +120,11 @@ pub fn f_of(content: &Content, table: &Table) -> Table {
 
 /// Whether a table is sound: "S at or below F(S) everywhere", in the lattice's order. Two entries that are not in order make it unsound.
 pub fn is_sound(content: &Content, table: &Table) -> bool {
-    let f = f_of(content, table);
-    let mut entries = table.iter().flatten().zip(f.iter().flatten());
-    entries.all(|(&entry, &of_f)| content.lattice.at_most(entry, of_f))
+    content.model1.states().all(|q1| {
+        let of_f = row(content, table, q1);
+        let mut entries = table[q1.place()].iter().zip(of_f);
+        entries.all(|(&entry, of_f)| content.lattice.at_most(entry, of_f))
+    })
 }
 
 /// "score is the meet over q1 of Q0(q1) → the join over q2 of Q0(q2) met with the shown entry."
