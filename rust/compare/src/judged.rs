@@ -282,3 +282,45 @@ pub fn outcome(origin: Origin, soundness: Soundness) -> Option<&'static str> {
     let named = |&&(from, is, _): &&_| from == origin && is == soundness;
     OUTCOMES.iter().find(named).map(|(_, _, name)| *name)
 }
+
+#[cfg(test)]
+mod tests {
+    use super::*;
+    use crate::lattices;
+
+    fn rounds(lattice: Lattice, columns: usize) -> Rounds {
+        Rounds {
+            lattice,
+            columns,
+            tables: Vec::new(),
+            settled: false,
+        }
+    }
+
+    #[test]
+    fn places_are_found() {
+        let subsets = rounds(lattices::subsets(2, &[0, 1]), 2);
+        let first = [ONE_OUT_OF_ORDER, FIRST_ENTRY, FIRST_ROW, NO_GREATER_NUMBER];
+        assert_eq!(subsets.places(&[1, 0, 0, 0], &[2, 0, 0, 0]), first);
+        let last = [ONE_ABOVE, LAST_ENTRY, LAST_ROW];
+        assert_eq!(subsets.places(&[0, 0, 0, 3], &[0, 0, 0, 1]), last);
+        assert_eq!(subsets.places(&[3, 0, 3, 0], &[0; 4]), [SEVERAL]);
+        assert!(subsets.places(&[0, 1, 2, 3], &[3; 4]).is_empty());
+        let reversed = rounds(Lattice::new(2, |i, j| i >= j, |i| 1 - i), 1);
+        assert_eq!(reversed.places(&[1], &[0]), [GREATER_NUMBER]);
+        assert_eq!(reversed.places(&[0], &[1]), [ONE_ABOVE, NO_GREATER_NUMBER]);
+    }
+
+    #[test]
+    fn soundness_is_by_the_order() {
+        let subsets = rounds(lattices::subsets(2, &[0, 1]), 1);
+        assert_eq!(subsets.soundness(&[1, 2], &[1, 2]), Soundness::Tight);
+        assert_eq!(
+            subsets.soundness(&[0, 2], &[1, 3]),
+            Soundness::SoundNotTight
+        );
+        assert_eq!(subsets.soundness(&[1, 2], &[2, 2]), Soundness::TooHigh);
+        assert_eq!(outcome(Origin::Greatest, Soundness::TooHigh), None);
+        assert_eq!(outcome(Origin::Met, Soundness::TooHigh), None);
+    }
+}

@@ -42,13 +42,13 @@ fn case(random: &mut Random, number: usize, lattice: Lattice, states: [usize; 2]
     case.bytes()
 }
 
-/// Opens a case and gives its rounds. The proved library works them, and the desk that it left is unchanged.
+/// Opens a case and gives its rounds.
 fn opened(pair: &mut Pair, case: Vec<u8>) -> Rounds {
     assert_eq!(pair.call(Call::Open(case)), Ok(Reply::Opened));
     Rounds::of(pair.desk()).expect("a desk as opened")
 }
 
-/// Judges so many tables of each origin that the case has, from round 0.
+/// Judges so many tables of each origin that the case has; none may alter the desk.
 fn judge_case(random: &mut Random, pair: &mut Pair, case: Vec<u8>, tables: usize) {
     let rounds = opened(pair, case);
     let desk = pair.desk().clone();
