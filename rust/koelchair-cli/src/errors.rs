@@ -193,15 +193,27 @@ fn distance(a: &str, b: &str) -> usize {
     row[b.len()]
 }
 
+/// How many words of a list are shown at most.
+const MOST_WORDS: usize = 8;
+
+/// Words as a list: the first few, and how many more there are.
+pub fn listed<'a>(words: impl IntoIterator<Item = &'a str>) -> String {
+    let words: Vec<&str> = words.into_iter().collect();
+    let shown = words.iter().take(MOST_WORDS).map(|w| format!("`{w}`"));
+    let shown = shown.collect::<Vec<_>>().join(", ");
+    match words.len().saturating_sub(MOST_WORDS) {
+        0 => shown,
+        more => format!("{shown} and {more} more"),
+    }
+}
+
 /// What was expected, as a list: the first few words, and how many more there are.
 pub fn expected_one_of<'a>(words: impl IntoIterator<Item = &'a str>) -> String {
     let words: Vec<&str> = words.into_iter().collect();
-    let shown: Vec<String> = words.iter().take(8).map(|w| format!("`{w}`")).collect();
-    let shown = shown.join(", ");
+    let shown = listed(words.iter().copied());
     match words.len() {
         0 => "there is none in this text".to_string(),
         1 => format!("expected {shown}"),
-        n if n > 8 => format!("expected one of {shown} and {} more", n - 8),
         _ => format!("expected one of {shown}"),
     }
 }

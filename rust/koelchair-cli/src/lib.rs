@@ -1,8 +1,9 @@
 //! The tool `koelchair`: a readable text form of a case (docs/TEXT-FORM.md), its bytes, and what the proved desk says of it.
 //!
-//! Entries, values, facts of formulas, T, score, share and the listing come from the crate `koelchair`, that is from the proved library.
-//! The tool's own are the text form, the bytes of a case, warnings about a drawing (`warnings`), and the parts of an entry that `explain`
-//! and `why` show (`tables`, `reasons`), which are checked to meet to the library's entry.
+//! Entries, values, facts of formulas, T, score, share, the listing and whether a table is sound come from the crate `koelchair`, that is
+//! from the proved library. The tool's own are the text form, also that of a table (`table_text`), the bytes of a case, warnings about a
+//! drawing (`warnings`), which pair `judge` names, and the parts of an entry that `explain` and `why` show (`tables`, `reasons`), which
+//! are checked to meet to the library's entry.
 #![forbid(unsafe_code)]
 #![deny(missing_docs)]
 
@@ -26,6 +27,7 @@ pub mod lexer;
 pub mod listing;
 pub mod model;
 pub mod model_text;
+pub mod name_or_number;
 pub mod names;
 pub mod order_text;
 pub mod page;
@@ -36,6 +38,7 @@ pub mod reasons;
 pub mod rounds;
 pub mod sections;
 pub mod source;
+pub mod table_text;
 pub mod tables;
 pub mod views;
 pub mod warnings;

@@ -1,7 +1,7 @@
 //! What `--help` says.
 
 /// Sub-command, usage, what it does.
-const COMMANDS: [(&str, &str, &str); 11] = [
+const COMMANDS: [(&str, &str, &str); 12] = [
     (
         "check",
         "koelchair check [--json] [--deny-warnings] FILE",
@@ -42,6 +42,13 @@ const COMMANDS: [(&str, &str, &str); 11] = [
         "Prints the table after each round with names, and the score that it would give. Rows are states of model 1, columns\n\
          states of model 2. Only the settled table is a result.\n\
          --rounds  stops after round R",
+    ),
+    (
+        "judge",
+        "koelchair judge [--json] FILE TABLE",
+        "Says whether a table is sound: yes where no entry is too high, that is, where each is at or below what a round worked on the\n\
+         table gives there; and then whether it is tight, so that the round changes nothing. Else no, with the first pair whose entry\n\
+         is too high. TABLE is a listing of report, with names or without, or its lines `columns` and `row` alone.",
     ),
     (
         "explain",
@@ -89,15 +96,15 @@ const COMMANDS: [(&str, &str, &str); 11] = [
 const SHARED: [(&str, &str); 4] = [
     (
         "--course COURSE  FILE has model 1 alone, and COURSE the rest",
-        "check, report, why, step, explain, page, dot, draw, encode",
+        "check, report, why, step, judge, explain, page, dot, draw, encode",
     ),
     (
         "--bytes          FILE holds the bytes of a case, not its text",
-        "check, report, why, step, explain, page, dot, draw",
+        "check, report, why, step, judge, explain, page, dot, draw",
     ),
     (
         "--json           what is said as JSON, on one line (docs/TEXT-FORM.md gives its form)",
-        "check, report, mark, why, step",
+        "check, report, mark, why, step, judge",
     ),
     (
         "--deny-warnings  a warning is an error",
@@ -113,6 +120,9 @@ fn common(command: Option<&str>) -> String {
     let files = match command {
         Some("mark") => {
             "COURSE and STUDENT are names of files, or one of them - for standard input.\n"
+        }
+        Some("judge") => {
+            "FILE and TABLE are names of files, or one of them - for standard input.\n"
         }
         _ => "FILE is a file's name, or - for standard input.\n",
     };

@@ -10,6 +10,7 @@ mod explain;
 mod failure;
 mod help;
 mod input;
+mod judge;
 mod mark;
 mod note;
 mod report;
@@ -153,6 +154,7 @@ fn dispatch(arguments: &[String], input: &mut dyn Read) -> Outcome {
         "mark" => mark::mark(rest, input),
         "why" => why::why(rest, input),
         "step" => step::step(rest, input),
+        "judge" => judge::judge(rest, input),
         "explain" => explain::explain(rest, input),
         "page" => crate::page::page(rest, input),
         "dot" => dot::dot(rest, input),
