@@ -1,4 +1,5 @@
-//! Each kind of wrong text and of refusal gives its message: `wrong/NAME.case` gives `wrong/NAME.message`.
+//! Each kind of wrong text and of refusal gives its message: `wrong/NAME.case` gives `wrong/NAME.message`, and a table
+//! `wrong-tables/CASE-NAME.table`, handed in for `wrong-tables/CASE.case`, gives the message beside it.
 
 mod common;
 
@@ -26,6 +27,24 @@ fn every_wrong_text_gives_its_message() {
             "{}",
             case.display()
         );
+    }
+}
+
+#[test]
+fn every_wrong_table_gives_its_message() {
+    let tables = files(&folder("tests/wrong-tables"), "table");
+    assert!(tables.len() > 30, "the wrong tables are there");
+    for table in tables {
+        let name = table.file_stem().expect("a name").to_string_lossy();
+        let (case, _) = name.split_once('-').expect("the name of a case");
+        let case = table.with_file_name(format!("{case}.case"));
+        let ran = run(
+            &["judge", &case.display().to_string(), "-"],
+            text(&table).as_bytes(),
+        );
+        let said = (ran.status, ran.text(), ran.err);
+        let message = text(&table.with_extension("message"));
+        assert_eq!(said, (2, String::new(), message), "{name}");
     }
 }
 
@@ -92,6 +111,14 @@ fn wrong_commands_are_said() {
         &["report", "--share", "maybe", &example],
         "`maybe` is no element",
     );
+    usage_error(&["judge", &example], "expected FILE TABLE, got 1 argument");
+    let twice = "standard input is named twice; `-` can stand for one file alone";
+    usage_error(&["judge", "-", "-"], twice);
+    usage_error(&["judge", "--course", "-", &example, "-"], twice);
+    usage_error(
+        &["judge", &example, "no-such-table"],
+        "no-such-table: No such file or directory (os error 2)",
+    );
     usage_error(
         &["mark", "--csv", "--json", &example],
         "expected one of `--csv` and `--json`, got both",
@@ -135,7 +162,8 @@ fn help_and_version_are_given() {
     );
     let all = run(&["--help"], &[]).text();
     for command in [
-        "check", "report", "mark", "why", "step", "explain", "page", "dot", "encode", "decode",
+        "check", "report", "mark", "why", "step", "judge", "explain", "page", "dot", "encode",
+        "decode",
     ] {
         assert!(
             all.contains(&format!("  koelchair {command} ")),

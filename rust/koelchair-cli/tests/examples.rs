@@ -2,7 +2,7 @@
 
 mod common;
 
-use common::{examples, folder, listing_by_calls, run, text};
+use common::{examples, files, folder, listing_by_calls, run, text};
 use koelchair_cli::errors::Source;
 use koelchair_cli::parse::parse;
 use std::path::Path;
@@ -136,6 +136,22 @@ fn other_outputs_are_those_stored() {
         let only_warned = ran.err.is_empty() || ran.err.starts_with("warning: ");
         assert!(ran.status == 0 && only_warned, "{}", stored.display());
         assert_eq!(ran.text(), text(&stored), "{}", stored.display());
+    }
+}
+
+/// A table NAME.KIND.table is handed in for NAME.case, and NAME.KIND.judge is what is said of it.
+#[test]
+fn tables_are_judged_as_stored() {
+    let tables = files(&folder("../../examples"), "table");
+    assert!(tables.len() > 5, "the tables are there");
+    for table in tables {
+        let case = table.with_extension("").with_extension("case");
+        let [case, file] = [&case, &table].map(|f| f.display().to_string());
+        let ran = run(&["judge", &case, &file], &[]);
+        assert_eq!((ran.status, ran.err.as_str()), (0, ""), "{file}");
+        assert_eq!(ran.text(), text(&table.with_extension("judge")), "{file}");
+        let comment = text(&table);
+        assert!(comment.starts_with("# "), "{file}: no comment at its head");
     }
 }
 

@@ -8,6 +8,7 @@ mod json;
 mod faults;
 mod formulas;
 mod includes;
+mod judged;
 mod marks;
 mod reasons;
 mod said;
