@@ -45,7 +45,7 @@ fn printed(command: &str) -> String {
 
 #[test]
 fn commands_print_what_follows_them() {
-    for (document, least) in [("GUIDE.md", 9), ("TEXT-FORM.md", 4)] {
+    for (document, least) in [("GUIDE.md", 13), ("TEXT-FORM.md", 5)] {
         let blocks = blocks(&text(&folder("../../docs").join(document)));
         let commands = blocks.iter().filter_map(|b| b.strip_prefix("$ koelchair "));
         let mut count = 0;
@@ -75,11 +75,13 @@ fn the_case_and_the_refusal_are_those_of_the_tool() {
 }
 
 #[test]
-fn the_guide_has_a_student_s_file() {
-    let file = text(&folder("../../examples/class/students/kamil.case"));
-    let (_, without_comment) = file.split_once('\n').expect("a line");
+fn the_guide_has_a_student_s_file_and_a_table() {
     let blocks = blocks(&text(&folder("../../docs/GUIDE.md")));
-    assert!(blocks.iter().any(|b| b == without_comment));
+    for file in ["class/students/kamil.case", "panel-of-three.sound.table"] {
+        let file = text(&folder("../../examples").join(file));
+        let (_, without_comment) = file.split_once('\n').expect("a line");
+        assert!(blocks.iter().any(|b| b == without_comment), "{file}");
+    }
 }
 
 #[test]
