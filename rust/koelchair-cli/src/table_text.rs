@@ -40,8 +40,9 @@ fn table_lines(source: &Source) -> Source {
     for line in &mut kept.lines {
         let text = line.trim_start_matches(|c: char| c.is_whitespace() || c == '\u{feff}');
         let margin = line.chars().count() - text.chars().count();
-        let Some(word) = text.split_whitespace().next() else {
-            continue;
+        let word = match text.split_whitespace().next() {
+            Some(word) if !word.starts_with('#') => word,
+            _ => continue,
         };
         let below = head.is_some_and(|head| margin > head);
         if !below {
@@ -87,17 +88,14 @@ impl<'a> Reader<'a> {
 
     /// `columns: STATE STATE ...`, once or not at all.
     fn columns(&mut self, heads: &[&Statement]) -> Result<(), TextError> {
-        let (head, further) = match heads {
+        let head = match heads {
             [] => return Ok(()),
-            [head, further @ ..] => (head, further),
+            [head] => head,
+            [head, again, ..] => {
+                let first = head[0].span.line;
+                return Err(twice(names::whole(again), "the line `columns`", first));
+            }
         };
-        if let Some(again) = further.first() {
-            return Err(twice(
-                names::whole(again),
-                "the line `columns`",
-                head[0].span,
-            ));
-        }
         let course = &self.states[1];
         let mut cursor = Cursor::new(head);
         cursor.take();
@@ -129,8 +127,7 @@ impl<'a> Reader<'a> {
         let row = usize::from(student.lookup(word, span)?);
         cursor.expect_sign(":")?;
         let what = format!("the row of `{}`", student.names[row]);
-        if let Some(line) = self.given[row].replace(span.line) {
-            let first = Span { line, ..span };
+        if let Some(first) = self.given[row].replace(span.line) {
             return Err(twice(span, &what, first));
         }
         self.entries(row, &what, &mut cursor)
@@ -186,10 +183,10 @@ fn entry(cursor: &mut Cursor, case: &Case, elements: &Sort) -> Result<u8, TextEr
 }
 
 /// The error that something is given again that stands in another line already.
-fn twice(span: Span, what: &str, first: Span) -> TextError {
+fn twice(span: Span, what: &str, first: usize) -> TextError {
     let message = format!("{what} is given twice");
     let expected = format!("expected it once: {OTHER_LINE} gives it too");
-    TextError::new(span, message, expected).with_other(first.line)
+    TextError::new(span, message, expected).with_other(first)
 }
 
 /// Says which states have no row or column, if there are such.

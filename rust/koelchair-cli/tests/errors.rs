@@ -178,7 +178,24 @@ fn help_and_version_are_given() {
     }
 }
 
-/// Texts with a few characters taken out, put in or replaced: each is accepted, refused or wrong, and says so.
+/// A text with a few characters taken out, put in or replaced.
+fn damaged(random: &mut Random, text: &str) -> String {
+    let mut damaged: Vec<char> = text.chars().collect();
+    for _ in 0..1 + random.below(3) {
+        let at = random.below(damaged.len());
+        let character = random.one_of(&[
+            '(', ')', '{', '}', ':', '-', '>', '.', '"', '#', '\n', ' ', '0', 'q', '\u{fc}', '=',
+        ]);
+        match random.below(3) {
+            0 => drop(damaged.remove(at)),
+            1 => damaged.insert(at, character),
+            _ => damaged[at] = character,
+        }
+    }
+    damaged.into_iter().collect()
+}
+
+/// Each damaged text is accepted, refused or wrong, and says so.
 #[test]
 fn damaged_texts_are_said_to_be_wrong() {
     let mut random = Random(0xbad);
@@ -189,20 +206,8 @@ fn damaged_texts_are_said_to_be_wrong() {
         .collect();
     let mut seen = [0; 3];
     for _ in 0..4000 {
-        let mut damaged: Vec<char> = random.one_of(&texts).chars().collect();
-        for _ in 0..1 + random.below(3) {
-            let at = random.below(damaged.len());
-            let character = random.one_of(&[
-                '(', ')', '{', '}', ':', '-', '>', '.', '"', '#', '\n', ' ', '0', 'q', '\u{fc}',
-                '=',
-            ]);
-            match random.below(3) {
-                0 => drop(damaged.remove(at)),
-                1 => damaged.insert(at, character),
-                _ => damaged[at] = character,
-            }
-        }
-        let damaged: String = damaged.into_iter().collect();
+        let text = random.one_of(&texts);
+        let damaged = damaged(&mut random, &text);
         let ran = run(&["check", "-"], damaged.as_bytes());
         seen[usize::from(ran.status)] += 1;
         let only_warned = ran.err.is_empty() || ran.err.starts_with("warning: ");
@@ -217,6 +222,33 @@ fn damaged_texts_are_said_to_be_wrong() {
         seen.iter().all(|count| *count > 50),
         "each status occurs: {seen:?}"
     );
+}
+
+/// Each damaged listing is a table or wrong, and says so.
+#[test]
+fn damaged_tables_are_said_to_be_wrong() {
+    let mut random = Random(0xbad);
+    let listings: Vec<(String, String)> = ["panel-of-three", "form-product", "form-order"]
+        .map(|name| folder("../../examples").join(format!("{name}.case")))
+        .into_iter()
+        .map(|file| file.display().to_string())
+        .map(|file| (run(&["report", "--names", &file], &[]).text(), file))
+        .collect();
+    let mut seen = [0; 2];
+    for _ in 0..2000 {
+        let (listing, file) = random.one_of(&listings);
+        let damaged = damaged(&mut random, &listing);
+        let ran = run(&["judge", &file, "-"], damaged.as_bytes());
+        seen[usize::from(ran.status == 2)] += 1;
+        assert!(ran.status != 1, "{damaged}");
+        assert_eq!(ran.err.is_empty(), ran.status == 0, "{damaged}");
+        assert_eq!(
+            ran.err.contains("--> <stdin>:"),
+            ran.status == 2,
+            "{damaged}"
+        );
+    }
+    assert!(seen.iter().all(|count| *count > 50), "{seen:?}");
 }
 
 /// A formula may be longer in a text than the desk takes it, up to a limit.

@@ -48,7 +48,8 @@ const COMMANDS: [(&str, &str, &str); 12] = [
         "koelchair judge [--json] FILE TABLE",
         "Says whether a table is sound: yes where no entry is too high, that is, where each is at or below what a round worked on the\n\
          table gives there; and then whether it is tight, so that the round changes nothing. Else no, with the first pair whose entry\n\
-         is too high. TABLE is a listing of report, with names or without, or its lines `columns` and `row` alone.",
+         is too high. Either is an answer, with exit status 0. TABLE is a listing of report, with names or without, or its lines\n\
+         `columns` and `row` alone.",
     ),
     (
         "explain",

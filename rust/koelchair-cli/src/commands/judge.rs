@@ -1,6 +1,6 @@
 //! `judge`: whether a table that is handed in is sound, that is, whether no entry is too high; a sound one may be tight too. Yes or no, and
-//! what a round worked from the table gives for each pair, are answers of the library. The tool compares the two by the lattice's order
-//! to name a pair and to count; that it found otherwise than the library would be an error.
+//! what a round worked on the table gives for each pair, are answers of the library. The tool compares the table with that round by the
+//! lattice's order, to name a pair and to count; that it found otherwise than the library would be an error.
 
 use super::input::{read_letters, shown_name};
 use super::{document, open, read_text, Arguments, Failure, Opened, Outcome, Printed};
@@ -10,6 +10,10 @@ use crate::json::{object, string};
 use crate::table_text;
 use koelchair::{Desk, DeskRef, Refusal, State, TABLE_LENGTH};
 use std::io::Read;
+
+const YES: &str = "yes: the table is sound, no entry is too high";
+const TIGHT: &str = "tight: a round worked on it changes nothing, so it is a simulation";
+const NO: &str = "no: the table is not sound, an entry is too high";
 
 /// Runs `judge`.
 pub fn judge(arguments: &[String], input: &mut dyn Read) -> Outcome {
@@ -36,7 +40,8 @@ fn read_table(file: &str, case: &Case, input: &mut dyn Read) -> Result<Vec<u8>, 
     table_text::parse(&source, case).map_err(|errors| Failure::Text(source, errors))
 }
 
-/// F of a table of N1·N2 elements, entry by entry from the library: it is lent the desk with this table for both of its own.
+/// A round worked on a table of N1·N2 elements, that is F of it, entry by entry from the library: it is lent the desk with this table in place of
+/// both of its own.
 fn next_round(desk: &Desk, table: &[u8]) -> Result<Vec<u8>, Refusal> {
     let mut padded = table.to_vec();
     padded.resize(TABLE_LENGTH, 0);
@@ -125,10 +130,6 @@ impl Judged {
     }
 }
 
-const YES: &str = "yes: the table is sound, no entry is too high";
-const TIGHT: &str = "tight: a round worked on it changes nothing, so it is a simulation";
-const NO: &str = "no: the table is not sound, an entry is too high";
-
 /// A table beside a round worked on it: the first entry that is too high, or how many are raised.
 fn compare(case: &Case, table: &[u8], next: &[u8]) -> Verdict {
     let (lattice, columns) = (&case.lattice, case.models[1].size());
@@ -164,9 +165,8 @@ impl TooHigh {
     fn words(&self, case: &Case) -> String {
         let [student, course] = self.states(case);
         let [entry, next] = [self.entry, self.next].map(|e| case.element(e));
-        let lattice = &case.lattice;
-        let lower = lattice.at_most(usize::from(self.next), usize::from(self.entry));
-        let gives = match lower {
+        let [high, low] = [self.entry, self.next].map(usize::from);
+        let gives = match case.lattice.at_most(low, high) {
             true => format!("gives only {next}"),
             false => format!("gives {next}, which is not in order with it"),
         };

@@ -93,7 +93,7 @@ fn a_table_is_written_in_many_ways() {
         "columns: 1 0\nrow 2: yes 0\nrow half: 0 no\nrow old: bottom no\n",
         "# by hand\n\n  columns:  old  new # the course's\nrow  old:no no\r\nrow half: no no\r\n\r\nrow new : no top",
         "\u{feff}rounds 3\nrow old: no no\nrow half: no no\nrow new: no yes\nscore no\n",
-        "formula f: student no, course yes\n  row old: said of no formula\nrow old: no no\nrow half: no no\nrow new: no yes\n",
+        "formula f: student no, course yes\n# its facts\n\n  row old: 100 %\nrow old: no no\nrow half: no no\nrow new: no yes\n",
     ] {
         assert_eq!(judged(&case, table), tight(), "{table}");
     }
