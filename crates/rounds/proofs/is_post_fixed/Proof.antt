@@ -47,7 +47,7 @@ said c =
     let b = c .before .before .before .before .before .before .before .before .before .before .before .before .before .before .before in
     let l : c .before .before .before .before .before .before .loop .q1 < getD (b .args .m1 .now) 0 0 = omega (arith, c .before .before .before .before .before .before .before .before .before .before .before .states .ensures) in
     let n = c .before .before .before .before .before .before .before .before .before .before .states2 .ensures in
-    c .all-at-most .ensures ∙ row-within (b .args .w .now) _ _ _ (b .args .s .now) (c .before .before .before .before .before .before .before .inner-joins .last .1 .1 .1 .1 .1 .0) _ (row-at (b .args .m1 .now) (b .args .m2 .now) (b .args .s .now) _ _ _ (b .pre .1) l n refl) n (c .before .before .row-from .ensures)
+    row-within (b .args .w .now) _ _ _ (b .args .s .now) (c .before .before .before .before .before .before .before .inner-joins .last .1 .1 .1 .1 .1 .0) _ (row-at (b .args .m1 .now) (b .args .m2 .now) (b .args .s .now) _ _ (c .before .before .before .before .before .before .loop .q1) (b .pre .1) l n refl) n (c .before .before .row-from .ensures) (c .all-at-most .ensures)
 
 -- all rows are the table
 all-rows : (c : tie.After-inner-joins Inv-loop μ-loop) → let a = c .before .before .before .before .before .before .before .before .args in
