@@ -1,6 +1,6 @@
 -- Demand 3: one claim about every list of calls from any desk, refused ones included, with an accepted opening in it. Rests on Run.
---   FactsAnswered: value or whole answered these facts of a formula; BoundedBy: the shown entries bound a formula; Covers: when this is promised
---   Passes: judge says yes of a table; BoundedIn: the entries of a table bound a formula
+--   FactsAnswered: value or whole answered these facts of a formula; SaysYes: judge says yes of a table
+--   BoundedIn, BoundedBy: the entries of a table, and those shown, bound a formula; Covers: when this is promised
 --   Claim: the claim, a field for each part of it; Demand3: there are a last accepted opening and a T of which it holds
 -- Demand3Holds proves it.
 use Prim.Native.Nat.{ℕ, _+_, _*_, _-_, _%_, _≤_, _<_}
@@ -17,8 +17,8 @@ use Rattle.refusal.specs.declared.Refusal.the-variants.{ShortDesk, SpoiledDesk}
 use Rattle.formula.specs.declared.FormulaFacts.{FormulaFacts}
 use Rattle.casefile.specs.Reading.{Content, refused, content, caseReading, storeReading}
 use Rattle.desk.specs.Desk.{Desk, Question, Call, Reply}
-use Rattle.desk.specs.Case.{ops, model1, model2, N1, tableSize, formulaIn, roundIn, IsT, tableBytes}
-use Rattle.desk.specs.Refused.{short, spoiled, examined, accepted}
+use Rattle.desk.specs.Case.{ops, model1, model2, N1, tableSize, formulaIn, operator, roundIn, IsT, tableBytes}
+use Rattle.desk.specs.Refused.{short, spoiled, InRange, examined, accepted}
 use Rattle.desk.specs.View.{shownTable, givenTable}
 use Rattle.desk.specs.Perform.{asked, showAnswer}
 use Rattle.desk.specs.Run.{run, LastOpening, answersSince, roundAfter, answerAfter, viewAfter, AnsweredFrom}
@@ -27,6 +27,15 @@ use Rattle.desk.specs.Run.{run, LastOpening, answersSince, roundAfter, a
 pub data FactsAnswered (d : Desk) (f : ℕ) (x : FormulaFacts) : Type 0 where
   by-value : (m q e : ℕ) → asked (Question.Value f m q) d ≡ Reply.FormulaValue e x → FactsAnswered d f x
   by-whole : (m e : ℕ) → asked (Question.Whole f m) d ≡ Reply.FormulaValue e x → FactsAnswered d f x
+
+-- judge on the desk d says yes of the table t: t passes
+abbrev pub SaysYes : Desk → List ℕ → Type 0
+SaysYes d t = asked (Question.Judge t) d ≡ Reply.Says true
+
+-- 'A pair's entry is at most "not the formula's value at the pair's state of model 2, joined with its value at the pair's state of model 1"', of every
+-- entry of a table
+abbrev pub BoundedIn : Content → (ℕ → ℕ → ℕ) → Formula → Type 0
+BoundedIn c S φ = Bounds (ops c) (model1 c) (model2 c) S (valueAt (ops c) (model1 c) φ) (valueAt (ops c) (model2 c) φ)
 
 -- c is what the case holds, `answers` are those of the accepted steps since it was opened, d is the desk after the list
 module _ (c : Content) (T : ℕ) (answers : List Reply) (d : Desk) where
@@ -44,20 +53,13 @@ module _ (c : Content) (T : ℕ) (answers : List Reply) (d : Desk) where
   abbrev Below : (ℕ → ℕ → ℕ) → (ℕ → ℕ → ℕ) → Type 0
   Below = AtMostTable (ops c) (model1 c) (model2 c)
 
-  -- 'A pair's entry is at most "not the formula's value at the pair's state of model 2, joined with its value at the pair's state of model 1"'
-  abbrev pub BoundedIn : (ℕ → ℕ → ℕ) → Formula → Type 0
-  BoundedIn S φ = Bounds (ops c) (model1 c) (model2 c) S (valueAt (ops c) (model1 c) φ) (valueAt (ops c) (model2 c) φ)
-
+  -- the same of the entries shown
   abbrev pub BoundedBy : Formula → Type 0
-  BoundedBy = BoundedIn (shownTable c d)
+  BoundedBy = BoundedIn c (shownTable c d)
 
   -- the conditions under which demand 3 promises it, of a formula with the facts x: no EX, and either no fixpoint and fewer than r nested AX, or r = T
   abbrev pub Covers : FormulaFacts → Type 0
   Covers x = (x .ex ≡ false) × (((x .fixpoint ≡ false) × (x .nesting < r)) ⊎ (r ≡ T))
-
-  -- judge says yes of the table t
-  abbrev pub Passes : List ℕ → Type 0
-  Passes t = asked (Question.Judge t) d ≡ Reply.Says true
 
   pub record Claim : Type 0 where
     -- 'after the list the standing's round is r, its next row is s modulo N1 while r is below T and 0 at T, and it is settled
@@ -79,13 +81,15 @@ module _ (c : Content) (T : ℕ) (answers : List Reply) (d : Desk) where
     -- request 102: that the shown entries bound a formula of the case is known from the facts that value or whole answers of it. By
     -- `question-next` these are the same after every list with this last accepted opening, so that one answer serves for all later rounds.
     pub covered : (f : ℕ) (x : FormulaFacts) → FactsAnswered d f x → Covers x → BoundedBy (formulaIn c f)
-    -- request 104: 'Whatever it passes must lie at or below the greatest simulation', whatever that is, 'and keep the bound for every closed
-    -- universal formula', at every pair and whatever round is shown
-    pub passed-below : (t : List ℕ) → Passes t → (G : ℕ → ℕ → ℕ) → GreatestSimulation (ops c) (model1 c) (model2 c) G → Below (givenTable c t) G
-    pub passed-bounds : (t : List ℕ) → Passes t → (φ : Formula) → UniversalSentence (model1 c .propositions) φ → BoundedIn (givenTable c t) φ
+    -- request 104: 'S at or below F(S) everywhere. Judge shall say yes exactly then', of a table that 13 does not refuse
+    pub passes-exactly : (t : List ℕ) → SaysYes d t ↔ (InRange (Question.Judge t) (viewAfter c T s) × Below (givenTable c t) (operator c (givenTable c t)))
+    -- 'Whatever it passes must lie at or below the greatest simulation', whatever that is, 'and keep the bound for every closed universal formula', at
+    -- every pair and whatever round is shown
+    pub passed-le : (t : List ℕ) → SaysYes d t → (G : ℕ → ℕ → ℕ) → GreatestSimulation (ops c) (model1 c) (model2 c) G → Below (givenTable c t) G
+    pub passed-bounds : (t : List ℕ) → SaysYes d t → (φ : Formula) → UniversalSentence (model1 c .propositions) φ → BoundedIn c (givenTable c t) φ
     -- every simulation passes. What show answers passes exactly from round T − 1 on, whose table is that of round T: so on every settled desk
-    pub simulation-passes : (S : ℕ → ℕ → ℕ) → Simulation (ops c) (model1 c) (model2 c) S → Passes (tableBytes c S)
-    pub shown-passes : (t : List ℕ) → showAnswer d ≡ Reply.Shown t → Passes t ↔ (T ≤ r + 1)
+    pub simulation-passes : (S : ℕ → ℕ → ℕ) → Simulation (ops c) (model1 c) (model2 c) S → SaysYes d (tableBytes c S)
+    pub shown-passes-exactly : (t : List ℕ) → showAnswer d ≡ Reply.Shown t → SaysYes d t ↔ (T ≤ r + 1)
     -- 'T is at most N1·N2·(h − 1) + 1, h being the number of elements in the lattice's longest chain'; there is such an h
     pub h-exists : (h : ℕ) × LongestChain (ops c) h
     pub T-most : (h : ℕ) → LongestChain (ops c) h → T ≤ tableSize c * (h - 1) + 1

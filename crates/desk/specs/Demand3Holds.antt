@@ -1,11 +1,11 @@
 -- Demand 3 holds. Rests on Demand3, Listed, Next, Judged, Stands, RefusedLaws, formula's RoundTrip, and theory's Rounds, Preservation, Height and Sharp.
 --   demand3: every list of calls with an accepted opening in it has the demand; listed: the claim holds for whatever last accepted opening and T
---   claimed: the claim from the invariant; facts-own, covered-shown: the facts that value and whole answer, and the bound that follows; T-most-sharp:
+--   claimed: the claim from the invariant; same-shown: show's answer leaves no choice; facts-own, covered-shown: the facts that value and whole answer, and the bound that follows; T-most-sharp:
 --   another limit of T
 --   ranges, asked-next; value-next, whole-next, score-next, share-next, judge-next: what it says of the questions one by one
 use Prim.Native.Nat.{ℕ, suc, _+_, _-_, _≤_, _<_}
 use mathlib.Core.Path.{_≡_, refl, sym, ap, _∙_, subst}
-use mathlib.Core.Bool.{Bool, true, false}
+use mathlib.Core.Bool.{true, false}
 use mathlib.Core.Logic.{⊎-elim, _↔_}
 use mathlib.Core.List.{List, _∷_}
 use native.Mathlib.Omega.{arith}
@@ -15,7 +15,7 @@ use Rattle.theory.specs.Value.{valueAt, wholeValue}
 use Rattle.theory.specs.Formula.{Formula, fixpointFree, nestedAX, UniversalSentence}
 use Rattle.theory.specs.Simulation.{score, share}
 use Rattle.theory.specs.Height.{longest-chain}
-use Rattle.theory.specs.Rounds.{T-at-most, settled-greatest, below-rounds, fixed-below, F-mono}
+use Rattle.theory.specs.Rounds.{T-at-most, settled-greatest, below-rounds, fixed-below}
 use Rattle.theory.specs.Preservation.{bounded-by-round, bounded-at-T}
 use Rattle.theory.specs.Sharp.{T-sharp}
 use Rattle.refusal.specs.declared.Refusal.{Refusal}
@@ -30,15 +30,15 @@ use Rattle.desk.specs.Case.{ops, model1, model2, tableSize, modelIn, for
 use Rattle.desk.specs.Refused.{InRange, accepted, numberReply}
 use Rattle.desk.specs.Moved.{opened}
 use Rattle.desk.specs.View.{View, givenTable}
-use Rattle.desk.specs.Perform.{perform, asked, answerTo, moved}
+use Rattle.desk.specs.Perform.{perform, asked, showAnswer, answerTo, moved}
 use Rattle.desk.specs.Run.{run, openings, LastOpening, answersSince, roundAfter, answerAfter, viewAfter}
-use Rattle.desk.specs.RefusedLaws.{perform-accepted, OpenAccepted, open-long, open-accepted, unrefused-accepted}
+use Rattle.desk.specs.RefusedLaws.{perform-accepted, OpenAccepted, open-long, open-accepted, unrefused-accepted, answered-reply}
 use Rattle.desk.specs.RulesLaws.{spoiled-exactly}
 use Rattle.desk.specs.Stands.{known-sound, Stands, opening-starts}
 use Rattle.desk.specs.Next.{at, stands-unspoiled, never-11-or-12, ranges-are, shows, below-shown, shown-below, show-is, answered-from}
-use Rattle.desk.specs.Judged.{PostFixed, judge-yes, judge-no, passed-below, passed-bounds, simulation-passes, round-passes}
+use Rattle.desk.specs.Judged.{PostFixed, judge-yes, judge-no, passes-exactly, passed-le, passed-bounds, simulation-passes, round-passes-exactly}
 use Rattle.desk.specs.Listed.{run-append, last-opening, opening-T, Since, since}
-use Rattle.desk.specs.Demand3.{FactsAnswered, by-value, by-whole, BoundedBy, Covers, Claim, Demand3}
+use Rattle.desk.specs.Demand3.{FactsAnswered, by-value, by-whole, SaysYes, BoundedBy, Covers, Claim, Demand3}
 
 -- ---- the bounds, and the facts that value and whole answer
 
@@ -83,8 +83,9 @@ module _ {c : Content} {T : ℕ} (answers : List Reply) (d : Desk) (w : Stands c
       let u = sentence f x (own .0) (own .1) (h .0) in
       ⊎-elim (λ l. shown-by-round (formulaIn c f) u (not-false _ (ap (λ (y : FormulaFacts). y .fixpoint) (sym (own .1)) ∙ l .0)) (rw (own .1) at (l .1))) (λ z. shown-at-T z (formulaIn c f) u) (h .1)
 
-same-bytes : {x y : List ℕ} → Reply.Shown x ≡ Reply.Shown y → x ≡ y
-same-bytes e = cc
+-- show's answer leaves no choice of its bytes
+pub same-shown : (x : Reply) (a b : List ℕ) → x ≡ Reply.Shown a → x ≡ Reply.Shown b → a ≡ b
+same-shown x a b p q = cc
 
 module _ {c : Content} {T : ℕ} where
   pub claimed : (answers : List Reply) (d : Desk) → Stands c T (length answers) d → ((i : ℕ) → i < length answers → getD answers i Reply.Row ≡ answerAfter c T (suc i)) → Claim c T answers d
@@ -102,14 +103,15 @@ module _ {c : Content} {T : ℕ} where
         settled-exactly = p .settled-exactly;
         store-holds = stands-unspoiled w .rules .reads;
         shown-is = shows w;
-        above = λ G g. below-shown w G (below-rounds L (model1 c) (model2 c) G (fixed-below L (model1 c) (model2 c) (operator c) (λ S U. F-mono L (model1 c) (model2 c)) G (g .isFixed)) (roundAfter c T (length answers)));
+        above = λ G g. below-shown w G (below-rounds L (model1 c) (model2 c) G (fixed-below L (model1 c) (model2 c) (operator c) G (g .isFixed)) (roundAfter c T (length answers)));
         bounded-by-round = shown-by-round answers d w;
         bounded-at-T = shown-at-T answers d w;
         covered = covered-shown answers d w;
-        passed-below = passed-below v n sound;
+        passes-exactly = passes-exactly v n;
+        passed-le = passed-le v n sound;
         passed-bounds = passed-bounds v n sound;
         simulation-passes = simulation-passes v n sound;
-        shown-passes = λ t e. let z : tableBytes c (roundIn c (v .round)) ≡ t = same-bytes (sym (show-is w) ∙ e) in rw z at (round-passes v n sound T (w .known .isT) (v .round));
+        shown-passes-exactly = λ t e. let z : tableBytes c (roundIn c (v .round)) ≡ t = same-shown (showAnswer d) _ t (show-is w) e in rw z at (round-passes-exactly v n sound T (w .known .isT) (v .round));
         T-greatest = settled-greatest L (model1 c) (model2 c) T (w .known .isT);
         h-exists = (h .0, h .2);
         T-most = λ n l. T-at-most L (model1 c) (model2 c) n l T (w .known .isT);
@@ -134,7 +136,7 @@ module _ {c : Content} {T : ℕ} {answers : List Reply} {d : Desk} (w : Claim c 
   ranges q = w .question-next q .accepts
 
   pub asked-next : (q : Question) → accepted (Call.Ask q) d ≡ true → asked q d ≡ answerTo q view .reply
-  asked-next q a = ap (λ x. x .reply) (w .question-next q .answers (ranges q .0 a))
+  asked-next q a = answered-reply (w .question-next q) a
 
   pub value-next : (f m q : ℕ) → accepted (Call.Ask (Question.Value f m q)) d ≡ true
       → asked (Question.Value f m q) d ≡ Reply.FormulaValue (valueAt (ops c) (modelIn c m) (formulaIn c f) q) (factsOf (formulaIn c f))
@@ -152,7 +154,7 @@ module _ {c : Content} {T : ℕ} {answers : List Reply} {d : Desk} (w : Claim c 
   share-next e a = asked-next (Question.Share e) a
 
   pub judge-next : (t : List ℕ) → accepted (Call.Ask (Question.Judge t)) d ≡ true
-      → ((asked (Question.Judge t) d ≡ Reply.Says true) ↔ PostFixed c (givenTable c t)) × ((asked (Question.Judge t) d ≡ Reply.Says false) ↔ ¬ (PostFixed c (givenTable c t)))
+      → (SaysYes d t ↔ PostFixed c (givenTable c t)) × ((asked (Question.Judge t) d ≡ Reply.Says false) ↔ ¬ (PostFixed c (givenTable c t)))
   judge-next t a = (judge-yes view (w .question-next) t a, judge-no view (w .question-next) t a)
 
 -- for every list of calls, every desk, whatever last accepted opening there is, and whatever is T

@@ -28,7 +28,7 @@ answerTo (Question.Value f m q) v = replyAlone (Reply.FormulaValue (valueAt (ops
 answerTo (Question.Whole f m) v = replyAlone (Reply.FormulaValue (wholeValue (ops (v .holds)) (modelIn (v .holds) m) (formulaIn (v .holds) f)) (factsOf (formulaIn (v .holds) f)))
 answerTo (Question.Share e) v = replyAlone (Reply.PerCent (share (ops (v .holds)) (tableSize (v .holds)) (entryAt (v .holds) (v .shown)) e))
 answerTo (Question.Judge t) v =
-    replyAlone (Reply.Says (postFixedTest (model1 (v .holds)) (model2 (v .holds)) (operator (v .holds)) (ops (v .holds)) (givenTable (v .holds) t)))
+    replyAlone (Reply.Says (postFixedTest (ops (v .holds)) (model1 (v .holds)) (model2 (v .holds)) (operator (v .holds)) (givenTable (v .holds) t)))
 
 -- 'show gives the first N1·N2 bytes of the whole table'
 unfoldable pub answer : Call → Content → Desk → Reply

@@ -1,11 +1,11 @@
 -- Theorems on which refusal a call gets, or the content that it works on: for demand 1, demand 3 and the proofs of the code.
--- Rests on Refused, Perform and RulesLaws.
+-- Rests on Refused, Perform, Run and RulesLaws.
 --   perform-refused, perform-accepted: what a call does, from its examination
 --   is-short, open-long, is-spoiled, in-store: which refusal, and when; Unspoiled: neither 11 nor 12 applies
 --   OpenAccepted, open-accepted, OtherAccepted, other-accepted: what an accepted call knows of its desk
 --   Outcome, outcome: what may come of a call that does not open; opens-or-not: a call opens or does not
 --   accepted-content, refused-refusal, content-accepted: accepted or refused, and never both; unrefused-accepted: a question that answers no refusal
---     is accepted
+--     is accepted; answered-reply: what an accepted question answers, from a view
 use Prim.Native.Nat.{ℕ}
 use mathlib.Core.Path.{_≡_, refl, sym, ap, _∙_}
 use mathlib.Core.Bool.{Bool, true, false, cond, not}
@@ -18,9 +18,10 @@ use Rattle.refusal.specs.declared.Refusal.the-variants.{ShortDesk, SpoiledDesk}
 use Rattle.casefile.specs.Reading.{Content, CaseReading, refused, content, caseReading, storeReading}
 use Rattle.casefile.specs.Accepted.{refused-content}
 use Rattle.desk.specs.Desk.{Desk, Question, Call, Reply, isOpen, callLentBuffers}
-use Rattle.desk.specs.View.{viewOf}
+use Rattle.desk.specs.View.{View, viewOf}
 use Rattle.desk.specs.Refused.{short, obeysFor, spoiledAs, Rules, spoiled, callConditions, firstRefusal, afterRules, ofStore, afterShort, examined, isContent, accepted, numberReply, refusedReply}
-use Rattle.desk.specs.Perform.{perform, performed, asked, answer, moved, lentAfter}
+use Rattle.desk.specs.Perform.{answerTo, perform, performed, asked, answer, moved, lentAfter}
+use Rattle.desk.specs.Run.{AnsweredFrom}
 use Rattle.desk.specs.RulesLaws.{rules-in, spoiled-exactly}
 
 -- ---- 'a refusal alters nothing'
@@ -155,3 +156,7 @@ content-accepted k d c e = ap isContent e
 
 pub unrefused-accepted : (q : Question) (d : Desk) (x : Reply) → asked q d ≡ x → ((r : Refusal) → numberReply r ≡ x → ⊥) → accepted (Call.Ask q) d ≡ true
 unrefused-accepted q d x p never = not-failed _ (λ a. let r = refused-refusal (Call.Ask q) d a in never (r .0) (sym (ap (λ y. y .reply) (perform-refused (Call.Ask q) d (r .0) (r .1))) ∙ p))
+
+-- an accepted question that is answered from a view
+pub answered-reply : {q : Question} {d : Desk} {v : View} → AnsweredFrom q d v → accepted (Call.Ask q) d ≡ true → asked q d ≡ answerTo q v .reply
+answered-reply n a = ap (λ x. x .reply) (n .answers (n .accepts .0 a))

@@ -75,7 +75,7 @@ pub fn share<'a>(
     desk_questions::share(*s, store, first, second, e)
 }
 
-// Whether a table is a simulation.
+// Whether each entry of a table is at or below that of F of the table.
 pub fn judge(
     s: &mut Standing,
     store: &[u8],

@@ -104,7 +104,8 @@ pub fn at_most(w: &Codes, a: Element, b: Element) -> bool
     (x & y) == x
 }
 
-// Each of `count` bytes of s from `from` on is at or below the element whose code stands at its place in `codes`: up to the first that is not.
+// Each of `count` bytes of s from `from` on is at or below the element whose code stands at its place in `codes`. They are compared up to the first
+// that is not.
 pub fn all_at_most(w: &Codes, s: &[u8], from: usize, count: usize, codes: &[u64; 64]) -> bool
     requires { ⌜ (from + count ≤ length (now s)) × (count ≤ 64) ⌝ }
     ensures { λ r. ⌜ r ≡ allBelow count (λ i. within (codeIn (now (w .entry)) (getD (now (s .entry)) (from + i) 0)) (getD (now (codes .entry)) i 0)) ⌝ }

@@ -100,7 +100,7 @@ pub extern "C" fn koelchair_share<'a>(
     per_cent(desk_questions::share(s, store, first, second, Element(e)))
 }
 
-// Whether a table is a simulation.
+// Whether each entry of a table is at or below that of F of the table.
 #[no_mangle]
 pub extern "C" fn koelchair_judge(
     s: Standing,

@@ -2,27 +2,27 @@
 -- Entries and desk's ViewLaws and Demand3Holds.
 --   Answers, textOfAnswers: what a settled desk answers, and the text of it
 --   answers-are: it has such answers; listing-answered: whatever they are, the listing is their text
-use Prim.Native.Nat.{ℕ, _+_, _*_, _<_}
+use Prim.Native.Nat.{ℕ, _<_}
 use mathlib.Core.Path.{_≡_, refl, sym, ap, ap₂, _∙_}
 use mathlib.Core.Bool.{true}
 use mathlib.Core.Logic.{inl, inr}
 use mathlib.Core.List.{List, _++_}
 use lib.ListN.{length}
 use Rattle.theory.specs.Value.{wholeValue}
-use Rattle.theory.specs.Simulation.{SameTable, score}
+use Rattle.theory.specs.Simulation.{score}
 use Rattle.formula.specs.declared.FormulaFacts.{FormulaFacts}
 use Rattle.formula.specs.Answer.{factsOf}
 use Rattle.casefile.specs.Reading.{Content}
 use Rattle.entries.specs.Table.{tableOf}
 use Rattle.desk.specs.Desk.{Desk, Question, Call, Reply}
-use Rattle.desk.specs.Case.{ops, model1, model2, N1, N2, tableSize, modelIn, formulaIn, roundIn, entryAt, tableBytes, IsT}
+use Rattle.desk.specs.Case.{ops, model1, model2, N1, N2, modelIn, formulaIn, roundIn, tableBytes, IsT}
 use Rattle.desk.specs.Perform.{asked, showAnswer}
 use Rattle.desk.specs.Run.{run, LastOpening, answersSince, roundAfter}
 use Rattle.desk.specs.RefusedLaws.{open-accepted}
 use Rattle.desk.specs.ViewLaws.{bytes-table}
 use Rattle.desk.specs.Listed.{opening-T}
 use Rattle.desk.specs.Demand3.{Claim}
-use Rattle.desk.specs.Demand3Holds.{listed, ranges, whole-next, score-next}
+use Rattle.desk.specs.Demand3Holds.{same-shown, listed, ranges, whole-next, score-next}
 use Rattle.listing.specs.Text.{roundsLabel, scoreLabel, lastItem, each, rowsText, tableText, formulaText, formulaLine, formulasText, acceptedText, listingText}
 use Rattle.listing.specs.Writing.{each-cong}
 use Rattle.listing.specs.Entries.{rows-cong}
@@ -49,9 +49,6 @@ same-element x a b p q = cc
 
 same-value : (x : Reply) (a b : ℕ) (i j : FormulaFacts) → x ≡ Reply.FormulaValue a i → x ≡ Reply.FormulaValue b j → a ≡ b
 same-value x a b i j p q = cc
-
-same-shown : (x : Reply) (a b : List ℕ) → x ≡ Reply.Shown a → x ≡ Reply.Shown b → a ≡ b
-same-shown x a b p q = cc
 
 module _ (c : Content) (T : ℕ) (answers : List Reply) (d : Desk) (w : Claim c T answers d) (settled : d .standing .settled ≡ true) where
   at-T : roundAfter c T (length answers) ≡ T

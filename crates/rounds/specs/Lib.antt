@@ -1,8 +1,8 @@
 -- Tables held as bytes. Definitions first, then the theorems on them.
 -- ---- what a reader must believe
-pub mod Table  -- a row written into a table of bytes, the test for a simulation, the contracts' terms
+pub mod Table  -- a row written into a table of bytes, the tests whether a table equals F of it and is at or below it, the contracts' terms
 -- ---- theorems
-pub mod Round  -- rows worked one by one are a round; the test is passed exactly by simulations
+pub mod Round  -- rows worked one by one are a round; what the two tests on tables say
 pub mod Rest  -- the rows of a round from a given one on
 -- ---- for the code
 pub mod Row  -- where a row stands, and what a loop over its entries has done so far

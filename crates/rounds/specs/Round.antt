@@ -1,4 +1,5 @@
--- A whole round by its rows is F; no row changed exactly when the round equals the one before; the test for a simulation.
+-- A whole round by its rows is F; no row changed exactly when the round equals the one before; the test for a simulation, and that for a table at or
+-- below F of it.
 -- Rests on Table, entries' Table, and theory's Simulation, Rounds, Loop, Test.
 --   RoundSoFar, RoundIn: the rows below q are worked, with what they changed; a whole round on bytes
 --   round-none, round-more, round-reached: no row, one row more, all rows
@@ -132,10 +133,10 @@ module _ (O : Ops ℕ) (M₁ M₂ : Model ℕ) (G : (ℕ → ℕ → ℕ) → �
 
   -- ---- the test whether a table is at or below G of it
 
-  pub post-fixed-test : (S : ℕ → ℕ → ℕ) → (postFixedTest M₁ M₂ G O S ≡ true) ↔ PostFixedBy O M₁ M₂ G S
+  pub post-fixed-test : (S : ℕ → ℕ → ℕ) → (postFixedTest O M₁ M₂ G S ≡ true) ↔ PostFixedBy O M₁ M₂ G S
   unfolding postFixedTest rowAtMost
   post-fixed-test S = (
-    λ t q₁ l q₂ m. all-at _ (entryAtMost M₁ M₂ G O S q₁) (all-at _ (rowAtMost M₁ M₂ G O S) t q₁ l) q₂ m,
+    λ t q₁ l q₂ m. all-at _ (entryAtMost O M₁ M₂ G S q₁) (all-at _ (rowAtMost O M₁ M₂ G S) t q₁ l) q₂ m,
     λ s. all-in _ _ (λ q₁ l. all-in _ _ (λ q₂ m. s q₁ l q₂ m)),
   )
 

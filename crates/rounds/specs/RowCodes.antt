@@ -46,14 +46,14 @@ module _ {w : List ℕ} {l : Lattice} (c : Coded w l) {m₁ m₂ s joins codes :
 abbrev pub rowWithin : List ℕ → ℕ → List ℕ → List ℕ → List ℕ → List ℕ → ℕ → Bool
 rowWithin w top m₁ m₂ s joins q₁ = allBelow (getD m₂ 0 0) (λ q₂. within (codesOfTable w m₂ s q₁ q₂) (entryCode w top m₁ m₂ (byRow joins) q₁ q₂))
 
--- what is found from the codes of F's row, which begins at the place `at` of s
+-- what is found of row q₁ of s, which begins at its place `at`, from the codes of F's row
 pub row-within : (w : List ℕ) (top : ℕ) (m₁ m₂ s joins codes : List ℕ) {q₁ n₂ at : ℕ} {found : Bool} → RowAt m₁ m₂ q₁ n₂ at → n₂ ≡ getD m₂ 0 0
     → Filled (entryCode w top m₁ m₂ (byRow joins) q₁) (getD m₂ 0 0) codes → found ≡ allBelow n₂ (λ q. within (codeIn w (getD s (at + q) 0)) (getD codes q 0))
     → found ≡ rowWithin w top m₁ m₂ s joins q₁
 row-within w top m₁ m₂ s joins codes {n₂ = n₂} {at = at} a e f g =
     g ∙ all-cong n₂ _ _ (λ q k. ap (within (codeIn w (getD s (at + q) 0))) (f .at q (omega (arith, e)))) ∙ rw (a .here, e)
 
--- the code of an entry of F is that of its element, so that the rows are at or below F's
+-- the code of an entry of F is that of its element, so that the test of all rows by codes is `postFixedIn`
 pub post-fixed-in : {w : List ℕ} {l : Lattice} (c : Coded w l) {m₁ m₂ s joins : List ℕ} → JoinsOf w m₁ m₂ s joins
     → allBelow (getD m₁ 0 0) (rowWithin w (codeIn w (l .top .0)) m₁ m₂ s joins) ≡ postFixedIn w l m₁ m₂ s
 unfolding postFixedTest rowAtMost

@@ -1,5 +1,5 @@
 -- A row that is written into a table of bytes, and the tests on tables; then the terms of the contracts, which say the
--- same of the bytes of models and tables and of a lattice's codes. Rests on theory's Model, Part, Simulation, Test and Lists, elements' Words,
+-- same of the bytes of models and tables and of a lattice's codes. Rests on theory's Lattice, Model, Part, Simulation, Test and Lists, elements' Words,
 -- and entries' Table.
 --   Room: what the functions ask of a table to write into
 --   rowWritten, entrySame, rowSame, rowChanged, changedBelow, simulationTest: a row in its place, what it changes, S = G(S)
@@ -50,17 +50,17 @@ module _ (M₁ M₂ : Model ℕ) (G : (ℕ → ℕ → ℕ) → ℕ → ℕ → 
   unfoldable pub simulationTest : (ℕ → ℕ → ℕ) → Bool
   simulationTest S = allBelow (M₁ .states) (rowSame S)
 
-  module _ (O : Ops ℕ) where
-    -- S is at or below G S at (q1, q2); in row q1
-    abbrev pub entryAtMost : (ℕ → ℕ → ℕ) → ℕ → ℕ → Bool
-    entryAtMost S q₁ q₂ = O .atMost (S q₁ q₂) (G S q₁ q₂)
+module _ (O : Ops ℕ) (M₁ M₂ : Model ℕ) (G : (ℕ → ℕ → ℕ) → ℕ → ℕ → ℕ) where
+  -- S is at or below G S at (q1, q2); in row q1
+  abbrev pub entryAtMost : (ℕ → ℕ → ℕ) → ℕ → ℕ → Bool
+  entryAtMost S q₁ q₂ = O .atMost (S q₁ q₂) (G S q₁ q₂)
 
-    unfoldable pub rowAtMost : (ℕ → ℕ → ℕ) → ℕ → Bool
-    rowAtMost S q₁ = allBelow (M₂ .states) (entryAtMost S q₁)
+  unfoldable pub rowAtMost : (ℕ → ℕ → ℕ) → ℕ → Bool
+  rowAtMost S q₁ = allBelow (M₂ .states) (entryAtMost S q₁)
 
-    -- S at or below G(S), as a test; with F for G it is request 104's 'S at or below F(S) everywhere'
-    unfoldable pub postFixedTest : (ℕ → ℕ → ℕ) → Bool
-    postFixedTest S = allBelow (M₁ .states) (rowAtMost S)
+  -- S at or below G(S), as a test; with F for G it is request 104's 'S at or below F(S) everywhere'
+  unfoldable pub postFixedTest : (ℕ → ℕ → ℕ) → Bool
+  postFixedTest S = allBelow (M₁ .states) (rowAtMost S)
 
 -- ---- the terms of the contracts, with the codes w and the numbers l of a lattice
 
@@ -78,4 +78,4 @@ module _ (w : List ℕ) (l : Lattice) (m₁ m₂ : List ℕ) where
 
     -- s is at or below F of s
     abbrev pub postFixedIn : Bool
-    postFixedIn = postFixedTest (modelOf m₁) (modelOf m₂) (FIn w l m₁ m₂) (opsIn w l) (tableOf s (getD m₂ 0 0))
+    postFixedIn = postFixedTest (opsIn w l) (modelOf m₁) (modelOf m₂) (FIn w l m₁ m₂) (tableOf s (getD m₂ 0 0))

@@ -1,5 +1,5 @@
 // The simulation operator on tables that are held as bytes: a row, a round, whether a table is at or below F of it, and score. Everything is worked on
-// the codes of elements (crate `elements`), and an entry is turned back into its element once. A row alone is worked entry by entry (crate
+// the codes of elements (crate `elements`), and an entry that is written is turned back into its element once. A row alone is worked entry by entry (crate
 // `entries`), a round by the inner joins that its rows share.
 //   columns: the codes of all rows of a round
 mod columns;

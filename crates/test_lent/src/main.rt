@@ -127,7 +127,7 @@ fn valued(s: Standing, f: u8, m: u8, store: &[u8], first: &[u8], second: &[u8]) 
     say(b"\n");
 }
 
-// The questions of the shown table, with the share of an element e, and whether a table is a simulation.
+// The questions of the shown table, with the share of an element e, and judge's answer to a table.
 fn asked<'a>(s: Standing, e: u8, table: &[u8], store: &[u8], first: &'a [u8], second: &'a [u8]) {
     say(b"score");
     say_element(score(s, store, first, second));

@@ -5,8 +5,9 @@
 --   rounds-descend, below-rounds, round-element: theorem 3
 --   T-exists, T-unique, T-at-most, T-at-most-size, rounds-lower, T-of-one-element: theorem 4
 --   settled-greatest, settled-below, above-settled: theorem 5
---   post-fixed-below, round-post-fixed: S at or below F(S) lies at or below every greatest simulation; which rounds are so
---   stays, fixed-at-T, descend, below-every, fixed-below, rounds-element, exists-T, T-within: the same of any operator like F
+--   post-fixed-le, round-post-fixed-exactly: S at or below F(S) lies at or below every greatest simulation; which rounds are such tables
+--   stays, fixed-at-T, descend, below-every, fixed-below, rounds-element, exists-T, T-within, below-greatest, unlowered-exactly: the same of any
+--     operator like F
 use Prim.Native.Nat.{ℕ, zero, suc, _+_, _*_, _-_, _≤_, _<_}
 use mathlib.Core.Path.{_≡_, refl, sym, ap, _∙_, subst}
 use mathlib.Core.Logic.{_↔_, ⊎-elim}
@@ -19,7 +20,7 @@ use lib.ListN.{length}
 use Rattle.theory.specs.Lattice.{Ops, Laws, AtMost, Element, Chain, LongestChain, imp}
 use Rattle.theory.specs.Model.{Model}
 use Rattle.theory.specs.Value.{someNext}
-use Rattle.theory.specs.Simulation.{successorPart, F, round, roundOf, SameTable, AtMostTable, FixedBy, PostFixedBy, FirstUnchangedOf, FirstUnchanged, GreatestSimulation, score}
+use Rattle.theory.specs.Simulation.{successorPart, F, round, roundOf, SameTable, AtMostTable, FixedBy, PostFixedBy, GreatestFixedBy, FirstUnchangedOf, FirstUnchanged, GreatestSimulation, score}
 use Rattle.theory.specs.Folds.{meet-mono, bigMeet-cong, bigJoin-cong}
 use Rattle.theory.specs.Finite.{First}
 use Rattle.theory.specs.Descent.{Unlowered, lowerings, first-unlowered, lowerings-le, downwards, apart-most}
@@ -76,6 +77,9 @@ module _ {A : Type 0} {O : Ops A} (L : Laws O) (M₁ M₂ : Model A) where
   unfolding F
   F-element S q₁ q₂ = L .meet-element _ _
 
+  pub fixed-below : (G : (ℕ → ℕ → A) → ℕ → ℕ → A) (S : ℕ → ℕ → A) → FixedBy O M₁ M₂ G S → PostFixedBy O M₁ M₂ G S
+  fixed-below G S s q₁ l q₂ m = rw (← s q₁ l q₂ m) (L .rfl _)
+
   -- ---- a monotone operator
 
   module _ (G : (ℕ → ℕ → A) → ℕ → ℕ → A) (mono : (S U : ℕ → ℕ → A) → AtMostTable O M₁ M₂ S U → (q₁ q₂ : ℕ) → AtMost O (G S q₁ q₂) (G U q₁ q₂)) where
@@ -90,9 +94,6 @@ module _ {A : Type 0} {O : Ops A} (L : Laws O) (M₁ M₂ : Model A) where
     below-every S h zero q₁ l q₂ m = L .top-max _
     below-every S h (suc r) q₁ l q₂ m = L .trans (h q₁ l q₂ m) (mono _ _ (below-every S h r) q₁ q₂)
 
-    pub fixed-below : (S : ℕ → ℕ → A) → FixedBy O M₁ M₂ G S → PostFixedBy O M₁ M₂ G S
-    fixed-below S s q₁ l q₂ m = rw (← s q₁ l q₂ m) (L .rfl _)
-
     -- all rounds together lower at most N1·N2·(h − 1) entries
     pub rounds-lower : (h : ℕ) → LongestChain O h → (t : ℕ) → lowerings (O .atMost) (M₁ .states) (M₂ .states) (roundOf O M₁ M₂ G) t ≤ M₁ .states * M₂ .states * (h - 1)
     rounds-lower h c = lowerings-le (downwards L) h (apart-most L h (c .longest)) (M₁ .states) (M₂ .states) (roundOf O M₁ M₂ G) (λ t q₁ l q₂ m. descend t q₁ q₂)
@@ -102,6 +103,12 @@ module _ {A : Type 0} {O : Ops A} (L : Laws O) (M₁ M₂ : Model A) where
       unfolding roundOf
       rounds-element zero q₁ q₂ = L .top-element
       rounds-element (suc r) q₁ q₂ = element _ q₁ q₂
+
+      -- a round that the next one does not lower equals it
+      unlowered-same : (r : ℕ) → AtMostTable O M₁ M₂ (roundOf O M₁ M₂ G r) (roundOf O M₁ M₂ G (suc r)) → SameTable O M₁ M₂ (roundOf O M₁ M₂ G (suc r)) (roundOf O M₁ M₂ G (suc r - 1))
+      unlowered-same r h =
+          subst (λ (n : ℕ). SameTable O M₁ M₂ (roundOf O M₁ M₂ G (suc r)) (roundOf O M₁ M₂ G n)) (sym (sub-one (suc r)))
+          (λ q₁ l q₂ m. L .antisym (rounds-element (suc r) q₁ q₂) (rounds-element r q₁ q₂) (descend r q₁ q₂) (h q₁ l q₂ m))
 
       -- T exists within the limit that the chains give
       pub exists-T : (h : ℕ) → ((l : List A) → Chain O l → length l ≤ h) → (T : ℕ) × (T ≤ M₁ .states * M₂ .states * (h - 1) + 1) × FirstUnchangedOf O M₁ M₂ G T
@@ -113,8 +120,7 @@ module _ {A : Type 0} {O : Ops A} (L : Laws O) (M₁ M₂ : Model A) where
             omega (arith, w .1),
             record {
               above0 = omega arith;
-              unchanged = subst (λ (n : ℕ). SameTable O M₁ M₂ (roundOf O M₁ M₂ G (suc (w .0))) (roundOf O M₁ M₂ G n)) (sym (sub-one (suc (w .0))))
-                  (λ q₁ l q₂ m. L .antisym (rounds-element _ q₁ q₂) (rounds-element _ q₁ q₂) (descend (w .0) q₁ q₂) (w .2 .here q₁ l q₂ m));
+              unchanged = unlowered-same (w .0) (w .2 .here);
               least = earlier;
             },
           )
@@ -125,9 +131,38 @@ module _ {A : Type 0} {O : Ops A} (L : Laws O) (M₁ M₂ : Model A) where
                   w .2 .earlier t (omega arith)
                   (λ q₁ k q₂ m. subst (λ (n : ℕ). AtMost O (roundOf O M₁ M₂ G n q₁ q₂) (roundOf O M₁ M₂ G (suc t) q₁ q₂)) (sub-one (suc t)) (rw (← s q₁ k q₂ m) (L .rfl _)))
 
+      -- and so with n for h
+      pub exists-T-size : (T : ℕ) × (T ≤ M₁ .states * M₂ .states * (O .size - 1) + 1) × FirstUnchangedOf O M₁ M₂ G T
+      exists-T-size = exists-T (O .size) (chain-size L)
+
       -- whatever T is, the limit holds of it
       pub T-within : (h : ℕ) → ((l : List A) → Chain O l → length l ≤ h) → (T : ℕ) → FirstUnchangedOf O M₁ M₂ G T → T ≤ M₁ .states * M₂ .states * (h - 1) + 1
       T-within h longest T f = let w = exists-T h longest in omega (arith, w .1, T-unique O M₁ M₂ G T (w .0) f (w .2))
+
+      -- ---- tables at or below their G, which reads its table only at the pairs of states
+
+      module _ (cong : (S U : ℕ → ℕ → A) → SameTable O M₁ M₂ S U → (q₁ q₂ : ℕ) → G S q₁ q₂ ≡ G U q₁ q₂) where
+        pub below-greatest : (S : ℕ → ℕ → A) → PostFixedBy O M₁ M₂ G S → (U : ℕ → ℕ → A) → GreatestFixedBy O M₁ M₂ G U → AtMostTable O M₁ M₂ S U
+        below-greatest S h U g =
+            let w = exists-T-size in
+            λ q₁ l q₂ m. L .trans (below-every S h (w .0) q₁ l q₂ m) (g .greatest _ (fixed-at-T O M₁ M₂ G cong (w .0) (w .2)) q₁ l q₂ m)
+
+        pub unlowered-exactly : (T : ℕ) → FirstUnchangedOf O M₁ M₂ G T → (r : ℕ) → PostFixedBy O M₁ M₂ G (roundOf O M₁ M₂ G r) ↔ (T ≤ r + 1)
+        unfolding roundOf
+        unlowered-exactly T f r = (late, late-enough)
+          where
+            late : PostFixedBy O M₁ M₂ G (roundOf O M₁ M₂ G r) → T ≤ r + 1
+            late h = let x : ¬ (suc r < T) = λ l. f .least (suc r) (omega arith) l (unlowered-same r h) in omega arith
+
+            late-enough : T ≤ r + 1 → PostFixedBy O M₁ M₂ G (roundOf O M₁ M₂ G r)
+            late-enough l q₁ k q₂ m = rw (same q₁ k q₂ m) (L .rfl _)
+              where
+                same : SameTable O M₁ M₂ (roundOf O M₁ M₂ G (suc r)) (roundOf O M₁ M₂ G r)
+                same =
+                    ⊎-elim
+                    (λ (e : T ≡ suc r). let z : T - 1 ≡ r = omega arith in rw (z, e) at (f .unchanged))
+                    (λ (e : T < suc r). λ q₁ k q₂ m. stays O M₁ M₂ G cong T f (suc r) (omega arith) q₁ k q₂ m ∙ sym (stays O M₁ M₂ G cong T f r (omega arith) q₁ k q₂ m))
+                    (eq-or-lt-of-le (omega arith))
 
   -- ==== for F
 
@@ -153,7 +188,7 @@ module _ {A : Type 0} {O : Ops A} (L : Laws O) (M₁ M₂ : Model A) where
 
   -- worked example 6: 'One element, n = 1: T = 1', for any two models
   pub T-of-one-element : O .size ≡ 1 → FirstUnchanged O M₁ M₂ 1
-  T-of-one-element e = go (exists-T (F O M₁ M₂) (λ S U. F-mono) F-element (O .size) (chain-size L))
+  T-of-one-element e = go (exists-T-size (F O M₁ M₂) (λ S U. F-mono) F-element)
     where
       go : (T : ℕ) × (T ≤ M₁ .states * M₂ .states * (O .size - 1) + 1) × FirstUnchanged O M₁ M₂ T → FirstUnchanged O M₁ M₂ 1
       go w =
@@ -161,12 +196,12 @@ module _ {A : Type 0} {O : Ops A} (L : Laws O) (M₁ M₂ : Model A) where
           let q : w .0 ≡ 1 = omega (arith, rw (z, mul-zero (M₁ .states * M₂ .states)) at (w .1), w .2 .above0) in
           subst (λ (n : ℕ). FirstUnchanged O M₁ M₂ n) q (w .2)
 
-  -- theorem 5: round T is a simulation, and the greatest; S ≤ F S is enough to lie at or below it, by below-rounds
+  -- theorem 5: round T is a simulation, and the greatest
   pub settled-greatest : (T : ℕ) → FirstUnchanged O M₁ M₂ T → GreatestSimulation O M₁ M₂ (round O M₁ M₂ T)
-  settled-greatest T f = record { isFixed = fixed-at-T O M₁ M₂ (F O M₁ M₂) (λ S U. F-cong O M₁ M₂) T f; greatest = λ U u. below-rounds U (fixed-below (F O M₁ M₂) (λ S U. F-mono) U u) T }
+  settled-greatest T f = record { isFixed = fixed-at-T O M₁ M₂ (F O M₁ M₂) (λ S U. F-cong O M₁ M₂) T f; greatest = λ U u. below-rounds U (fixed-below (F O M₁ M₂) U u) T }
 
   pub settled-below : (T : ℕ) → FirstUnchanged O M₁ M₂ T → PostFixedBy O M₁ M₂ (F O M₁ M₂) (round O M₁ M₂ T)
-  settled-below T f = fixed-below (F O M₁ M₂) (λ S U. F-mono) _ (settled-greatest T f .isFixed)
+  settled-below T f = fixed-below (F O M₁ M₂) _ (settled-greatest T f .isFixed)
 
   -- 'Each entry is at or above the greatest simulation's.'
   pub above-settled : (T : ℕ) → FirstUnchanged O M₁ M₂ T → (r : ℕ) → AtMostTable O M₁ M₂ (round O M₁ M₂ T) (round O M₁ M₂ r)
@@ -175,31 +210,9 @@ module _ {A : Type 0} {O : Ops A} (L : Laws O) (M₁ M₂ : Model A) where
   -- ---- tables at or below their F (request 104)
 
   -- such a table lies at or below the greatest simulation, whatever it is
-  pub post-fixed-below : (S : ℕ → ℕ → A) → PostFixedBy O M₁ M₂ (F O M₁ M₂) S → (U : ℕ → ℕ → A) → GreatestSimulation O M₁ M₂ U → AtMostTable O M₁ M₂ S U
-  post-fixed-below S h U g =
-      let w = exists-T (F O M₁ M₂) (λ S U. F-mono) F-element (O .size) (chain-size L) in
-      λ q₁ l q₂ m. L .trans (below-rounds S h (w .0) q₁ l q₂ m) (g .greatest _ (settled-greatest (w .0) (w .2) .isFixed) q₁ l q₂ m)
+  pub post-fixed-le : (S : ℕ → ℕ → A) → PostFixedBy O M₁ M₂ (F O M₁ M₂) S → (U : ℕ → ℕ → A) → GreatestSimulation O M₁ M₂ U → AtMostTable O M₁ M₂ S U
+  post-fixed-le = below-greatest (F O M₁ M₂) (λ S U. F-mono) F-element (λ S U. F-cong O M₁ M₂)
 
   -- round r is such a table exactly from round T − 1 on, which equals round T: before that a round lowers an entry
-  pub round-post-fixed : (T : ℕ) → FirstUnchanged O M₁ M₂ T → (r : ℕ) → PostFixedBy O M₁ M₂ (F O M₁ M₂) (round O M₁ M₂ r) ↔ (T ≤ r + 1)
-  unfolding roundOf
-  round-post-fixed T f r = (first, last)
-    where
-      first : PostFixedBy O M₁ M₂ (F O M₁ M₂) (round O M₁ M₂ r) → T ≤ r + 1
-      first h =
-          let same : SameTable O M₁ M₂ (round O M₁ M₂ (suc r)) (round O M₁ M₂ r) = λ q₁ l q₂ m. L .antisym (round-element (suc r) q₁ q₂) (round-element r q₁ q₂) (rounds-descend r q₁ q₂) (h q₁ l q₂ m) in
-          let x : ¬ (suc r < T) = λ l. f .least (suc r) (omega arith) l (subst (λ (n : ℕ). SameTable O M₁ M₂ (round O M₁ M₂ (suc r)) (round O M₁ M₂ n)) (sym (sub-one (suc r))) same) in
-          omega arith
-
-      last : T ≤ r + 1 → PostFixedBy O M₁ M₂ (F O M₁ M₂) (round O M₁ M₂ r)
-      last l q₁ k q₂ m = rw (same q₁ k q₂ m) (L .rfl _)
-        where
-          F-stays : (n : ℕ) → T ≤ n → SameTable O M₁ M₂ (round O M₁ M₂ n) (round O M₁ M₂ T)
-          F-stays = stays O M₁ M₂ (F O M₁ M₂) (λ S U. F-cong O M₁ M₂) T f
-
-          same : SameTable O M₁ M₂ (round O M₁ M₂ (suc r)) (round O M₁ M₂ r)
-          same =
-              ⊎-elim
-              (λ (e : T ≡ suc r). let z : T - 1 ≡ r = omega arith in rw (z, e) at (f .unchanged))
-              (λ (e : T < suc r). λ q₁ k q₂ m. F-stays (suc r) (omega arith) q₁ k q₂ m ∙ sym (F-stays r (omega arith) q₁ k q₂ m))
-              (eq-or-lt-of-le (omega arith))
+  pub round-post-fixed-exactly : (T : ℕ) → FirstUnchanged O M₁ M₂ T → (r : ℕ) → PostFixedBy O M₁ M₂ (F O M₁ M₂) (round O M₁ M₂ r) ↔ (T ≤ r + 1)
+  round-post-fixed-exactly = unlowered-exactly (F O M₁ M₂) (λ S U. F-mono) F-element (λ S U. F-cong O M₁ M₂)

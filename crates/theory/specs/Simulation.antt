@@ -3,7 +3,7 @@
 --   AllPairs, SameTable, AtMostTable, Bounds: tables at the pairs of states
 --   round, FirstUnchanged, Simulation, GreatestSimulation: the rounds, T, and the simulations; of any operator roundOf, FirstUnchangedOf,
 --     FixedBy, GreatestFixedBy
---   PostFixedBy: S at or below F(S), of any operator
+--   PostFixedBy: S at or below G(S), for any operator G
 --   score; share, by indicator, count, goesUp and perCent
 use Prim.Native.Nat.{ℕ, zero, suc, _+_, _*_, _-_, _/_, _%_, _<_}
 use mathlib.Core.Path.{_≡_}

@@ -41,26 +41,26 @@ all-at-most-requires c κs =
     (omega (arith, r .within, b .pre .1 .held), r .few)
 
 -- what the comparison of row q1 says
-said : (c : tie.After-all-at-most Inv-loop μ-loop) → let a = c .before .before .before .before .before .before .before .before .before .before .before .before .before .before .before .args in
+row-found : (c : tie.After-all-at-most Inv-loop μ-loop) → let a = c .before .before .before .before .before .before .before .before .before .before .before .before .before .before .before .args in
     c .all-at-most .result ≡ rowWithin (a .w .now) (c .before .before .before .before .before .before .before .before .before .code .result) (a .m1 .now) (a .m2 .now) (a .s .now) (c .before .before .before .before .before .before .before .inner-joins .last .1 .1 .1 .1 .1 .0) (c .before .before .before .before .before .before .loop .q1)
-said c =
+row-found c =
     let b = c .before .before .before .before .before .before .before .before .before .before .before .before .before .before .before in
     let l : c .before .before .before .before .before .before .loop .q1 < getD (b .args .m1 .now) 0 0 = omega (arith, c .before .before .before .before .before .before .before .before .before .before .before .states .ensures) in
     let n = c .before .before .before .before .before .before .before .before .before .before .states2 .ensures in
     row-within (b .args .w .now) _ _ _ (b .args .s .now) (c .before .before .before .before .before .before .before .inner-joins .last .1 .1 .1 .1 .1 .0) _ (row-at (b .args .m1 .now) (b .args .m2 .now) (b .args .s .now) _ _ (c .before .before .before .before .before .before .loop .q1) (b .pre .1) l n refl) n (c .before .before .row-from .ensures) (c .all-at-most .ensures)
 
--- all rows are the table
+-- the test of all rows by codes is that of the table
 all-rows : (c : tie.After-inner-joins Inv-loop μ-loop) → let a = c .before .before .before .before .before .before .before .before .args in
     allBelow (getD (a .m1 .now) 0 0) (rowWithin (a .w .now) (c .before .before .code .result) (a .m1 .now) (a .m2 .now) (a .s .now) (c .inner-joins .last .1 .1 .1 .1 .1 .0)) ≡ postFixedIn (a .w .now) (a .l) (a .m1 .now) (a .m2 .now) (a .s .now)
 all-rows c = rw (c .before .before .code .ensures) (post-fixed-in (c .before .before .before .before .before .before .before .before .pre .0) (c .inner-joins .ensures))
 
 returns : tie.Need-returns Inv-loop μ-loop
 returns c =
-    passed-stop (c .before .before .before .before .before .before .before .loop .inv .1) (omega (arith, c .before .before .before .before .before .before .before .before .before .before .before .before .states .ensures)) (sym (said (c .before)) ∙ not-true _ (c .if1 .taken))
+    passed-stop (c .before .before .before .before .before .before .before .loop .inv .1) (omega (arith, c .before .before .before .before .before .before .before .before .before .before .before .before .states .ensures)) (sym (row-found (c .before)) ∙ not-true _ (c .if1 .taken))
     ∙ all-rows (c .before .before .before .before .before .before .before .before)
 
 loop-again : tie.Need-loop-again Inv-loop μ-loop
-loop-again c = (omega arith, passed-more (c .before .before .before .before .before .before .before .loop .inv .1) (sym (said (c .before)) ∙ not-false _ (c .if1 .left)))
+loop-again c = (omega arith, passed-more (c .before .before .before .before .before .before .before .loop .inv .1) (sym (row-found (c .before)) ∙ not-false _ (c .if1 .left)))
 
 returns-2 : tie.Need-returns-2 Inv-loop μ-loop
 returns-2 c = let e = c .before .before .before .before .before .before .states .ensures in passed-all (c .before .loop .inv .1) (omega arith) (omega arith) ∙ all-rows (c .before .before)
