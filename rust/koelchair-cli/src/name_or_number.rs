@@ -3,6 +3,11 @@
 use crate::errors::{expected_one_of, Span, TextError};
 use crate::names;
 
+/// Whether a word is made of digits alone.
+pub fn digits(word: &str) -> bool {
+    word.bytes().all(|b| b.is_ascii_digit())
+}
+
 /// The states of a model, or the elements of a lattice.
 pub struct Sort {
     /// What one of them is called.
@@ -26,7 +31,8 @@ enum Read {
 impl Sort {
     /// A sort with these names. Where a name is the number of another, digits are names in a text `by_names`, and numbers in any other.
     pub fn new(what: &'static str, names: Vec<String>, by_names: bool) -> Sort {
-        let other = |(i, name): (usize, &String)| name.parse().is_ok_and(|n: usize| n != i);
+        let another = |n: usize, i: usize| n != i && n < names.len();
+        let other = |(i, name): (usize, &String)| name.parse().is_ok_and(|n| another(n, i));
         let read = match (names.iter().enumerate().any(other), by_names) {
             (false, _) => Read::Either,
             (true, true) => Read::Name,
@@ -64,7 +70,7 @@ impl Sort {
         let message = format!("`{word}` is no {}", self.what);
         let numbers = format!("a number from 0 to {}", self.names.len() - 1);
         if self.read == Read::Number {
-            let help = "some names are numbers here, and are read as names in a table with a line `columns`";
+            let help = "some names are numbers of others; in a table with a line `columns` digits are names";
             return TextError::new(span, message, format!("expected {numbers}")).with_help(help);
         }
         let names = expected_one_of(self.names.iter().map(String::as_str));
@@ -90,6 +96,7 @@ mod tests {
             assert_eq!(read(["no", "unsure", "yes"], by_names), [0, 1, 2, 9]);
             assert_eq!(read(["0", "1", "2"], by_names), [0, 1, 2, 9]);
             assert_eq!(read(["no", "1", "yes"], by_names), [0, 1, 2, 9]);
+            assert_eq!(read(["3", "no", "yes"], by_names), [0, 1, 2, 0]);
         }
     }
 

@@ -34,6 +34,9 @@ enum Current {
 impl Sections {
     /// Sorts statements.
     pub fn sort(statements: Vec<Statement>) -> Result<Sections, Vec<TextError>> {
+        if let Some(error) = no_case(&statements) {
+            return Err(vec![error]);
+        }
         let mut sections = Sections::default();
         let mut current = Current::Nothing;
         let mut errors = Vec::new();
@@ -156,6 +159,17 @@ pub fn no_part(statement: &Statement) -> TextError {
         Kind::Word(word) => with_nearest(error, word, PARTS.into_iter().chain(["include"])),
         _ => error,
     }
+}
+
+/// The error that a text is no case but a table or a listing, for all its lines at once: it has a row, and neither a lattice nor a model.
+fn no_case(statements: &[Statement]) -> Option<TextError> {
+    let any = |word: &str| statements.iter().any(|s| names::is_word(&s[0], word));
+    if !any("row") || any("lattice") || any("model") {
+        return None;
+    }
+    let expected = "expected a case, with `lattice`, `model 1` and `model 2`";
+    let error = TextError::new(statements[0][0].span, "this is no case", expected);
+    Some(error.with_help("a table comes after its case: `koelchair judge CASE TABLE`"))
 }
 
 fn twice(statement: &Statement, what: &str, first: &Statement) -> TextError {

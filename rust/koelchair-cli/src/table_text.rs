@@ -1,12 +1,12 @@
 //! A table as text, in the lines of a listing: `row STATE: ENTRY ...` for each state of the student's, and perhaps `columns: STATE ...`, the
 //! course's states in the order of the entries. The other lines of a listing are passed over. States and elements are written by name or
-//! by number (`name_or_number`), elements otherwise as in a case (`lattice_text`).
+//! by number (`name_or_number`), elements otherwise as in a case (`lattice_text`). A text without a row, such as that of a case, is one error.
 
 use crate::case::Case;
 use crate::errors::{listed, with_nearest, Source, Span, TextError, OTHER_LINE};
 use crate::lattice_text;
 use crate::lexer::{lex, Cursor, Kind, Statement};
-use crate::name_or_number::Sort;
+use crate::name_or_number::{digits, Sort};
 use crate::names::{self, Name};
 
 /// The words that begin a line of a listing which is no part of the table.
@@ -19,11 +19,13 @@ const WITH_LINES_BELOW: [&str; 2] = ["formula", "values"];
 pub fn parse(source: &Source, case: &Case) -> Result<Vec<u8>, Vec<TextError>> {
     let one = |error| vec![error];
     let lexed = lex(&table_lines(source)).map_err(one)?;
-    let (heads, rest): (Vec<_>, Vec<_>) = lexed
-        .statements
-        .iter()
-        .partition(|s| names::is_word(&s[0], "columns"));
-    let mut reader = Reader::new(case, !heads.is_empty());
+    let (heads, rest): (Vec<_>, Vec<_>) =
+        lexed.statements.iter().partition(|s| begins(s, "columns"));
+    if let Some(error) = no_table(&rest) {
+        return Err(one(error));
+    }
+    let by_names = !heads.is_empty() || rest.iter().any(|s| row_by_name(s));
+    let mut reader = Reader::new(case, by_names);
     reader.columns(&heads).map_err(one)?;
     let errors: Vec<TextError> = rest.iter().filter_map(|s| reader.line(s).err()).collect();
     match errors.is_empty() {
@@ -39,11 +41,12 @@ fn table_lines(source: &Source) -> Source {
     let mut head: Option<usize> = None;
     for line in &mut kept.lines {
         let text = line.trim_start_matches(|c: char| c.is_whitespace() || c == '\u{feff}');
+        if text.is_empty() || text.starts_with('#') {
+            continue;
+        }
         let margin = line.chars().count() - text.chars().count();
-        let word = match text.split_whitespace().next() {
-            Some(word) if !word.starts_with('#') => word,
-            _ => continue,
-        };
+        let after = |c: char| c.is_whitespace() || c == ':';
+        let word = text.split(after).next().unwrap_or(text);
         let below = head.is_some_and(|head| margin > head);
         if !below {
             head = WITH_LINES_BELOW.contains(&word).then_some(margin);
@@ -53,6 +56,32 @@ fn table_lines(source: &Source) -> Source {
         }
     }
     kept
+}
+
+/// Whether a statement begins with this word.
+fn begins(statement: &Statement, word: &str) -> bool {
+    names::is_word(&statement[0], word)
+}
+
+/// Whether a statement is a row whose state is not written in digits.
+fn row_by_name(statement: &Statement) -> bool {
+    let state = statement.get(1).map(|token| &token.kind);
+    begins(statement, "row") && matches!(state, Some(Kind::Word(word)) if !digits(word))
+}
+
+/// The error that a text is no table, for all its lines at once: none of them is a row, or it is a case, whose order can have rows too.
+fn no_table(statements: &[&Statement]) -> Option<TextError> {
+    let any = |word: &str| statements.iter().any(|s| begins(s, word));
+    let first = statements.first()?;
+    if any("row") && !any("lattice") {
+        return None;
+    }
+    let expected = "expected `row`, a state of the student's, `:` and its entries";
+    let error = TextError::new(first[0].span, "this is no table", expected);
+    Some(match begins(first, "round") {
+        true => error.with_help("`step --table` prints a round's table in such lines"),
+        false => with_similar(error, first),
+    })
 }
 
 /// What the lines of a table have said so far.
@@ -210,11 +239,13 @@ fn none_missing(
 fn no_line(statement: &Statement) -> TextError {
     let error = Cursor::new(statement)
         .unexpected("`columns:` and the course's states, or `row` and a state of the student's");
+    with_similar(error, statement)
+}
+
+/// An error with the word of a table's line that is similar to a statement's first.
+fn with_similar(error: TextError, statement: &Statement) -> TextError {
     match &statement[0].kind {
-        Kind::Word(word) => {
-            let words = ["columns", "row"].into_iter().chain(PASSED_OVER);
-            with_nearest(error, word, words)
-        }
+        Kind::Word(word) => with_nearest(error, word, ["columns", "row"]),
         _ => error,
     }
 }

@@ -92,6 +92,10 @@ fn wrong_commands_are_said() {
         "`two` is no number of rounds",
     );
     usage_error(
+        &["step", "--table", "--json", &example],
+        "expected one of `--json` and `--table`, got both",
+    );
+    usage_error(
         &["explain", &example],
         "expected FILE STATE1 STATE2, got 1 argument",
     );

@@ -38,18 +38,18 @@ const COMMANDS: [(&str, &str, &str); 12] = [
     ),
     (
         "step",
-        "koelchair step [--rounds R] [--json] FILE",
+        "koelchair step [--rounds R] [--table | --json] FILE",
         "Prints the table after each round with names, and the score that it would give. Rows are states of model 1, columns\n\
          states of model 2. Only the settled table is a result.\n\
-         --rounds  stops after round R",
+         --rounds  stops after round R\n\
+         --table   the last of these tables alone, as judge reads it",
     ),
     (
         "judge",
         "koelchair judge [--json] FILE TABLE",
-        "Says whether a table is sound: yes where no entry is too high, that is, where each is at or below what a round worked on the\n\
-         table gives there; and then whether it is tight, so that the round changes nothing. Else no, with the first pair whose entry\n\
-         is too high. Either is an answer, with exit status 0. TABLE is a listing of report, with names or without, or its lines\n\
-         `columns` and `row` alone.",
+        "Says whether a table is sound. Yes: each entry is at or below what a round worked on the table gives there; then whether\n\
+         it is tight, that is, whether the round changes nothing. No: how many entries are too high, and the pair of the first. Both\n\
+         end with status 0. TABLE is a listing of report, by names or by numbers; its lines `columns` and `row` are enough.",
     ),
     (
         "explain",

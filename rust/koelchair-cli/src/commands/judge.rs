@@ -1,19 +1,20 @@
 //! `judge`: whether a table that is handed in is sound, that is, whether no entry is too high; a sound one may be tight too. Yes or no, and
 //! what a round worked on the table gives for each pair, are answers of the library. The tool compares the table with that round by the
-//! lattice's order, to name a pair and to count; that it found otherwise than the library would be an error.
+//! lattice's order, to count, and to name the first pair that is too high and for whom it is (`views`); that it found otherwise than the
+//! library would be an error.
 
 use super::input::{read_letters, shown_name};
 use super::{document, open, read_text, Arguments, Failure, Opened, Outcome, Printed};
 use crate::case::Case;
 use crate::errors::Source;
-use crate::json::{object, string};
+use crate::json::{object, string, strings};
 use crate::table_text;
+use crate::views::views;
 use koelchair::{Desk, DeskRef, Refusal, State, TABLE_LENGTH};
 use std::io::Read;
 
 const YES: &str = "yes: the table is sound, no entry is too high";
 const TIGHT: &str = "tight: a round worked on it changes nothing, so it is a simulation";
-const NO: &str = "no: the table is not sound, an entry is too high";
 
 /// Runs `judge`.
 pub fn judge(arguments: &[String], input: &mut dyn Read) -> Outcome {
@@ -68,8 +69,8 @@ struct Judged {
 enum Verdict {
     /// Sound; a round worked on it raises so many entries.
     Sound { raised: usize },
-    /// Not sound.
-    TooHigh(TooHigh),
+    /// Not sound; so many entries are too high, and this is the first.
+    NotSound { count: usize, first: TooHigh },
 }
 
 /// The first pair whose entry is too high.
@@ -97,59 +98,70 @@ impl Judged {
     }
 
     fn words(&self, case: &Case) -> String {
-        let (first, second) = match &self.verdict {
-            Verdict::Sound { raised: 0 } => (YES, TIGHT.to_string()),
-            Verdict::Sound { raised } => {
-                let all = self.entries;
-                let second =
-                    format!("not tight: a round worked on it raises {raised} of {all} entries");
-                (YES, second)
-            }
-            Verdict::TooHigh(pair) => (NO, pair.words(case)),
+        let counted = |count: usize| match count {
+            1 => format!("1 entry of {}", self.entries),
+            _ => format!("{count} entries of {}", self.entries),
         };
-        format!("{first}\n{second}\n")
+        match &self.verdict {
+            Verdict::Sound { raised: 0 } => format!("{YES}\n{TIGHT}\n"),
+            Verdict::Sound { raised } => {
+                let raised = counted(*raised);
+                format!("{YES}\nnot tight: a round worked on it raises {raised}\n")
+            }
+            Verdict::NotSound { count, first } => {
+                let (are, which) = match count {
+                    1 => ("is", ""),
+                    _ => ("are", "the first, "),
+                };
+                let (count, pair) = (counted(*count), first.words(case));
+                format!("no: the table is not sound, {count} {are} too high\n{which}{pair}\n")
+            }
+        }
     }
 
     fn fields(&self, case: &Case) -> Vec<(&'static str, String)> {
-        let null = || "null".to_string();
-        let (raised, too_high) = match &self.verdict {
-            Verdict::Sound { raised } => (Some(raised), None),
-            Verdict::TooHigh(pair) => (None, Some(pair)),
+        let null = "null".to_string();
+        let (raised, count, first) = match &self.verdict {
+            Verdict::Sound { raised } => (raised.to_string(), 0, null),
+            Verdict::NotSound { count, first } => (null, *count, first.json(case)),
         };
+        let tight = self.verdict == Verdict::Sound { raised: 0 };
         vec![
             ("accepted", "true".to_string()),
-            ("sound", raised.is_some().to_string()),
-            ("tight", (raised == Some(&0)).to_string()),
+            ("sound", (count == 0).to_string()),
+            ("tight", tight.to_string()),
             ("entries", self.entries.to_string()),
-            ("raised", raised.map_or_else(null, usize::to_string)),
-            (
-                "tooHigh",
-                too_high.map_or_else(null, |pair| pair.json(case)),
-            ),
+            ("raised", raised),
+            ("tooHighCount", count.to_string()),
+            ("tooHigh", first),
         ]
     }
 }
 
-/// A table beside a round worked on it: the first entry that is too high, or how many are raised.
+/// A table beside a round worked on it: how many entries are too high and the first of them, or how many are raised.
 fn compare(case: &Case, table: &[u8], next: &[u8]) -> Verdict {
     let (lattice, columns) = (&case.lattice, case.models[1].size());
     let at_most = |i: &usize| lattice.at_most(usize::from(table[*i]), usize::from(next[*i]));
-    match (0..table.len()).find(|i| !at_most(i)) {
+    let too_high: Vec<usize> = (0..table.len()).filter(|i| !at_most(i)).collect();
+    match too_high.first() {
         None => Verdict::Sound {
             raised: (0..table.len()).filter(|i| table[*i] != next[*i]).count(),
         },
-        Some(i) => Verdict::TooHigh(TooHigh {
-            pair: (i / columns, i % columns),
-            entry: table[i],
-            next: next[i],
-        }),
+        Some(&i) => Verdict::NotSound {
+            count: too_high.len(),
+            first: TooHigh {
+                pair: (i / columns, i % columns),
+                entry: table[i],
+                next: next[i],
+            },
+        },
     }
 }
 
 /// The library says yes exactly where the tool finds no entry that is too high.
 fn agreed(sound: bool, verdict: &Verdict) -> Result<(), Failure> {
     let said = match (sound, verdict) {
-        (true, Verdict::Sound { .. }) | (false, Verdict::TooHigh(_)) => return Ok(()),
+        (true, Verdict::Sound { .. }) | (false, Verdict::NotSound { .. }) => return Ok(()),
         (true, _) => "the library says yes to this table, and this tool finds an entry too high",
         (false, _) => "the library says no to this table, and this tool finds no entry too high",
     };
@@ -162,6 +174,18 @@ impl TooHigh {
         [(0, self.pair.0), (1, self.pair.1)].map(|(m, q)| case.models[m].states[q].as_str())
     }
 
+    /// For whom the entry is too high, as `why` names the views: those in which it is above what the round gives. None where there is
+    /// one view alone.
+    fn whose(&self, case: &Case) -> Vec<String> {
+        let asked = |asked: u8| {
+            case.lattice
+                .at_most(usize::from(asked), usize::from(self.entry))
+        };
+        let views = views(&case.lattice, self.next).into_iter();
+        let labels = views.filter(|v| asked(v.asked)).map(|v| v.label);
+        labels.filter(|label| !label.is_empty()).collect()
+    }
+
     fn words(&self, case: &Case) -> String {
         let [student, course] = self.states(case);
         let [entry, next] = [self.entry, self.next].map(|e| case.element(e));
@@ -170,7 +194,11 @@ impl TooHigh {
             true => format!("gives only {next}"),
             false => format!("gives {next}, which is not in order with it"),
         };
-        format!("student {student}, course {course}: the table says {entry}, and a round worked on it {gives}")
+        let whose = match &self.whose(case)[..] {
+            [] => String::new(),
+            labels => format!(" (too high for {})", labels.join(" and ")),
+        };
+        format!("student {student}, course {course}: the table says {entry}, and a round worked on it {gives}{whose}")
     }
 
     fn json(&self, case: &Case) -> String {
@@ -180,6 +208,7 @@ impl TooHigh {
             ("course", string(course)),
             ("entry", string(&case.element(self.entry))),
             ("next", string(&case.element(self.next))),
+            ("views", strings(self.whose(case))),
         ])
     }
 }
@@ -200,10 +229,10 @@ mod tests {
         assert_eq!(raised, Verdict::Sound { raised: 1 });
         assert!(agreed(true, &raised).is_ok() && agreed(false, &raised).is_err());
         let too_high = compare(&case, &[0, 1], &[3, 2]);
-        let Verdict::TooHigh(pair) = &too_high else {
+        let Verdict::NotSound { count: 1, first } = &too_high else {
             panic!("{too_high:?}")
         };
-        assert_eq!((pair.pair, pair.entry, pair.next), ((1, 0), 1, 2));
+        assert_eq!((first.pair, first.entry, first.next), ((1, 0), 1, 2));
         assert!(agreed(false, &too_high).is_ok() && agreed(true, &too_high).is_err());
     }
 }

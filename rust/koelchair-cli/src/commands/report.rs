@@ -74,15 +74,8 @@ fn numbers(opened: &Opened) -> Result<Listing, Failure> {
 fn named_listing(opened: &Opened, facts: &[FormulaFacts]) -> Result<String, Failure> {
     let (case, listing) = (&opened.case, numbers(opened)?);
     let name = |e: &u8| case.element(*e);
-    let mut rows = vec![vec!["columns:".to_string()]];
-    rows[0].extend(case.models[1].states.iter().cloned());
-    for (state, row) in case.models[0].states.iter().zip(&listing.rows) {
-        let mut cells = vec![format!("row {state}:")];
-        cells.extend(row.iter().map(name));
-        rows.push(cells);
-    }
     let mut text = format!("rounds {}\n", listing.rounds);
-    text.push_str(&table::aligned(&rows, ""));
+    text.push_str(&table::listed(case, listing.rows.iter().map(Vec::as_slice)));
     let _ = writeln!(text, "score {}", name(&listing.score));
     let formulas = case.formulas.iter().zip(&listing.formulas);
     for ((named, [student, course]), facts) in formulas.zip(facts) {

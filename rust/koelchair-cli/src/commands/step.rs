@@ -1,4 +1,4 @@
-//! `step`: the table after each round.
+//! `step`: the table after each round, or the last of them alone in the lines that `judge` reads.
 
 use super::{document, open, read_text, table, Arguments, Failure, Opened, Outcome, Printed};
 use crate::case::Case;
@@ -11,8 +11,14 @@ use std::io::Read;
 
 /// Runs `step`.
 pub fn step(arguments: &[String], input: &mut dyn Read) -> Outcome {
-    let arguments = Arguments::read(arguments, &["--bytes", "--json"], &["--course", "--rounds"])?;
+    let flags = ["--bytes", "--json", "--table"];
+    let arguments = Arguments::read(arguments, &flags, &["--course", "--rounds"])?;
     let [file] = arguments.exactly(["FILE"])?;
+    let forms = (arguments.has("--json"), arguments.has("--table"));
+    if forms == (true, true) {
+        let message = "expected one of `--json` and `--table`, got both";
+        return Err(Failure::Usage(message.to_string()));
+    }
     let most = match arguments.values("--rounds").last() {
         None => u32::MAX,
         Some(number) => number
@@ -20,9 +26,10 @@ pub fn step(arguments: &[String], input: &mut dyn Read) -> Outcome {
             .map_err(|_| Failure::Usage(format!("`{number}` is no number of rounds")))?,
     };
     let mut opened = open(read_text(file, &arguments, input)?)?;
-    let printed = match arguments.has("--json") {
-        true => json(&mut opened, most),
-        false => words(&mut opened, most),
+    let printed = match forms {
+        (true, _) => json(&mut opened, most),
+        (_, true) => last(&mut opened, most),
+        _ => words(&mut opened, most),
     };
     Ok(Printed::new(printed))
 }
@@ -62,6 +69,13 @@ fn words(opened: &mut Opened, most: u32) -> String {
         text.push_str("stopped here: not settled, so this table is no result\n");
     }
     text
+}
+
+/// The table of the last round alone, in the lines of a listing by names.
+fn last(opened: &mut Opened, most: u32) -> String {
+    rounds(opened, most, |_, _, _| {});
+    let columns = opened.case.models[1].size();
+    table::listed(&opened.case, opened.desk.show().chunks(columns))
 }
 
 /// The shown table with names.

@@ -1,5 +1,19 @@
 //! Tables of names in columns.
 
+use crate::case::Case;
+
+/// The lines `columns` and `row` of a listing by names, for a table with this row for each state of the student's.
+pub fn listed<'a>(case: &Case, table: impl IntoIterator<Item = &'a [u8]>) -> String {
+    let mut rows = vec![vec!["columns:".to_string()]];
+    rows[0].extend(case.models[1].states.iter().cloned());
+    for (state, row) in case.models[0].states.iter().zip(table) {
+        let mut cells = vec![format!("row {state}:")];
+        cells.extend(row.iter().map(|e| case.element(*e)));
+        rows.push(cells);
+    }
+    aligned(&rows, "")
+}
+
 /// Rows of cells set in by two blanks, each column as wide as its widest cell.
 pub fn columns(rows: &[Vec<String>]) -> String {
     aligned(rows, "  ")
