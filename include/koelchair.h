@@ -250,7 +250,7 @@ koelchair_answer koelchair_share(koelchair_standing standing,
 
 /* Whether a table of N1 times N2 elements is sound: each entry is at or below that of F of the table, in the lattice's order. Such a table
    lies at or below the greatest simulation, and each of its entries is at most 'not the value at the state of model 2, joined with the
-   value at the state of model 1', for every closed formula without EX. It need not be a simulation, which equals F of itself. Reads that
+   value at the state of model 1', for every closed formula without EX. It need not be a simulation, that is, equal to F of it. Reads that
    table too. KOELCHAIR_SAYS, or KOELCHAIR_REFUSED with 11, 12 or 13. */
 koelchair_answer koelchair_judge(koelchair_standing standing,
                                  const uint8_t *store, size_t store_length,

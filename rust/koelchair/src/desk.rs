@@ -111,7 +111,7 @@ impl Desk {
     /// let desk = Desk::open(&case)?;
     /// // The greatest simulation.
     /// assert_eq!(desk.judge(&[1, 1, 1, 1]), Ok(true));
-    /// // Lower than F of it at one entry, and too high at none: entry (0, 0) is not what the other entries rest on.
+    /// // Entry (0, 0) is lower than in F of the table, and none is too high: no entry rests on (0, 0).
     /// assert_eq!(desk.judge(&[0, 1, 1, 1]), Ok(true));
     /// // Every entry rests on (1, 1), so that the others are too high.
     /// assert_eq!(desk.judge(&[1, 1, 1, 0]), Ok(false));

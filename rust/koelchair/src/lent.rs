@@ -97,7 +97,8 @@ impl<'a> DeskRef<'a> {
     }
 
     /// Whether a table of N1·N2 elements is sound, that is, whether each entry is at or below that of F of the table, in the lattice's
-    /// order; see [`Desk::judge`](crate::Desk::judge). The standing's round and the desk's tables have no part in it.
+    /// order; see [`Desk::judge`](crate::Desk::judge). Where it is not refused, the answer depends neither on the round nor on the desk's
+    /// own tables.
     ///
     /// Refused with 11 or 12, or with 13 where the table has another length or a byte that is no element.
     pub fn judge(self, table: &[u8]) -> Result<bool, Refusal> {
