@@ -9,7 +9,7 @@ use crate::case::Case;
 use crate::errors::Source;
 use crate::json::{object, string, strings};
 use crate::table_text;
-use crate::views::views;
+use crate::views::{views, View};
 use koelchair::{Desk, DeskRef, Refusal, State, TABLE_LENGTH};
 use std::io::Read;
 
@@ -177,12 +177,10 @@ impl TooHigh {
     /// For whom the entry is too high, as `why` names the views: those in which it is above what the round gives. None where there is
     /// one view alone.
     fn whose(&self, case: &Case) -> Vec<String> {
-        let asked = |asked: u8| {
-            case.lattice
-                .at_most(usize::from(asked), usize::from(self.entry))
-        };
+        let entry = usize::from(self.entry);
+        let reached = |view: &View| case.lattice.at_most(usize::from(view.asked), entry);
         let views = views(&case.lattice, self.next).into_iter();
-        let labels = views.filter(|v| asked(v.asked)).map(|v| v.label);
+        let labels = views.filter(reached).map(|view| view.label);
         labels.filter(|label| !label.is_empty()).collect()
     }
 
