@@ -53,7 +53,7 @@ module _ (c : Content) (T : ℕ) (answers : List Reply) (d : Desk) where
   abbrev Below : (ℕ → ℕ → ℕ) → (ℕ → ℕ → ℕ) → Type 0
   Below = AtMostTable (ops c) (model1 c) (model2 c)
 
-  -- the same of the entries shown
+  -- the entries shown bound a formula
   abbrev pub BoundedBy : Formula → Type 0
   BoundedBy = BoundedIn c (shownTable c d)
 

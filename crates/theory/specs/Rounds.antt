@@ -6,7 +6,7 @@
 --   T-exists, T-unique, T-at-most, T-at-most-size, rounds-lower, T-of-one-element: theorem 4
 --   settled-greatest, settled-below, above-settled: theorem 5
 --   post-fixed-le, round-post-fixed-exactly: S at or below F(S) lies at or below every greatest simulation; which rounds are such tables
---   stays, fixed-at-T, descend, below-every, fixed-below, rounds-element, exists-T, T-within, below-greatest, unlowered-exactly: the same of any
+--   stays, fixed-at-T, descend, below-every, fixed-below, rounds-element, exists-T, exists-T-size, T-within, below-greatest, unlowered-exactly: the same of any
 --     operator like F
 use Prim.Native.Nat.{ℕ, zero, suc, _+_, _*_, _-_, _≤_, _<_}
 use mathlib.Core.Path.{_≡_, refl, sym, ap, _∙_, subst}
