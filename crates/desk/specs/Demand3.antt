@@ -12,7 +12,7 @@ use lib.ListN.{length, getD}
 use Rattle.theory.specs.Lattice.{LongestChain}
 use Rattle.theory.specs.Formula.{Formula, fixpointFree, nestedAX, UniversalSentence}
 use Rattle.theory.specs.Value.{valueAt}
-use Rattle.theory.specs.Simulation.{SameTable, AtMostTable, Bounds, Simulation, GreatestSimulation}
+use Rattle.theory.specs.Simulation.{SameTable, AtMostTable, Bounds, Simulation, GreatestSimulation, PostFixedBy}
 use Rattle.refusal.specs.declared.Refusal.the-variants.{ShortDesk, SpoiledDesk}
 use Rattle.formula.specs.declared.FormulaFacts.{FormulaFacts}
 use Rattle.casefile.specs.Reading.{Content, refused, content, caseReading, storeReading}
@@ -82,7 +82,8 @@ module _ (c : Content) (T : ℕ) (answers : List Reply) (d : Desk) where
     -- `question-next` these are the same after every list with this last accepted opening, so that one answer serves for all later rounds.
     pub covered : (f : ℕ) (x : FormulaFacts) → FactsAnswered d f x → Covers x → BoundedBy (formulaIn c f)
     -- request 104: 'S at or below F(S) everywhere. Judge shall say yes exactly then', of a table that 13 does not refuse
-    pub passes-exactly : (t : List ℕ) → SaysYes d t ↔ (InRange (Question.Judge t) (viewAfter c T s) × Below (givenTable c t) (operator c (givenTable c t)))
+    pub passes-exactly : (t : List ℕ)
+        → SaysYes d t ↔ (InRange (Question.Judge t) (viewAfter c T s) × PostFixedBy (ops c) (model1 c) (model2 c) (operator c) (givenTable c t))
     -- 'Whatever it passes must lie at or below the greatest simulation', whatever that is, 'and keep the bound for every closed universal formula', at
     -- every pair and whatever round is shown
     pub passed-le : (t : List ℕ) → SaysYes d t → (G : ℕ → ℕ → ℕ) → GreatestSimulation (ops c) (model1 c) (model2 c) G → Below (givenTable c t) G

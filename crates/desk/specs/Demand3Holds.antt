@@ -1,7 +1,7 @@
 -- Demand 3 holds. Rests on Demand3, Listed, Next, Judged, Stands, RefusedLaws, formula's RoundTrip, and theory's Rounds, Preservation, Height and Sharp.
 --   demand3: every list of calls with an accepted opening in it has the demand; listed: the claim holds for whatever last accepted opening and T
---   claimed: the claim from the invariant; same-shown: show's answer leaves no choice; facts-own, covered-shown: the facts that value and whole answer, and the bound that follows; T-most-sharp:
---   another limit of T
+--   claimed: the claim from the invariant; same-shown: show's answer leaves no choice
+--   facts-own, covered-shown: the facts that value and whole answer, and the bound that follows; T-most-sharp: another limit of T
 --   ranges, asked-next; value-next, whole-next, score-next, share-next, judge-next: what it says of the questions one by one
 use Prim.Native.Nat.{ℕ, suc, _+_, _-_, _≤_, _<_}
 use mathlib.Core.Path.{_≡_, refl, sym, ap, _∙_, subst}
