@@ -4,15 +4,16 @@
 --   PartsRead, FormulasRead: each part passes its own test
 --   CaseOf: a string of bytes is a case of document 01 that holds a content
 --   SameWhereRead: two strings of bytes agree wherever one is read
+--   SameModel, SameCase: two models, and two contents, say the same
 use Prim.Native.Nat.{ℕ, _≤_, _<_}
 use mathlib.Core.Path.{_≡_}
 use mathlib.Core.Bool.{true}
 use mathlib.Core.List.{List, []}
 use lib.ListN.{length, getD}
 use Rattle.theory.specs.Formula.{Formula, bottom}
-use Rattle.theory.specs.Model.{Valued}
+use Rattle.theory.specs.Model.{Model, Valued}
 use Rattle.theory.specs.Part.{opsOf, modelOf, ModelShape}
-use Rattle.lattice.specs.Reading.{LatticeReading, latticeReading, latticeOf, latticeForm}
+use Rattle.lattice.specs.Reading.{LatticeReading, latticeReading, isPanel, latticeOf, latticeForm}
 use Rattle.lattice.specs.DeMorgan.{DeMorganLattice}
 use Rattle.model.specs.Reading.{modelTest}
 use Rattle.formula.specs.Bytes.{FormulaReading, formulaReading, bytesOf, allowed}
@@ -77,3 +78,22 @@ pub record SameWhereRead (b d : List ℕ) : Type 0 where
   pub same-length : length b ≡ length d
   pub same-directory : (at : ℕ) → at < directoryEnd b → getD b at 0 ≡ getD d at 0
   pub same-part : (i : ℕ) → i < partCount b → (at : ℕ) → partStart b i ≤ at → at < partEnd b i → getD b at 0 ≡ getD d at 0
+
+-- the same model: its sizes, and its values at the states
+pub record SameModel (M N : Model ℕ) : Type 0 where
+  pub states : M .states ≡ N .states
+  pub propositions : M .propositions ≡ N .propositions
+  pub initial : (q : ℕ) → q < M .states → M .initial q ≡ N .initial q
+  pub label : (q : ℕ) → q < M .states → (p : ℕ) → p < M .propositions → M .label q p ≡ N .label q p
+  pub transition : (q : ℕ) → q < M .states → (r : ℕ) → r < M .states → M .transition q r ≡ N .transition q r
+
+-- 'the same reading, the form of the lattice included' (request 105): the lattice as the panel's one byte in both or in neither, with the same elements,
+-- complement and order; the same models and formulas
+pub record SameCase (c e : Content) : Type 0 where
+  pub form : isPanel (c .latticeBytes) ≡ isPanel (e .latticeBytes)
+  pub size : c .lattice .size ≡ e .lattice .size
+  pub complement : (a : ℕ) → a < c .lattice .size → c .lattice .complement a ≡ e .lattice .complement a
+  pub order : (a : ℕ) → a < c .lattice .size → (b : ℕ) → b < c .lattice .size → c .lattice .order a b ≡ e .lattice .order a b
+  pub first : SameModel (modelOf (c .model1Bytes)) (modelOf (e .model1Bytes))
+  pub second : SameModel (modelOf (c .model2Bytes)) (modelOf (e .model2Bytes))
+  pub formulas : c .formulas ≡ e .formulas

@@ -16,6 +16,7 @@ pub mod Laid  -- a gapless case is read as its parts
 pub mod FormulaParts  -- which parts are read as which formulas
 pub mod Accepted  -- what holds of an accepted case, and of its gapless form
 pub mod Exactly  -- which strings of bytes are cases, and with which content
+pub mod Same  -- accepted cases that say the same have the same bytes
 pub mod Content  -- the lattice, the models and the formulas of an accepted case
 pub mod Caller  -- what a caller of the check learns from the answer
 pub mod Examples  -- the case of document 01's report example

@@ -3,8 +3,9 @@
 --     -byte, -part, -done, -last, -u16
 --   copied, pair-put: a copy byte by byte, and a pair by two u16 numbers
 --   gapless-fits, directory-fits: a placed case is at least as long as its gapless form, and a buffer for that holds the directory
---   Writing: where a loop over the parts has come to, and its two kinds, PairsWritten and PartsWritten
---   writing-start; pairs-turn, parts-turn; writing-end, writing-done: its begin, its turns and its end
+--   Measured: the place that a loop over the parts has come to; measured-start, -next, -end: its begin, its turn and its end
+--   Writing: such a loop that writes, and its two kinds, PairsWritten and PartsWritten
+--   writing-start; pairs-turn, parts-turn; writing-done: its begin, its turns and its end
 --   Room, writing-room, pairs-buffer-length, parts-buffer-length: what a turn asks for, and that the buffer has its length
 --   case-written: the count, the pairs and the parts are the gapless case
 use Prim.Native.Nat.{ℕ, zero, suc, _+_, _*_, _-_, _/_, _%_, _≤_, _<_}
@@ -131,14 +132,40 @@ parts-next b i l =
     let e : partCount b - i ≡ suc (partCount b - (i + 1)) = omega arith in
     ap (partsFrom b i) e ∙ rw add-one refl
 
+-- the place that such a loop has come to: with the parts from part i on after it, it is the end of the gapless case
+pub record Measured (b : List ℕ) (i at : ℕ) : Type 0 where
+  pub placed : Placed b
+  pub offset : at + length (joined (partsLeft b i)) ≡ length (gaplessOf b)
+
+pub measured-start : {b : List ℕ} → Placed b → Measured b 0 (directoryEnd b)
+measured-start {b} p =
+    let e : partCount b - 0 ≡ partCount b = omega arith in
+    record { placed = p; offset = rw e (omega (arith, gapless-length (partsOf b), parts-length b 0 (partCount b))) }
+
+module _ {b : List ℕ} {i at : ℕ} (w : Measured b i at) where
+  pub measured-next : (size : ℕ) → i < partCount b → size ≡ partSize b i → Measured b (i + 1) (at + size)
+  unfolding joined
+  measured-next size l e =
+      record {
+        placed = w .placed;
+        offset = omega (arith, e, part-length b (w .placed) i l, rw (parts-next b i l) at (w .offset), length-append (partAt b i) (joined (partsLeft b (i + 1))));
+      }
+
+  -- the place is one of 16 bits
+  pub measured-small : at < 65536
+  measured-small = omega (arith, w .offset, gapless-fits b (w .placed), w .placed .directory .size-most)
+
+  pub measured-end : partCount b ≤ i → at ≡ length (gaplessOf b)
+  unfolding partsFrom joined
+  measured-end l = let e : partCount b - i ≡ 0 = omega arith in omega (arith, rw e at (w .offset))
+
 -- where such a loop has come to, in a buffer that was d. It writes, from the place `from` on, what f makes of the parts and of the offset of
 -- the first: the pairs, or the parts themselves. What is left of it, from part i on with the offset `at`, goes to `place`
 pub record Writing (f : ℕ → List (List ℕ) → List ℕ) (from : ℕ) (b d out : List ℕ) (i at place : ℕ) : Type 0 where
-  pub placed : Placed b
+  pub measured : Measured b i at
   pub fits : length (gaplessOf b) ≤ length d
   pub front : from ≤ directoryEnd b
   pub appended : Appended d out place (f at (partsLeft b i)) (take from d ++ f (directoryEnd b) (partsOf b))
-  pub offset : at + length (joined (partsLeft b i)) ≡ length (gaplessOf b)
 
 abbrev pub PairsWritten : List ℕ → List ℕ → List ℕ → ℕ → ℕ → Type 0
 PairsWritten b d out i at = Writing pairs 1 b d out i at (1 + 4 * i)
@@ -160,30 +187,26 @@ pub writing-start : (f : ℕ → List (List ℕ) → List ℕ) (from : ℕ) {b d
 writing-start f from {b} {d} p l m =
     let e : partCount b - 0 ≡ partCount b = omega arith in
     record {
-      placed = p;
+      measured = measured-start p;
       fits = l;
       front = m;
       appended = rw e (appended-start d from (f (directoryEnd b) (partsOf b)) (omega (arith, directory-fits b d l)));
-      offset = rw e (omega (arith, gapless-length (partsOf b), parts-length b 0 (partCount b)));
     }
 
 module _ {f : ℕ → List (List ℕ) → List ℕ} {from : ℕ} {b d out : List ℕ} {i at place : ℕ} (w : Writing f from b d out i at place) where
-  offset-next : i < partCount b → at + length (partAt b i) + length (joined (partsLeft b (i + 1))) ≡ length (gaplessOf b)
-  unfolding joined
-  offset-next l = omega (arith, rw (parts-next b i l) at (w .offset), length-append (partAt b i) (joined (partsLeft b (i + 1))))
+  -- after a turn
+  measured-turn : (size : ℕ) → i < partCount b → size ≡ length (partAt b i) → Measured b (i + 1) (at + size)
+  measured-turn size l e = measured-next (w .measured) size l (e ∙ part-length b (w .measured .placed) i l)
 
   pub writing-room : i < partCount b → Room b d i at
   writing-room l =
+      let m = measured-turn (length (partAt b i)) l refl in
       record {
         directory-within = directory-fits b d (w .fits);
-        part-within = omega (arith, offset-next l, w .fits);
-        end-small = omega (arith, offset-next l, gapless-fits b (w .placed), w .placed .directory .size-most);
-        sized = part-length b (w .placed) i l;
+        part-within = omega (arith, m .offset, w .fits);
+        end-small = measured-small m;
+        sized = part-length b (w .measured .placed) i l;
       }
-
-  pub writing-end : partCount b ≤ i → at ≡ length (gaplessOf b)
-  unfolding partsFrom joined
-  writing-end l = let e : partCount b - i ≡ 0 = omega arith in omega (arith, rw e at (w .offset))
 
   pub writing-done : f at [] ≡ [] → partCount b ≤ i → out ≡ written from (f (directoryEnd b) (partsOf b)) d
   unfolding partsFrom
@@ -205,11 +228,10 @@ module _ {b d out : List ℕ} {i at : ℕ} where
       let v = rw k at (appended-u16 at (rw (parts-next b i l, m) at (w .appended)) (omega (arith, r .directory-within))) in
       rw g
       (record {
-        placed = w .placed;
+        measured = measured-turn w size l (sym m);
         fits = w .fits;
         front = w .front;
         appended = rw z at (appended-u16 size v (omega (arith, r .directory-within)));
-        offset = rw m at (offset-next w l);
       })
 
   -- a turn that writes part i
@@ -218,18 +240,17 @@ module _ {b d out : List ℕ} {i at : ℕ} where
   parts-turn w l e g =
       rw (g, e)
       (record {
-        placed = w .placed;
+        measured = measured-turn w (length (partAt b i)) l refl;
         fits = w .fits;
         front = w .front;
         appended = appended-part (partAt b i) (rw (parts-next b i l) at (w .appended));
-        offset = offset-next w l;
       })
 
   pub pairs-buffer-length : PairsWritten b d out i at → i ≤ partCount b → length out ≡ length d
   pairs-buffer-length w l = appended-length (w .appended) (omega (arith, directory-fits b d (w .fits)))
 
   pub parts-buffer-length : PartsWritten b d out i at → length out ≡ length d
-  parts-buffer-length w = appended-length (w .appended) (omega (arith, w .offset, w .fits))
+  parts-buffer-length w = appended-length (w .appended) (omega (arith, w .measured .offset, w .fits))
 
 -- ---- the whole case
 

@@ -7,6 +7,7 @@ use formula::FormulaCheck;
 use lattice::LatticeCheck;
 use model::ModelCheck;
 use refusal::Refusal;
+pub use writer::gapless_length;
 ghost use mathlib.Core.Path.{_≡_};
 ghost use Prim.Native.Nat.{_+_, _-_, _≤_, _<_};
 ghost use lib.ListN.{length};
@@ -238,12 +239,12 @@ pub fn check(bytes: &[u8], w: &mut Codes) -> CaseCheck
     check_parts(bytes, w)
 }
 
-// Writes the gapless case of the parts of an accepted case, and says how many bytes it has. The bytes after it are unchanged.
-pub fn write(bytes: &[u8], out: &mut [u8]) -> usize
+// Writes the gapless case of the parts of an accepted case; `gapless_length` says how many bytes it has. The bytes after it are unchanged.
+pub fn write(bytes: &[u8], out: &mut [u8])
     requires { ⌜ Placed (now bytes) × (length (gaplessOf (now bytes)) ≤ length (now out)) ⌝ }
-    ensures { λ r. ⌜ (r ≡ length (gaplessOf (now (bytes .entry)))) × (now (out .exit) ≡ written 0 (gaplessOf (now (bytes .entry))) (now (out .entry))) ⌝ }
+    ensures { λ _. ⌜ now (out .exit) ≡ written 0 (gaplessOf (now (bytes .entry))) (now (out .entry)) ⌝ }
 {
     out[0] = bytes[0];
     writer::write_pairs(bytes, out);
-    writer::write_parts(bytes, out)
+    writer::write_parts(bytes, out);
 }

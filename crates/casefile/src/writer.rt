@@ -1,4 +1,4 @@
-// The writing of the gapless case: a number, a pair, the pairs of all parts, and the parts.
+// The writing of the gapless case: its length, a number, a pair, the pairs of all parts, and the parts.
 use crate::part;
 use crate::part_size;
 ghost use mathlib.Core.Path.{_≡_};
@@ -8,6 +8,19 @@ ghost use Rattle.theory.specs.Lists.{written};
 ghost use Rattle.casefile.specs.Gapless.{gaplessOf};
 ghost use Rattle.casefile.specs.Conditions.{Placed};
 ghost use Rattle.casefile.specs.Steps.{withU16, withPair, withPairs, withParts};
+
+// How many bytes the gapless case of the parts has.
+pub fn gapless_length(bytes: &[u8]) -> usize
+    requires { ⌜ Placed (now bytes) ⌝ }
+    ensures { λ r. ⌜ r ≡ length (gaplessOf (now (bytes .entry))) ⌝ }
+{
+    let count = bytes[0];
+    let mut at = 1 + 4 * elements::index(count);
+    for i in 0..count {
+        at = at + part_size(bytes, i);
+    }
+    at
+}
 
 // Writes bytes at a place of a buffer.
 fn copy(part: &[u8], out: &mut [u8], at: usize)
@@ -53,9 +66,9 @@ pub fn write_pairs(bytes: &[u8], out: &mut [u8])
 }
 
 // Writes the bytes of the parts, one after the other, after the directory.
-pub fn write_parts(bytes: &[u8], out: &mut [u8]) -> usize
+pub fn write_parts(bytes: &[u8], out: &mut [u8])
     requires { ⌜ Placed (now bytes) × (length (gaplessOf (now bytes)) ≤ length (now out)) ⌝ }
-    ensures { λ r. ⌜ (r ≡ length (gaplessOf (now (bytes .entry)))) × (now (out .exit) ≡ withParts (now (bytes .entry)) (now (out .entry))) ⌝ }
+    ensures { λ _. ⌜ now (out .exit) ≡ withParts (now (bytes .entry)) (now (out .entry)) ⌝ }
 {
     let count = bytes[0];
     let mut at = 1 + 4 * elements::index(count);
@@ -64,5 +77,4 @@ pub fn write_parts(bytes: &[u8], out: &mut [u8]) -> usize
         copy(p, out, at);
         at = at + p.len();
     }
-    at
 }

@@ -1,5 +1,5 @@
 -- Which of the refusals 4 to 8 a lattice part is given. Rests on lattice_order's Ordered and Searched, refusal's First, Reading, Conditions.
---   explicit-out: the form test of an explicit part, as facts
+--   explicit-out: the form test of an explicit part, as facts; panel-is: a panel part is the one byte 0
 --   form-exactly, ordered-exactly, meetsAndJoins-exactly, distributive-exactly, complements-exactly: each test says what its statement says
 --   lattice-refused: each refusal is given exactly when the part breaks what it asks and nothing earlier, and no other is given
 use Prim.Native.Nat.{ℕ, _+_, _*_, _≤_, _<_}
@@ -48,7 +48,7 @@ explicit-in n b w =
     (and-in _ _ (and-in _ _ (and-in _ _ (le-leb 1 n (w .some)) (le-leb n 64 (w .most))) (eq-eqb _ _ (w .exact))) (all-in n _ (λ i l. lt-ltb _ _ (w .complements i l))))
     (all-in (n * n) _ (λ i l. lt-ltb _ _ (w .orders i l)))
 
-panel-is : (b : List ℕ) → isPanel b ≡ true → b ≡ 0 ∷ []
+pub panel-is : (b : List ℕ) → isPanel b ≡ true → b ≡ 0 ∷ []
 unfolding isPanel
 panel-is [] t = cc
 panel-is (a ∷ []) t = ap (λ (x : ℕ). x ∷ []) (eqb-true a 0 t)

@@ -1,6 +1,7 @@
 -- What holds of a model part that is accepted, and which are. Rests on Reading, Places, theory's Part, Model and Test.
 --   model-exactly: a part is accepted exactly when it has its shape and every value is an element
 --   accepted-shape, accepted-valued, shape-of, sizes-pass: what holds of an accepted part
+--   Cell, cell: a place of n rows of w values is in a row and a column
 --   answers-accepted, answers-refused: what the code answers
 use Prim.Native.Nat.{ℕ, zero, suc, _+_, _*_, _-_, _/_, _%_, _≤_, _<_}
 use mathlib.Core.Path.{_≡_, refl, sym}
@@ -77,14 +78,14 @@ at-or-before a i = go (ltb i a) refl
     go false e = inl (ltb-false i a e)
 
 -- place j of n rows of w values is in a row and a column
-record Cell (j n w : ℕ) : Type 0 where
-  row : ℕ
-  column : ℕ
-  row-lt : row < n
-  column-lt : column < w
-  is : row * w + column ≡ j
+pub record Cell (j n w : ℕ) : Type 0 where
+  pub row : ℕ
+  pub column : ℕ
+  pub row-lt : row < n
+  pub column-lt : column < w
+  pub is : row * w + column ≡ j
 
-cell : (j n w : ℕ) → j < n * w → Cell j n w
+pub cell : (j n w : ℕ) → j < n * w → Cell j n w
 cell j n zero l = absurd (omega (arith, mul-zero n))
 cell j n (suc w) l =
     record {

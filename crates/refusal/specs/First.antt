@@ -10,7 +10,7 @@ use mathlib.Core.Logic.{_↔_}
 use native.Mathlib.Omega.{arith}
 use lib.Dec.{eqb}
 use Rattle.refusal.specs.declared.Refusal.{Refusal}
-use Rattle.refusal.specs.declared.Refusal.the-variants.{ShortDesk, CaseSize, Directory, PartPlace, LatticeForm, NoPartialOrder, NoMeetOrJoin, NotDistributive, BadComplement, BadModel, BadFormula, SpoiledDesk, OutOfRange}
+use Rattle.refusal.specs.declared.Refusal.the-variants.{ShortDesk, CaseSize, Directory, PartPlace, LatticeForm, NoPartialOrder, NoMeetOrJoin, NotDistributive, BadComplement, BadModel, BadFormula, SpoiledDesk, OutOfRange, ShortBuffer}
 use Rattle.refusal.specs.Number.{numberOf, partOf}
 
 failed : {A : Type 0} → _≡_ {A = Bool} false true → A
@@ -44,7 +44,8 @@ refusalOf n p =
     (cond (eqb n 9) (BadModel p)
     (cond (eqb n 10) (BadFormula p)
     (cond (eqb n 11) ShortDesk
-    (cond (eqb n 12) SpoiledDesk OutOfRange)))))))))))
+    (cond (eqb n 12) SpoiledDesk
+    (cond (eqb n 13) OutOfRange ShortBuffer))))))))))))
 
 refusal-back : (r : Refusal) → refusalOf (numberOf r) (partOf r) ≡ r
 unfolding refusalOf
@@ -61,6 +62,7 @@ refusal-back (BadModel p) = refl
 refusal-back (BadFormula p) = refl
 refusal-back SpoiledDesk = refl
 refusal-back OutOfRange = refl
+refusal-back ShortBuffer = refl
 
 pub refusal-unique : (r s : Refusal) → numberOf r ≡ numberOf s → partOf r ≡ partOf s → r ≡ s
 refusal-unique r s n p = sym (refusal-back r) ∙ ap₂ refusalOf n p ∙ refusal-back s

@@ -1,7 +1,7 @@
--- The table 'What a refused call gives' of document 01: the number and the part of each refusal. Rests on nothing.
+-- The table 'What a refused call gives' of document 01: the number and the part of each refusal; then document 02's, 'a new refusal gives part 255'. Rests on nothing.
 use Prim.Native.Nat.{ℕ}
 use Rattle.refusal.specs.declared.Refusal.{Refusal}
-use Rattle.refusal.specs.declared.Refusal.the-variants.{ShortDesk, CaseSize, Directory, PartPlace, LatticeForm, NoPartialOrder, NoMeetOrJoin, NotDistributive, BadComplement, BadModel, BadFormula, SpoiledDesk, OutOfRange}
+use Rattle.refusal.specs.declared.Refusal.the-variants.{ShortDesk, CaseSize, Directory, PartPlace, LatticeForm, NoPartialOrder, NoMeetOrJoin, NotDistributive, BadComplement, BadModel, BadFormula, SpoiledDesk, OutOfRange, ShortBuffer}
 
 abbrev pub numberOf : Refusal → ℕ
 numberOf ShortDesk = 11
@@ -17,6 +17,7 @@ numberOf (BadModel p) = 9
 numberOf (BadFormula p) = 10
 numberOf SpoiledDesk = 12
 numberOf OutOfRange = 13
+numberOf ShortBuffer = 14
 
 abbrev pub partOf : Refusal → ℕ
 partOf ShortDesk = 255
@@ -32,3 +33,4 @@ partOf (BadModel p) = p
 partOf (BadFormula p) = p
 partOf SpoiledDesk = 255
 partOf OutOfRange = 255
+partOf ShortBuffer = 255

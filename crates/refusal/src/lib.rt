@@ -25,6 +25,8 @@ pub enum Refusal {
     SpoiledDesk,
     // An argument of the call is out of range.
     OutOfRange,
+    // A buffer that is lent to write into is too short.
+    ShortBuffer,
 }
 
 // The number of a refusal.
@@ -45,6 +47,7 @@ pub fn number(r: Refusal) -> u8
         Refusal::BadFormula(_) => 10,
         Refusal::SpoiledDesk => 12,
         Refusal::OutOfRange => 13,
+        Refusal::ShortBuffer => 14,
     }
 }
 
@@ -66,5 +69,6 @@ pub fn part(r: Refusal) -> u8
         Refusal::BadFormula(p) => p,
         Refusal::SpoiledDesk => 255,
         Refusal::OutOfRange => 255,
+        Refusal::ShortBuffer => 255,
     }
 }

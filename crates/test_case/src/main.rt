@@ -19,7 +19,8 @@ fn keep(bytes: &[u8], store: &mut [u8; 24576]) {
     let answer = casefile::check(bytes, &mut w);
     match answer {
         CaseCheck::Accepted(held) => {
-            let n = casefile::write(bytes, store);
+            let n = casefile::gapless_length(bytes);
+            casefile::write(bytes, store);
             test_printing::item(b", without gaps ", n as u64);
             test_printing::item(b" bytes, ", held.formulas as u64);
             say(b" formulas,");

@@ -28,10 +28,7 @@ same-length c =
 returns : tie.Need-returns
 returns c =
     let s = c .before .before .before .before .before .before .before .before .before .before .before in
-    let w = c .before .before .write-parts .ensures in (
-      w .0,
-      case-written (s .args .bytes .now) (s .args .out .now) (s .pre .1) _ _ (c .before .before .before .before .before .before .write-pairs .ensures) (w .1),
-    )
+    case-written (s .args .bytes .now) (s .args .out .now) (s .pre .1) _ _ (c .before .before .before .before .before .before .write-pairs .ensures) (c .before .before .write-parts .ensures)
 
 pub write-spec : {M : Type 1} → statement M
 write-spec =

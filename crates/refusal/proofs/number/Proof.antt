@@ -13,11 +13,11 @@ pub number-spec : {M : Type 1} → statement M
 number-spec =
     tie.close (tie.spec (λ c. search needs) (λ c. search needs) (λ c. search needs) (λ c. search needs)
     (λ c. search needs) (λ c. search needs) (λ c. search needs) (λ c. search needs) (λ c. search needs)
-    (λ c. search needs) (λ c. search needs) (λ c. search needs) (λ c. search needs)
+    (λ c. search needs) (λ c. search needs) (λ c. search needs) (λ c. search needs) (λ c. search needs)
     (λ c. number-is _ _ (c .enum-told .given .1)) (λ c. number-is _ _ (c .enum-told2 .given .1))
     (λ c. number-is _ _ (c .enum-told3 .given .1)) (λ c. number-is _ _ (c .enum-told4 .given .1))
     (λ c. number-is _ _ (c .enum-told5 .given .1)) (λ c. number-is _ _ (c .enum-told6 .given .1))
     (λ c. number-is _ _ (c .enum-told7 .given .1)) (λ c. number-is _ _ (c .enum-told8 .given .1))
     (λ c. number-is _ _ (c .enum-told9 .given .1)) (λ c. number-is _ _ (c .enum-told10 .given .1))
     (λ c. number-is _ _ (c .enum-told11 .given .1)) (λ c. number-is _ _ (c .enum-told12 .given .1))
-    (λ c. number-is _ _ (c .enum-told13 .given .1)))
+    (λ c. number-is _ _ (c .enum-told13 .given .1)) (λ c. number-is _ _ (c .enum-told14 .given .1)))

@@ -8,7 +8,8 @@ use Rattle.test_case.proofs.keep.Tie as tie
 pub keep-spec : {M : Type 1} → statement M
 keep-spec =
     tie.close (tie.spec (λ c κs. search needs) (λ c. search needs)
-    (λ c κs. let s = c .before .before .before .before .before .before .before in let h = when-accepted (s .args .bytes .now) _ _ _ (c .before .before .before .before .check .ensures) (c .before .before .answer .given .1) in (h .placed, omega (arith, h .short, c .write-arg .given .0 .1)))
+    (λ c κs. let s = c .before .before .before .before .before .before in when-accepted (s .args .bytes .now) _ _ _ (c .before .before .before .check .ensures) (c .before .answer .given .1) .placed)
+    (λ c κs. let s = c .before .before .before .before .before .before .before .before in let h = when-accepted (s .args .bytes .now) _ _ _ (c .before .before .before .before .before .check .ensures) (c .before .before .before .answer .given .1) in (h .placed, omega (arith, h .short, c .write-arg .given .0 .1)))
     (λ c. search needs) (λ c κs. search needs) (λ c. search needs) (λ c. search needs) (λ c κs. search needs)
     (λ c. search needs) (λ c κs. search needs) (λ c κs. search needs) (λ c. search needs) (λ c. search needs)
     (λ c. search needs))

@@ -20,7 +20,7 @@ loop-holds c =
     (omega arith, rw (c .index .ensures .0) (writing-start pairs 1 (s .pre .0) (s .pre .1) (omega arith)))
 
 part-size-requires : tie.Need-part-size-requires Inv-loop μ-loop
-part-size-requires c κs = (c .before .loop .inv .1 .placed .directory, c .loop-test .taken)
+part-size-requires c κs = (c .before .loop .inv .1 .measured .placed .directory, c .loop-test .taken)
 
 -- there is room for the pair of a turn
 room : (c : tie.In-loop Inv-loop μ-loop) → Room (c .before .before .before .before .before .before .args .bytes .now) (c .before .before .before .before .before .before .args .out .now) (c .before .loop .i) (c .before .loop .at)

@@ -6,7 +6,7 @@ use native.Mathlib.Omega.{arith}
 use lib.ListN.{length}
 use Rattle.casefile.specs.Directory.{partCount}
 use Rattle.casefile.specs.Gapless.{joined}
-use Rattle.casefile.specs.Writer.{PartsWritten, Room, writing-start, writing-room, parts-turn, parts-buffer-length, writing-end, writing-done}
+use Rattle.casefile.specs.Writer.{PartsWritten, Room, writing-start, writing-room, parts-turn, parts-buffer-length, writing-done}
 use Rattle.casefile.proofs.writer.write_parts.Statement.{statement}
 use Rattle.casefile.proofs.writer.write_parts.Tie as tie
 
@@ -22,7 +22,7 @@ loop-holds c =
     (omega arith, rw (c .index .ensures .0) (writing-start (λ n. joined) _ (s .pre .0) (s .pre .1) (le-refl _)))
 
 part-requires : tie.Need-part-requires Inv-loop μ-loop
-part-requires c κs = (c .before .loop .inv .1 .placed, c .loop-test .taken)
+part-requires c κs = (c .before .loop .inv .1 .measured .placed, c .loop-test .taken)
 
 -- there is room for the part of a turn
 room : (c : tie.In-loop Inv-loop μ-loop) → Room (c .before .before .before .before .before .before .args .bytes .now) (c .before .before .before .before .before .before .args .out .now) (c .before .loop .i) (c .before .loop .at)
@@ -44,7 +44,7 @@ same-length c = parts-buffer-length (c .before .loop .inv .1)
 
 returns : tie.Need-returns Inv-loop μ-loop
 unfolding joined
-returns c = let w = c .before .loop .inv .1 in (writing-end w (c .loop-test .left), writing-done w refl (c .loop-test .left))
+returns c = writing-done (c .before .loop .inv .1) refl (c .loop-test .left)
 
 pub write-parts-spec : {M : Type 1} → statement M
 write-parts-spec =

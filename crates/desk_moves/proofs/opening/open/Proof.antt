@@ -51,7 +51,7 @@ returns-3 : tie.Need-returns-3
 returns-3 c =
     let t = c .before .before .before .before .before .before .before .before .before .before .before .before .before .before in
     let a = when-accepted _ _ _ _ (t .before .before .before .before .check .ensures) (t .before .before .z .given .1) in
-    accepted-open _ (desk (t .before .before .before .before .before .before .before)) _ _ (not-short (t .before .before .before .before .before .before)) a (t .table-size .result) _ _ _ (t .table-size .ensures .0) (c .before .before .before .before .before .before .before .before .before .before .write .ensures .1) (c .before .before .before .before .before .before .fill .ensures) (c .before .before .fill2 .ensures)
+    accepted-open _ (desk (t .before .before .before .before .before .before .before)) _ _ (not-short (t .before .before .before .before .before .before)) a (t .table-size .result) _ _ _ (t .table-size .ensures .0) (c .before .before .before .before .before .before .before .before .before .before .write .ensures) (c .before .before .before .before .before .before .fill .ensures) (c .before .before .fill2 .ensures)
 
 pub open-spec : {M : Type 1} → statement M
 open-spec =
