@@ -1,8 +1,9 @@
--- What the calls read in the content of a case. Rests on casefile's Reading and the theory.
+-- What the calls read in the content of a case. Rests on casefile's Reading and Gapless, and the theory.
 --   ops, latticeSize; model1, model2, N1, N2, tableSize: the lattice, the two models, and the sizes of these and of a table
 --   modelIn, formulaIn: a model and a formula by their numbers
 --   operator, roundIn, IsT: F, its rounds, and being T; limit: N1·N2·(n − 1)
 --   entryAt, tableBytes: the entries of a table in the order of its bytes
+--   caseBytes: the case without gaps
 use Prim.Native.Nat.{ℕ, _*_, _-_, _/_, _%_}
 use mathlib.Core.Bool.{cond}
 use mathlib.Core.List.{List}
@@ -14,7 +15,8 @@ use Rattle.theory.specs.Formula.{Formula, bottom}
 use Rattle.theory.specs.Simulation.{F, round, FirstUnchanged}
 use Rattle.theory.specs.Part.{opsOf, modelOf}
 use Rattle.theory.specs.Lists.{tab}
-use Rattle.casefile.specs.Reading.{Content}
+use Rattle.casefile.specs.Reading.{Content, contentParts}
+use Rattle.casefile.specs.Gapless.{gapless}
 
 -- the lattice and the models, with their sizes n, N1 and N2; the entries of a table, N1·N2
 abbrev pub ops : Content → Ops ℕ
@@ -65,3 +67,8 @@ entryAt c S i = S (i / N2 c) (i % N2 c)
 
 abbrev pub tableBytes : Content → (ℕ → ℕ → ℕ) → List ℕ
 tableBytes c S = tab (entryAt c S) (tableSize c) 0
+
+-- the case as it is written back (request 105): 'parts without gaps, directory first, the panel lattice as its one byte if it was loaded so'. The bytes
+-- of the lattice part are in the content, so that the form in which it was loaded is kept.
+abbrev pub caseBytes : Content → List ℕ
+caseBytes c = gapless (contentParts c)

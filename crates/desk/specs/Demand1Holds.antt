@@ -1,10 +1,10 @@
 -- Demand 1 holds. Rests on Demand1, RefusedLaws, RulesLaws, casefile's Exactly and Numbered.
---   demand1: the demand holds of every call on every desk; at-13, only-13: what it says of 13
+--   demand1: the demand holds of every call on every desk; at-13: what it says of 13
 use Prim.Native.Nat.{ℕ, _<_}
 use mathlib.Core.Path.{_≡_, refl, sym, ap, ap₂, _∙_}
 use mathlib.Core.Bool.{true, false}
 use mathlib.Core.Logic.{_↔_, _⊎_, inl, inr, ⊎-elim}
-use mathlib.Core.List.{List, [], _∷_}
+use mathlib.Core.List.{List, []}
 use mathlib.Core.Option.{some}
 use native.Mathlib.Omega.{arith}
 use Rattle.theory.specs.TestLaws.{false-true, not-failed}
@@ -17,7 +17,7 @@ use Rattle.casefile.specs.Exactly.{content-exactly}
 use Rattle.casefile.specs.Numbered.{CaseRefused, case-number, refused-as}
 use Rattle.desk.specs.Desk.{Desk, Call, Reply, isOpen, isShow}
 use Rattle.desk.specs.View.{viewOf}
-use Rattle.desk.specs.Refused.{short, Rules, Condition, refusalOf, callConditions, refusalsOf, OneOf, examined, refusedReply}
+use Rattle.desk.specs.Refused.{short, Rules, callConditions, refusalsOf, OneOf, examined, refusedReply}
 use Rattle.desk.specs.Perform.{perform, answer}
 use Rattle.desk.specs.Demand1.{InStore, Demand1}
 use Rattle.desk.specs.RefusedLaws.{perform-refused, perform-accepted, is-short, open-long, in-store, open-accepted, other-accepted, Outcome, too-short, broken, outside, inside, outcome, opens-or-not, accepted-content, content-accepted}
@@ -128,19 +128,3 @@ module _ (k : Call) (d : Desk) where
 
   pub at-13 : isOpen k ≡ false → (examined k d ≡ refused OutOfRange) ↔ ((short d ≡ false) × InStore k d (some OutOfRange))
   at-13 o = demand1 .after-12 o OutOfRange (omega arith)
-
-  -- no call has another after 12
-  pub only-13 : isOpen k ≡ false → (r : Refusal) → examined k d ≡ refused r → (r ≡ ShortDesk) ⊎ ((r ≡ SpoiledDesk) ⊎ (r ≡ OutOfRange))
-  only-13 o r e = ⊎-elim (λ p. inl p) (λ q. ⊎-elim (λ p. inr (inl p)) (λ p. inr (inr (one-13 (callConditions k) p))) q) (demand1 .only o r e)
-    where
-      condition-13 : (x : Condition) → refusalOf x ≡ OutOfRange
-      condition-13 (Condition.Formula f) = refl
-      condition-13 (Condition.Model m) = refl
-      condition-13 (Condition.State m q) = refl
-      condition-13 (Condition.Element l) = refl
-      condition-13 (Condition.TableLength t) = refl
-      condition-13 (Condition.TableBytes t) = refl
-
-      one-13 : (xs : List Condition) → OneOf r (refusalsOf xs) → r ≡ OutOfRange
-      one-13 [] p = absurd p
-      one-13 (x ∷ xs) p = ⊎-elim (λ (q : r ≡ refusalOf x). q ∙ condition-13 x) (one-13 xs) p

@@ -1,5 +1,6 @@
 -- Demand 3: one claim about every list of calls from any desk, refused ones included, with an accepted opening in it. Rests on Run.
 --   FactsAnswered: value or whole answered these facts of a formula; SaysYes: judge says yes of a table
+--   WritesBack: what write answers and leaves in its buffer; OpenedAnew: what opening that gives
 --   BoundedIn, BoundedBy: the entries of a table, and those shown, bound a formula; Covers: when this is promised
 --   Claim: the claim, a field for each part of it; Demand3: there are a last accepted opening and a T of which it holds
 -- Demand3Holds proves it.
@@ -7,20 +8,22 @@ use Prim.Native.Nat.{ℕ, _+_, _*_, _-_, _%_, _≤_, _<_}
 use mathlib.Core.Path.{_≡_}
 use mathlib.Core.Bool.{true, false}
 use mathlib.Core.Logic.{_⊎_, _↔_}
-use mathlib.Core.List.{List}
-use lib.ListN.{length, getD}
+use mathlib.Core.List.{List, [], _∷_}
+use lib.ListN.{length, getD, take, replicate}
+use Rattle.theory.specs.Lists.{written}
 use Rattle.theory.specs.Lattice.{LongestChain}
 use Rattle.theory.specs.Formula.{Formula, fixpointFree, nestedAX, UniversalSentence}
 use Rattle.theory.specs.Value.{valueAt}
 use Rattle.theory.specs.Simulation.{SameTable, AtMostTable, Bounds, Simulation, GreatestSimulation, PostFixedBy}
-use Rattle.refusal.specs.declared.Refusal.the-variants.{ShortDesk, SpoiledDesk}
+use Rattle.refusal.specs.declared.Refusal.the-variants.{ShortDesk, SpoiledDesk, ShortBuffer}
 use Rattle.formula.specs.declared.FormulaFacts.{FormulaFacts}
 use Rattle.casefile.specs.Reading.{Content, refused, content, caseReading, storeReading}
 use Rattle.desk.specs.Desk.{Desk, Question, Call, Reply}
-use Rattle.desk.specs.Case.{ops, model1, model2, N1, tableSize, formulaIn, operator, roundIn, IsT, tableBytes}
-use Rattle.desk.specs.Refused.{short, spoiled, InRange, examined, accepted}
+use Rattle.desk.specs.Case.{ops, model1, model2, N1, tableSize, formulaIn, operator, roundIn, IsT, tableBytes, caseBytes}
+use Rattle.desk.specs.Refused.{short, spoiled, InRange, examined, accepted, numberReply}
+use Rattle.desk.specs.Moved.{fresh}
 use Rattle.desk.specs.View.{shownTable, givenTable}
-use Rattle.desk.specs.Perform.{asked, showAnswer}
+use Rattle.desk.specs.Perform.{perform, asked, showAnswer}
 use Rattle.desk.specs.Run.{run, LastOpening, answersSince, roundAfter, answerAfter, viewAfter, AnsweredFrom}
 
 -- 'Value and whole pass these three on with the element' (request 102): one of them, on the desk d, answered x of formula f
@@ -31,6 +34,17 @@ pub data FactsAnswered (d : Desk) (f : ℕ) (x : FormulaFacts) : Type 0 where
 -- judge on the desk d says yes of the table t: t passes
 abbrev pub SaysYes : Desk → List ℕ → Type 0
 SaysYes d t = asked (Question.Judge t) d ≡ Reply.Says true
+
+-- write on the desk d, lent the buffer b, answers the length n and leaves w in the buffer; the desk is as it was
+abbrev pub WritesBack : Desk → List ℕ → ℕ → List ℕ → Type 0
+WritesBack d b n w = perform (Call.Ask (Question.Write b)) d ≡ record { reply = Reply.Length n; desk = d; lent = w ∷ [] }
+
+-- 'the same store reading, at round 0 with both tables top' (request 105): the desk f, after an opening, beside the desk d that holds c
+pub record OpenedAnew (d f : Desk) (c : Content) : Type 0 where
+  pub same-reading : storeReading (f .store) ≡ storeReading (d .store)
+  pub stands-fresh : f .standing ≡ fresh c
+  pub first-top : take (tableSize c) (f .first) ≡ replicate (tableSize c) (ops c .top)
+  pub second-top : take (tableSize c) (f .second) ≡ replicate (tableSize c) (ops c .top)
 
 -- 'A pair's entry is at most "not the formula's value at the pair's state of model 2, joined with its value at the pair's state of model 1"', of every
 -- entry of a table
@@ -91,6 +105,15 @@ module _ (c : Content) (T : ℕ) (answers : List Reply) (d : Desk) where
     -- every simulation passes. What show answers passes exactly from round T − 1 on, whose table is that of round T: so on every settled desk
     pub simulation-passes : (S : ℕ → ℕ → ℕ) → Simulation (ops c) (model1 c) (model2 c) S → SaysYes d (tableBytes c S)
     pub shown-passes-exactly : (t : List ℕ) → showAnswer d ≡ Reply.Shown t → SaysYes d t ↔ (T ≤ r + 1)
+    -- request 105: write answers the length of the case without gaps, at most 16,618, and leaves the case at the front of its buffer, bytes past it
+    -- kept; 'refused with 14 .. when the buffer is too short', which alters nothing
+    pub written-back : (b : List ℕ) → length (caseBytes c) ≤ length b → WritesBack d b (length (caseBytes c)) (written 0 (caseBytes c) b)
+    pub written-most : length (caseBytes c) ≤ 16618
+    pub write-refused : (b : List ℕ) → length b < length (caseBytes c)
+        → perform (Call.Ask (Question.Write b)) d ≡ record { reply = numberReply ShortBuffer; desk = d; lent = b ∷ [] }
+    -- 'Opening what was written gives the same store reading, at round 0 with both tables top', on every desk to which 11 does not apply
+    pub written-opens : (b w : List ℕ) (n : ℕ) → WritesBack d b n w → (e : Desk) → short e ≡ false
+        → (perform (Call.Open (take n w)) e .reply ≡ Reply.Opened) × OpenedAnew d (perform (Call.Open (take n w)) e .desk) c
     -- 'T is at most N1·N2·(h − 1) + 1, h being the number of elements in the lattice's longest chain'; there is such an h
     pub h-exists : (h : ℕ) × LongestChain (ops c) h
     pub T-most : (h : ℕ) → LongestChain (ops c) h → T ≤ tableSize c * (h - 1) + 1

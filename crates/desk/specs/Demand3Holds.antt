@@ -1,4 +1,4 @@
--- Demand 3 holds. Rests on Demand3, Listed, Next, Judged, Stands, RefusedLaws, formula's RoundTrip, and theory's Rounds, Preservation, Height and Sharp.
+-- Demand 3 holds. Rests on Demand3, Listed, Next, Judged, WrittenBack, Stands, RefusedLaws, formula's RoundTrip, and theory's Rounds, Preservation, Height and Sharp.
 --   demand3: every list of calls with an accepted opening in it has the demand; listed: the claim holds for whatever last accepted opening and T
 --   claimed: the claim from the invariant; same-shown: show's answer leaves no choice
 --   facts-own, covered-shown: the facts that value and whole answer, and the bound that follows; T-most-sharp: another limit of T
@@ -6,11 +6,11 @@
 use Prim.Native.Nat.{ℕ, suc, _+_, _-_, _≤_, _<_}
 use mathlib.Core.Path.{_≡_, refl, sym, ap, _∙_, subst}
 use mathlib.Core.Bool.{true, false}
-use mathlib.Core.Logic.{⊎-elim, _↔_}
+use mathlib.Core.Logic.{inl, ⊎-elim, _↔_}
 use mathlib.Core.List.{List, _∷_}
 use native.Mathlib.Omega.{arith}
 use borrow.Author.Tests.{not-false}
-use lib.ListN.{length, getD}
+use lib.ListN.{length, getD, take}
 use Rattle.theory.specs.Value.{valueAt, wholeValue}
 use Rattle.theory.specs.Formula.{Formula, fixpointFree, nestedAX, UniversalSentence}
 use Rattle.theory.specs.Simulation.{score, share}
@@ -19,11 +19,12 @@ use Rattle.theory.specs.Rounds.{T-at-most, settled-greatest, below-rounds, fixe
 use Rattle.theory.specs.Preservation.{bounded-by-round, bounded-at-T}
 use Rattle.theory.specs.Sharp.{T-sharp}
 use Rattle.refusal.specs.declared.Refusal.{Refusal}
-use Rattle.refusal.specs.declared.Refusal.the-variants.{ShortDesk, SpoiledDesk}
+use Rattle.refusal.specs.declared.Refusal.the-variants.{ShortDesk, SpoiledDesk, ShortBuffer}
 use Rattle.formula.specs.declared.FormulaFacts.{FormulaFacts}
 use Rattle.formula.specs.Answer.{factsOf}
 use Rattle.formula.specs.RoundTrip.{formula-part}
 use Rattle.casefile.specs.Reading.{Content}
+use Rattle.casefile.specs.Accepted.{gapless-most}
 use Rattle.casefile.specs.Content.{content-sound}
 use Rattle.desk.specs.Desk.{Desk, Question, Call, Reply}
 use Rattle.desk.specs.Case.{ops, model1, model2, tableSize, modelIn, formulaIn, operator, roundIn, IsT, entryAt, tableBytes}
@@ -37,6 +38,7 @@ use Rattle.desk.specs.RulesLaws.{spoiled-exactly}
 use Rattle.desk.specs.Stands.{known-sound, Stands, opening-starts}
 use Rattle.desk.specs.Next.{at, stands-unspoiled, never-11-or-12, ranges-are, shows, below-shown, shown-below, show-is, answered-from}
 use Rattle.desk.specs.Judged.{PostFixed, judge-yes, judge-no, passes-exactly, passed-le, passed-bounds, simulation-passes, round-passes-exactly}
+use Rattle.desk.specs.WrittenBack.{written-opens}
 use Rattle.desk.specs.Listed.{run-append, last-opening, opening-T, Since, since}
 use Rattle.desk.specs.Demand3.{FactsAnswered, by-value, by-whole, SaysYes, BoundedBy, Covers, Claim, Demand3}
 
@@ -112,6 +114,10 @@ module _ {c : Content} {T : ℕ} where
         passed-bounds = passed-bounds v n sound;
         simulation-passes = simulation-passes v n sound;
         shown-passes-exactly = λ t e. let z : tableBytes c (roundIn c (v .round)) ≡ t = same-shown (showAnswer d) _ t (show-is w) e in rw z at (round-passes-exactly v n sound T (w .known .isT) (v .round));
+        written-back = λ b l. n (Question.Write b) .answers (l, tt);
+        written-most = gapless-most (take 24576 (d .store)) c (stands-unspoiled w .rules .reads);
+        write-refused = λ b l. n (Question.Write b) .refuses ShortBuffer (inl (λ h. omega (arith, h, l), refl));
+        written-opens = written-opens d c (stands-unspoiled w .rules .reads);
         T-greatest = settled-greatest L (model1 c) (model2 c) T (w .known .isT);
         h-exists = (h .0, h .2);
         T-most = λ n l. T-at-most L (model1 c) (model2 c) n l T (w .known .isT);

@@ -5,7 +5,7 @@
 use Prim.Native.Nat.{ℕ}
 use mathlib.Core.Path.{_≡_, refl}
 use mathlib.Core.Bool.{false, true}
-use mathlib.Core.List.{List, [], _∷_, map}
+use mathlib.Core.List.{List, [], _∷_, _++_, map}
 use lib.ListN.{replicate}
 use Rattle.theory.specs.Lattice.{imp, iff, bigMeet, bigJoin}
 use Rattle.theory.specs.Value.{iterate, bind, allNext, someNext, eval, valueAt, wholeValue}
@@ -28,7 +28,7 @@ use Rattle.desk.specs.Desk.{Desk, Question, Call, Reply}
 use Rattle.desk.specs.Refused.{short, rulesObeyed, spoiled, examined, accepted, refusedReply}
 use Rattle.desk.specs.Moved.{opened, worked, stepped}
 use Rattle.desk.specs.Perform.{answer, moved, lentAfter, perform}
-use Rattle.desk.specs.Run.{replies}
+use Rattle.desk.specs.Run.{run, replies}
 
 -- 'A refused show returns an empty part and no refusal number', whatever the refusal
 pub refused-show : (r : Refusal) → refusedReply Call.Show r ≡ Reply.Shown []
@@ -49,7 +49,7 @@ abbrev nested : ℕ → FormulaFacts
 nested n = record { nesting = n; fixpoint = false; ex = false }
 
 -- worked example 1 with formula p, which report prints: rounds 2, row 0: 1, score 1, formula 0: 1 1. For request 104: the table 0 is sound and not
--- tight, 1 is tight, and 2 is too high
+-- tight, 1 is tight, and 2 is too high. For request 105: its case has 42 bytes, which 41 cannot hold
 abbrev pub calls1 : List (Call × Reply)
 calls1 =
     (Call.Open reportCase, Reply.Opened)
@@ -62,6 +62,8 @@ calls1 =
     ∷ (Call.Ask (Question.Judge (0 ∷ [])), Reply.Says true)
     ∷ (Call.Ask (Question.Judge (1 ∷ [])), Reply.Says true)
     ∷ (Call.Ask (Question.Judge (2 ∷ [])), Reply.Says false)
+    ∷ (Call.Ask (Question.Write (replicate 41 7)), Reply.Refused 14 255)
+    ∷ (Call.Ask (Question.Write (replicate 44 7)), Reply.Length 42)
     ∷ []
 
 -- worked example 4 with AX of not-p: 'Round 1 is 1 0 / 0 0, round 2 all 0, T = 3. AX of not-p has value 1 at state 0 of model 2 and 0 in
@@ -109,10 +111,14 @@ calls4 =
     ∷ (Call.Ask (Question.Share 2), Reply.Refused 13 255)
     ∷ []
 
+-- what the last of them leaves in its buffer: the case, which has no gaps, and the two bytes after it as they were
+abbrev pub LeavesCase : Type 0
+LeavesCase = perform (Call.Ask (Question.Write (replicate 44 7))) (run (Call.Open reportCase ∷ []) zeros) .lent ≡ (reportCase ++ (7 ∷ 7 ∷ [])) ∷ []
+
 -- the calls of a list, from a desk of zeros, answer as the list says
 abbrev pub AnswersAs : List (Call × Reply) → Type 0
 AnswersAs l = replies (map (λ x. x .0) l) zeros ≡ map (λ x. x .1) l
 
-pub examples-answer : AnswersAs calls1 × AnswersAs calls4
-unfolding imp iff bigMeet bigJoin iterate bind allNext someNext eval valueAt wholeValue propositionPart successorPart F roundOf score count share isMeet isJoin meetOf joinOf topOf botOf element closedUnder overProps nestedBinders nestedAX fixpointFree universal allBelow firstBelow isPanel latticeOf explicitForm latticeForm reflexive antisymmetric transitive partialOrder meetsAndJoins distributive complementRules require partReading latticeReading elementsOnly modelTest byCode parse formulaReading partStart partSize placed misplaced partsFrom formulasReading modelsReading caseReading pairs joined gapless tab rowSame changedBelow rowAtMost postFixedTest short rulesObeyed spoiled examined accepted opened worked stepped answer moved lentAfter perform replies
-examples-answer = (refl, refl)
+pub examples-answer : AnswersAs calls1 × AnswersAs calls4 × LeavesCase
+unfolding imp iff bigMeet bigJoin iterate bind allNext someNext eval valueAt wholeValue propositionPart successorPart F roundOf score count share isMeet isJoin meetOf joinOf topOf botOf element closedUnder overProps nestedBinders nestedAX fixpointFree universal allBelow firstBelow isPanel latticeOf explicitForm latticeForm reflexive antisymmetric transitive partialOrder meetsAndJoins distributive complementRules require partReading latticeReading elementsOnly modelTest byCode parse formulaReading partStart partSize placed misplaced partsFrom formulasReading modelsReading caseReading pairs joined gapless tab rowSame changedBelow rowAtMost postFixedTest short rulesObeyed spoiled examined accepted opened worked stepped answer moved lentAfter perform run replies
+examples-answer = (refl, refl, refl)

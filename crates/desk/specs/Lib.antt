@@ -1,4 +1,4 @@
--- The desk, its eight calls and the three demands: definitions in the order of reading, then the theorems.
+-- The desk, its calls and the three demands: definitions in the order of reading, then the theorems.
 -- ---- what a reader must believe
 pub mod Desk  -- the desk, its calls and their answers
 pub mod Case  -- what the calls read in the content of a case
@@ -22,6 +22,7 @@ pub mod Stepping  -- an accepted step moves it on
 pub mod Next  -- what the next call answers where it holds
 pub mod Listed  -- it holds after every list of calls with an accepted opening in it
 pub mod Judged  -- what judge's yes and no say of a table, and which tables get a yes
+pub mod WrittenBack  -- what write leaves in its buffer, and what opening that gives
 pub mod Demand3Holds  -- demand 3 is proved, and what it says of the questions one by one
 pub mod Settling  -- T·N1 accepted steps settle a desk
 pub mod RoundLeftLaws  -- what the steps left in a round do; demand 3 goes through them

@@ -1,4 +1,4 @@
--- The two calls that move the desk: open and step. Rests on Desk, Case, View, theory's Lists, casefile's Reading and Gapless, rounds' Table.
+-- The two calls that move the desk: open and step. Rests on Desk, Case, View, theory's Lists, casefile's Reading, rounds' Table.
 --   opened: the desk after an accepted opening; fresh, stored, topped: its standing, its store and its tables
 --   rowWorked, changedNow: the row of F that a step works, and whether this round has changed anything by then
 --   nextRow, nextRound, movedOn: the standing after a row; worked: the desk after it
@@ -9,11 +9,10 @@ use mathlib.Core.List.{List}
 use lib.Dec.{eqb}
 use lib.ListN.{replicate}
 use Rattle.theory.specs.Lists.{written}
-use Rattle.casefile.specs.Reading.{Content, contentParts}
-use Rattle.casefile.specs.Gapless.{gapless}
+use Rattle.casefile.specs.Reading.{Content}
 use Rattle.rounds.specs.Table.{rowWritten, rowChanged}
 use Rattle.desk.specs.Desk.{Standing, Desk, Reply, otherTable}
-use Rattle.desk.specs.Case.{ops, model1, model2, N1, N2, tableSize, operator}
+use Rattle.desk.specs.Case.{ops, model1, model2, N1, N2, tableSize, operator, caseBytes}
 use Rattle.desk.specs.View.{shownTable}
 
 -- ---- open: 'makes an unsettled desk at round 0 and next row 0, the first table whole'
@@ -23,7 +22,7 @@ fresh c = record { states1 = N1 c; states2 = N2 c; round = 0; row = 0; changed =
 
 -- the gapless case at the store's front, and every byte after it as it was
 abbrev pub stored : Content → List ℕ → List ℕ
-stored c s = written 0 (gapless (contentParts c)) s
+stored c s = written 0 (caseBytes c) s
 
 -- 'the first N1·N2 bytes of both tables top', and every byte after them as it was
 abbrev pub topped : Content → List ℕ → List ℕ

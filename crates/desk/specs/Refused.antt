@@ -18,11 +18,11 @@ use lib.Dec.{ltb, leb, eqb}
 use lib.ListN.{length, getD}
 use Rattle.theory.specs.Test.{allBelow, _⇒_}
 use Rattle.refusal.specs.declared.Refusal.{Refusal}
-use Rattle.refusal.specs.declared.Refusal.the-variants.{ShortDesk, SpoiledDesk, OutOfRange}
+use Rattle.refusal.specs.declared.Refusal.the-variants.{ShortDesk, SpoiledDesk, OutOfRange, ShortBuffer}
 use Rattle.refusal.specs.Number.{numberOf, partOf}
 use Rattle.casefile.specs.Reading.{Content, CaseReading, refused, content, caseReading, storeReading, storeLength}
 use Rattle.desk.specs.Desk.{Standing, Desk, Question, Call, Reply}
-use Rattle.desk.specs.Case.{latticeSize, N1, N2, tableSize, modelIn, limit}
+use Rattle.desk.specs.Case.{latticeSize, N1, N2, tableSize, modelIn, limit, caseBytes}
 use Rattle.desk.specs.View.{View, viewOf}
 
 -- ---- 11: 'the store or a table is shorter than above'
@@ -91,6 +91,7 @@ pub record Rules (d : Desk) (c : Content) : Type 0 where
   pub second-below : (i : ℕ) → i < tableSize c → getD (d .second) i 0 < latticeSize c
 
 -- ---- 13: 'a formula, model, state or element in the call out of range, or judge's table of another length or with a byte not below n'
+-- ---- 14: 'when the buffer is too short' (request 105), part 255
 
 -- What a question asks of its arguments, after 12, for the view that it is answered from.
 pub data Condition : Type 0 where
@@ -100,6 +101,8 @@ pub data Condition : Type 0 where
   Element : ℕ → Condition
   -- the table has N1·N2 bytes; they are below n
   TableLength TableBytes : List ℕ → Condition
+  -- a buffer that is lent to write into has as many bytes as are to be written, so many of a content
+  Fits : (Content → ℕ) → List ℕ → Condition
 
 abbrev pub isModel : ℕ → Bool
 isModel m = eqb m 1 || eqb m 2
@@ -112,6 +115,7 @@ conditionTest (Condition.State m q) v = ltb q (modelIn (v .holds) m .states)
 conditionTest (Condition.Element e) v = ltb e (latticeSize (v .holds))
 conditionTest (Condition.TableLength t) v = eqb (length t) (tableSize (v .holds))
 conditionTest (Condition.TableBytes t) v = tableObeys (tableSize (v .holds)) (latticeSize (v .holds)) t
+conditionTest (Condition.Fits count b) v = leb (count (v .holds)) (length b)
 
 -- and as a statement; `condition-exactly` (RulesLaws) ties the two
 abbrev pub ConditionHolds : Condition → View → Type 0
@@ -121,6 +125,7 @@ ConditionHolds (Condition.State m q) v = q < modelIn (v .holds) m .states
 ConditionHolds (Condition.Element e) v = e < latticeSize (v .holds)
 ConditionHolds (Condition.TableLength t) v = length t ≡ tableSize (v .holds)
 ConditionHolds (Condition.TableBytes t) v = (i : ℕ) → i < tableSize (v .holds) → getD t i 0 < latticeSize (v .holds)
+ConditionHolds (Condition.Fits count b) v = count (v .holds) ≤ length b
 
 -- the refusal that is given where it is broken
 abbrev pub refusalOf : Condition → Refusal
@@ -130,6 +135,7 @@ refusalOf (Condition.State m q) = OutOfRange
 refusalOf (Condition.Element e) = OutOfRange
 refusalOf (Condition.TableLength t) = OutOfRange
 refusalOf (Condition.TableBytes t) = OutOfRange
+refusalOf (Condition.Fits count b) = ShortBuffer
 
 -- the conditions of a question, in order; of any call: open, step and show have none
 abbrev pub conditions : Question → List Condition
@@ -138,6 +144,7 @@ conditions (Question.Value f m q) = Condition.Formula f ∷ Condition.Model m �
 conditions (Question.Whole f m) = Condition.Formula f ∷ Condition.Model m ∷ []
 conditions (Question.Share e) = Condition.Element e ∷ []
 conditions (Question.Judge t) = Condition.TableLength t ∷ Condition.TableBytes t ∷ []
+conditions (Question.Write b) = Condition.Fits (λ c. length (caseBytes c)) b ∷ []
 
 abbrev pub callConditions : Call → List Condition
 callConditions (Call.Open b) = []
@@ -187,7 +194,7 @@ abbrev pub ofStore : Call → Desk → CaseReading → CaseReading
 ofStore k d (refused r) = refused SpoiledDesk
 ofStore k d (content c) = cond (obeysFor c d) (afterRules c (firstRefusal (callConditions k) (viewOf c d))) (refused SpoiledDesk)
 
--- 'open uses 11 and 1 to 10, the other calls 11, 12, 13'
+-- 'open uses 11 and 1 to 10, the other calls 11, 12, 13', write 'with 14, after 12'
 abbrev pub afterShort : Call → Desk → CaseReading
 afterShort (Call.Open b) d = caseReading b
 afterShort Call.Step d = ofStore Call.Step d (storeReading (d .store))

@@ -56,6 +56,7 @@ module _ (c : Content) (round : ℕ) (settled : Bool) (S U : ℕ → ℕ → ℕ
   test-same (Condition.Element e) = refl
   test-same (Condition.TableLength t) = refl
   test-same (Condition.TableBytes t) = refl
+  test-same (Condition.Fits count b) = refl
 
   answer-same : (q : Question) → answerTo q (viewWith S) ≡ answerTo q (viewWith U)
   answer-same Question.Score = ap (λ (e : ℕ). replyAlone (Reply.Element e)) (score-cong (ops c) (model1 c) (model2 c) h)
@@ -63,6 +64,7 @@ module _ (c : Content) (round : ℕ) (settled : Bool) (S U : ℕ → ℕ → ℕ
   answer-same (Question.Whole f m) = refl
   answer-same (Question.Share l) = ap (λ (e : ℕ). replyAlone (Reply.PerCent e)) (share-cong (ops c) (tableSize c) (entryAt c S) (entryAt c U) l (entries-cong c S U h))
   answer-same (Question.Judge t) = refl
+  answer-same (Question.Write b) = refl
 
 module _ (v w : View) (e : SameView v w) where
   test-cong : (x : Condition) → conditionTest x v ≡ conditionTest x w

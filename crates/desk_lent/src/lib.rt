@@ -4,16 +4,18 @@ use desk_moves::OpenAnswer;
 use desk_moves::StepAnswer;
 use desk_questions::ElementAnswer;
 use desk_questions::JudgeAnswer;
+use desk_questions::LengthAnswer;
 use desk_questions::ShareAnswer;
 use desk_questions::ValueAnswer;
 use elements::Element;
 use model::State;
+ghost use mathlib.Core.List.{[], _∷_};
 ghost use Rattle.desk.specs.Desk.{Call, Question, Reply};
 ghost use Rattle.desk_check.specs.Read.{deskOf};
 ghost use Rattle.desk_check.specs.Answer.{Does};
 ghost use Rattle.desk_moves.specs.Answer.{stepReply, openReply};
-ghost use Rattle.desk_questions.specs.Answer.{elementReply, valueReply, shareReply, judgeReply};
-ghost use Rattle.desk_lent.specs.Asked.{ReadsOnly, AsksOnly};
+ghost use Rattle.desk_questions.specs.Answer.{elementReply, valueReply, shareReply, judgeReply, lengthReply};
+ghost use Rattle.desk_lent.specs.Asked.{ReadsOnly, AsksOnly, AsksOnlyWith};
 
 // ---- the calls that move the standing on
 
@@ -118,4 +120,18 @@ pub fn value(
         (now (s .entry)) (now (store .entry)) (now (first .entry)) (now (second .entry)) (valueReply r) (now (s .exit)) ⌝ }
 {
     desk_questions::value(*s, store, first, second, f, m, q)
+}
+
+// Writes the case without gaps at the front of a buffer, and says how many bytes it has. The bytes after it are unchanged.
+pub fn write(
+    s: &mut Standing,
+    store: &[u8],
+    first: &[u8],
+    second: &[u8],
+    out: &mut [u8],
+) -> LengthAnswer
+    ensures { λ r. ⌜ AsksOnlyWith (now (out .exit) ∷ []) (Question.Write (now (out .entry)))
+        (now (s .entry)) (now (store .entry)) (now (first .entry)) (now (second .entry)) (lengthReply r) (now (s .exit)) ⌝ }
+{
+    desk_questions::write(*s, store, first, second, out)
 }

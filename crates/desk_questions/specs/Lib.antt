@@ -3,3 +3,4 @@
 pub mod Answer  -- what show and a question do, and each enum of answers as the desk's reply
 -- ---- for the code
 pub mod Questions  -- a question on a held desk, answered from what the code found
+pub mod Writing  -- the same of write

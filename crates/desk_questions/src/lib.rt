@@ -1,8 +1,10 @@
-// The six calls that only read, with the standing by value, and `whole_table`, which chooses the one that show, score and share read.
+// The calls that only read the desk, with the standing by value, and `whole_table`, which chooses the one that show, score and share read.
 //   tables: `whole_table`, `show`, `score`, `share` and `judge`
 //   formulas: `whole` and `value`
+//   writing: `write`
 mod formulas;
 mod tables;
+mod writing;
 
 use elements::Element;
 use formula::FormulaFacts;
@@ -14,6 +16,7 @@ pub use tables::score;
 pub use tables::share;
 pub use tables::show;
 pub use tables::whole_table;
+pub use writing::write;
 
 // What score answers.
 pub enum ElementAnswer {
@@ -37,4 +40,10 @@ pub enum ShareAnswer {
 pub enum JudgeAnswer {
     Refused(Refusal),
     Says(bool),
+}
+
+// What write answers: how many bytes it wrote.
+pub enum LengthAnswer {
+    Refused(Refusal),
+    Length(u32),
 }

@@ -2,6 +2,7 @@
 -- refusal's Number, and desk_check's Read.
 --   numbers: the numbers of a reply
 --   DoneInNumbers, AskedInNumbers: what an export of a call says, and one of a call that only reads
+--   DoneInNumbersWith, AskedInNumbersWith: the same of a call that is lent buffers to write into
 --   named, namedBytes, ShownInNumbers: what show's export says
 --   sized: what the export of a desk's sizes says
 use Prim.Native.Nat.{ℕ}
@@ -46,6 +47,7 @@ given kind value = answered kind 0 0 value
 -- | PerCent p        | 6    | 0      | 0    | 0          | p            | false       | false |
 -- | Says b           | 7    | 0      | 0    | 0          | 1 yes, 0 no  | false       | false |
 -- | FormulaValue e x | 9    | 0      | 0    | x .nesting | e            | x .fixpoint | x .ex |
+-- | Length n         | 10   | 0      | 0    | 0          | n            | false       | false |
 -- second is 0 in each of them.
 -- Shown has kind 8, which no export answers: what show gives is told by `named`.
 abbrev pub numbers : Reply → Answer
@@ -60,15 +62,25 @@ numbers (Reply.FormulaValue e x) =
 numbers (Reply.PerCent p) = given 6 p
 numbers (Reply.Says b) = given 7 (yesNo b)
 numbers (Reply.Shown b) = given 8 0
+numbers (Reply.Length n) = given 10 n
 
--- the call k on the desk d is answered with these numbers, and leaves the desk e: standing, store and both tables
-pub record DoneInNumbers (k : Call) (d : Desk) (x : Answer) (e : Desk) : Type 0 where
+-- the call k on the desk d is answered with these numbers, and leaves the desk e, standing, store and both tables, and `lent` in the buffers that it is
+-- lent to write into
+pub record DoneInNumbersWith (lent : List (List ℕ)) (k : Call) (d : Desk) (x : Answer) (e : Desk) : Type 0 where
   pub answer : x ≡ numbers (perform k d .reply)
   pub after : e ≡ perform k d .desk
+  pub leaves : lent ≡ perform k d .lent
 
--- the question q on the desk of these four is answered with these numbers, and leaves that desk
+-- the same of a call that is lent none
+abbrev pub DoneInNumbers : Call → Desk → Answer → Desk → Type 0
+DoneInNumbers = DoneInNumbersWith []
+
+-- the question q on the desk of these four is answered with these numbers, and leaves that desk, and `lent` in its buffers
+abbrev pub AskedInNumbersWith : List (List ℕ) → Question → Standing → List ℕ → List ℕ → List ℕ → Answer → Type 0
+AskedInNumbersWith lent q s store first second x = DoneInNumbersWith lent (Call.Ask q) (deskOf s store first second) x (deskOf s store first second)
+
 abbrev pub AskedInNumbers : Question → Standing → List ℕ → List ℕ → List ℕ → Answer → Type 0
-AskedInNumbers q s store first second x = DoneInNumbers (Call.Ask q) (deskOf s store first second) x (deskOf s store first second)
+AskedInNumbers = AskedInNumbersWith []
 
 -- ---- show
 

@@ -17,7 +17,7 @@ use Rattle.refusal.specs.declared.Refusal.{Refusal}
 use Rattle.casefile.specs.declared.Sizes.{Sizes}
 use Rattle.casefile.specs.Answer.{sizesOf}
 use Rattle.desk_check.specs.declared.Examined.the-variants.{Refused, Held}
-use Rattle.desk_check.specs.Answer.{examinedAnswer, Does}
+use Rattle.desk_check.specs.Answer.{examinedAnswer, Does, DoesWith}
 use Rattle.casefile.specs.Reading.{Content, CaseReading, refused, content}
 use Rattle.casefile.specs.Content.{ContentSound, content-sound}
 use Rattle.desk.specs.Desk.{Desk, Call, Reply, wholeTable}
@@ -29,7 +29,7 @@ use Rattle.desk.specs.RulesLaws.{long-enough}
 use Rattle.exports.specs.declared.Answer.{Answer}
 use Rattle.exports.specs.declared.Shown.{Shown}
 use Rattle.exports.specs.declared.DeskSizes.{DeskSizes}
-use Rattle.exports.specs.Numbers.{numbers, DoneInNumbers, named, ShownInNumbers, sized}
+use Rattle.exports.specs.Numbers.{numbers, DoneInNumbersWith, named, ShownInNumbers, sized}
 
 -- ---- the numbers lose nothing of a reply
 
@@ -44,8 +44,9 @@ isShown (Reply.Element e) = false
 isShown (Reply.FormulaValue e x) = false
 isShown (Reply.PerCent p) = false
 isShown (Reply.Says b) = false
+isShown (Reply.Length n) = false
 
--- the reply of kind k, for the kinds 1 to 7 and 9; any other is a refusal
+-- the reply of kind k, for the kinds 1 to 7, 9 and 10; any other is a refusal
 abbrev pub replyOf : Answer → Reply
 replyOf a =
     cond (eqb (a .kind) 1) Reply.Opened
@@ -55,7 +56,8 @@ replyOf a =
     (cond (eqb (a .kind) 5) (Reply.Element (a .value))
     (cond (eqb (a .kind) 6) (Reply.PerCent (a .value))
     (cond (eqb (a .kind) 7) (Reply.Says (eqb (a .value) 1))
-    (cond (eqb (a .kind) 9) (Reply.FormulaValue (a .value) (record { nesting = a .byte; fixpoint = a .flag1; ex = a .flag2 })) (Reply.Refused (a .number) (a .part)))))))))
+    (cond (eqb (a .kind) 9) (Reply.FormulaValue (a .value) (record { nesting = a .byte; fixpoint = a .flag1; ex = a .flag2 }))
+    (cond (eqb (a .kind) 10) (Reply.Length (a .value)) (Reply.Refused (a .number) (a .part))))))))))
 
 pub numbers-back : (x : Reply) → isShown x ≡ false → replyOf (numbers x) ≡ x
 numbers-back (Reply.Refused n p) e = refl
@@ -67,6 +69,7 @@ numbers-back (Reply.Shown b) e = absurd (let z : _≡_ {A = ℕ} 0 1 = cc in ome
 numbers-back (Reply.Element x) e = refl
 numbers-back (Reply.FormulaValue x y) e = refl
 numbers-back (Reply.PerCent p) e = refl
+numbers-back (Reply.Length n) e = refl
 numbers-back (Reply.Says b) e = go b
   where
     go : (y : Bool) → replyOf (numbers (Reply.Says y)) ≡ Reply.Says y
@@ -79,8 +82,9 @@ numbers-back (Reply.Says b) e = go b
 pub by-case : {A : Type 0} (reply : A → Reply) (a b : A) (x : Answer) → a ≡ b → x ≡ numbers (reply b) → x ≡ numbers (reply a)
 by-case {A} reply a b x e p = p ∙ ap (λ (y : A). numbers (reply y)) (sym e)
 
-pub done-in-numbers : (k : Call) (d : Desk) (x : Reply) (e : Desk) (a : Answer) → Does k d x e → a ≡ numbers x → DoneInNumbers k d a e
-done-in-numbers k d x e a p q = record { answer = q ∙ sym (ap (λ (r : After). numbers (r .reply)) p); after = sym (ap (λ (r : After). r .desk) p) }
+pub done-in-numbers : {lent : List (List ℕ)} (k : Call) (d : Desk) (x : Reply) (e : Desk) (a : Answer) → DoesWith lent k d x e → a ≡ numbers x → DoneInNumbersWith lent k d a e
+done-in-numbers k d x e a p q =
+    record { answer = q ∙ sym (ap (λ (r : After). numbers (r .reply)) p); after = sym (ap (λ (r : After). r .desk) p); leaves = sym (ap (λ (r : After). r .lent) p) }
 
 -- ---- show
 

@@ -1,9 +1,10 @@
-// The eight calls, the rest of a round, what a desk holds, one entry of the next round and the listing for C and Rust: exported functions, the calls over
+// The calls, the rest of a round, what a desk holds, one entry of the next round and the listing for C and Rust: exported functions, the calls over
 // those by value, with their answers as numbers in structs of C's layout.
 //   numbers: each call's answer as numbers
 //   moves: koelchair_open and koelchair_step
 //   finishing: koelchair_finish_round
 //   questions: koelchair_show, koelchair_value, koelchair_whole, koelchair_score, koelchair_share and koelchair_judge
+//   writing: koelchair_write
 //   held: koelchair_sizes
 //   worked: koelchair_entry
 mod finishing;
@@ -12,6 +13,7 @@ mod moves;
 mod numbers;
 mod questions;
 mod worked;
+mod writing;
 
 use desk_check::Standing;
 ghost use mathlib.Core.Path.{_≡_};
@@ -28,7 +30,7 @@ pub struct Answer {
     pub part: u8,
     // The deepest nesting of AX, of kind 9.
     pub byte: u8,
-    // The round, T, the element, the per cent, or 1 for yes.
+    // The round, T, the element, the per cent, 1 for yes, or the length.
     pub value: u32,
     // No kind uses it yet.
     pub second: u32,

@@ -4,13 +4,14 @@ use desk_moves::OpenAnswer;
 use desk_moves::StepAnswer;
 use desk_questions::ElementAnswer;
 use desk_questions::JudgeAnswer;
+use desk_questions::LengthAnswer;
 use desk_questions::ShareAnswer;
 use desk_questions::ValueAnswer;
 use refusal::Refusal;
 ghost use mathlib.Core.Path.{_≡_};
 ghost use Rattle.desk.specs.Refused.{numberReply};
 ghost use Rattle.desk_moves.specs.Answer.{stepReply, openReply};
-ghost use Rattle.desk_questions.specs.Answer.{elementReply, valueReply, shareReply, judgeReply};
+ghost use Rattle.desk_questions.specs.Answer.{elementReply, valueReply, shareReply, judgeReply, lengthReply};
 ghost use Rattle.exports.specs.Numbers.{given, numbers};
 
 pub fn refused(f: Refusal) -> Answer
@@ -116,5 +117,14 @@ pub fn judged(a: JudgeAnswer) -> Answer
             }
             plain(7, 0)
         }
+    }
+}
+
+pub fn length(a: LengthAnswer) -> Answer
+    ensures { λ r. ⌜ r ≡ numbers (lengthReply a) ⌝ }
+{
+    match a {
+        LengthAnswer::Refused(f) => refused(f),
+        LengthAnswer::Length(n) => plain(10, n),
     }
 }

@@ -1,10 +1,11 @@
-// The calls by value on the worked examples of document 01 and of requests 101, 102 and 104. Each line of the input is a call: its word, and the bytes
+// The calls by value on the worked examples of document 01 and of requests 101, 102, 104 and 105. Each line of the input is a call: its word, and the bytes
 // that it takes, in hexadecimal. The table is shown after each step. A line that begins with # is printed as it is.
 use desk_check::Standing;
 use desk_moves::OpenAnswer;
 use desk_moves::StepAnswer;
 use desk_questions::ElementAnswer;
 use desk_questions::JudgeAnswer;
+use desk_questions::LengthAnswer;
 use desk_questions::ShareAnswer;
 use desk_questions::ValueAnswer;
 use elements::Element;
@@ -62,6 +63,13 @@ fn say_judge(a: JudgeAnswer) {
     }
 }
 
+fn say_length(a: LengthAnswer) {
+    match a {
+        LengthAnswer::Refused(r) => test_printing::refused(r),
+        LengthAnswer::Length(n) => test_printing::item(b" Length ", n as u64),
+    }
+}
+
 // ---- the calls
 
 fn open(
@@ -98,6 +106,23 @@ fn value(s: Standing, f: u8, m: u8, q: u8, store: &[u8], first: &[u8], second: &
     say_value(desk_questions::value(s, store, first, second, f, m, State(q)));
 }
 
+// The case written into a buffer, and the buffer after it.
+fn write_into(s: Standing, store: &[u8], first: &[u8], second: &[u8], out: &mut [u8]) {
+    say_length(desk_questions::write(s, store, first, second, out));
+    say(b", buffer");
+    test_printing::bytes(out);
+}
+
+// The same with a buffer of 21, 22 or 24 bytes of 170, else of 42.
+fn write(s: Standing, n: u8, store: &[u8], first: &[u8], second: &[u8]) {
+    match n {
+        21 => write_into(s, store, first, second, &mut [170u8; 21]),
+        22 => write_into(s, store, first, second, &mut [170u8; 22]),
+        24 => write_into(s, store, first, second, &mut [170u8; 24]),
+        _ => write_into(s, store, first, second, &mut [170u8; 42]),
+    }
+}
+
 // The calls that only read, by the word's letter.
 fn ask<'a>(s: Standing, letter: u8, bytes: &[u8], store: &[u8], first: &'a [u8], second: &'a [u8]) {
     let a = at(bytes, 0);
@@ -107,6 +132,7 @@ fn ask<'a>(s: Standing, letter: u8, bytes: &[u8], store: &[u8], first: &'a [u8],
         b'h' => say_share(desk_questions::share(s, store, first, second, Element(a))),
         b'j' => say_judge(desk_questions::judge(s, store, first, second, bytes)),
         b'w' => say_value(desk_questions::whole(s, store, first, second, a, b)),
+        b'r' => write(s, a, store, first, second),
         b'v' => value(s, a, b, at(bytes, 2), store, first, second),
         _ => {}
     }
@@ -133,10 +159,13 @@ fn call(
 
 // ---- the input
 
-// The letter that tells the words apart: the first, or the second of those with an s.
+// The letter that tells the words apart: the first, or the second of those with an s and of write.
 fn letter(line: &[u8]) -> u8 {
     if at(line, 0) == b's' {
         return at(line, 1);
+    }
+    if at(line, 1) == b'r' {
+        return b'r';
     }
     at(line, 0)
 }

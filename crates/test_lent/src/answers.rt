@@ -3,6 +3,7 @@ use desk_moves::OpenAnswer;
 use desk_moves::StepAnswer;
 use desk_questions::ElementAnswer;
 use desk_questions::JudgeAnswer;
+use desk_questions::LengthAnswer;
 use desk_questions::ShareAnswer;
 use desk_questions::ValueAnswer;
 use test_printing::say;
@@ -57,5 +58,12 @@ pub fn say_judge(a: JudgeAnswer) {
                 say(b" no");
             }
         }
+    }
+}
+
+pub fn say_length(a: LengthAnswer) {
+    match a {
+        LengthAnswer::Refused(r) => test_printing::refused(r),
+        LengthAnswer::Length(n) => test_printing::item(b" Length ", n as u64),
     }
 }

@@ -1,10 +1,11 @@
-// The eight calls with the standing lent, on worked example 4 of document 01: from open to Settled(3), the five questions, and refused calls: on a desk of
-// zeros, with an empty case, and out of range. The input is the example's case in hexadecimal.
+// The calls with the standing lent, on worked example 4 of document 01: from open to Settled(3), the questions, the case written back, and refused calls: on
+// a desk of zeros, with an empty case, out of range, and with a buffer too short. The input is the example's case in hexadecimal.
 //   answers: what is printed for each call's answer
 mod answers;
 
 use answers::say_element;
 use answers::say_judge;
+use answers::say_length;
 use answers::say_open;
 use answers::say_share;
 use answers::say_step;
@@ -14,6 +15,7 @@ use desk_moves::Opened;
 use desk_moves::Stepped;
 use desk_questions::ElementAnswer;
 use desk_questions::JudgeAnswer;
+use desk_questions::LengthAnswer;
 use desk_questions::ShareAnswer;
 use desk_questions::ValueAnswer;
 use elements::Element;
@@ -83,6 +85,16 @@ fn value(
     desk_lent::value(&mut s, store, first, second, f, m, q)
 }
 
+fn write(
+    mut s: Standing,
+    store: &[u8],
+    first: &[u8],
+    second: &[u8],
+    out: &mut [u8],
+) -> LengthAnswer {
+    desk_lent::write(&mut s, store, first, second, out)
+}
+
 // ---- what is printed
 
 // The line of an open.
@@ -138,6 +150,15 @@ fn asked<'a>(s: Standing, e: u8, table: &[u8], store: &[u8], first: &'a [u8], se
     say(b"\n");
 }
 
+// The line of a write into a buffer, and the buffer after it.
+fn written(s: Standing, store: &[u8], first: &[u8], second: &[u8], out: &mut [u8]) {
+    say(b"write");
+    say_length(write(s, store, first, second, out));
+    say(b", buffer");
+    test_printing::bytes(out);
+    say(b"\n");
+}
+
 fn steps(s: Standing, n: u8, store: &[u8], first: &mut [u8], second: &mut [u8]) -> Standing {
     let mut t = s;
     for _ in 0..n {
@@ -148,24 +169,31 @@ fn steps(s: Standing, n: u8, store: &[u8], first: &mut [u8], second: &mut [u8]) 
 
 // ---- the calls that are made
 
+// On a desk of zeros: the questions, which are refused with 12.
+fn spoiled<'a>(s: Standing, store: &[u8], first: &'a [u8], second: &'a [u8]) {
+    valued(s, 0, 1, store, first, second);
+    asked(s, 0, b"", store, first, second);
+    written(s, store, first, second, &mut [170u8; 1]);
+}
+
 // On a desk of zeros: all but open are refused with 12, and open refuses an empty case.
 fn zeros(s: Standing, store: &mut [u8], first: &mut [u8], second: &mut [u8]) -> Standing {
     say(b"# a desk of zeros\n");
     let t = stepped(s, store, first, second);
-    valued(t, 0, 1, store, first, second);
-    asked(t, 0, b"", store, first, second);
+    spoiled(t, store, first, second);
     opened(t, b"", store, first, second)
 }
 
-// On the settled desk: a formula, a model, an element and a table that it does not have.
+// On the settled desk: a formula, a model, an element and a table that it does not have, and a buffer one byte too short.
 fn outside<'a>(s: Standing, store: &[u8], first: &'a [u8], second: &'a [u8]) {
     say(b"# out of range\n");
     valued(s, 1, 1, store, first, second);
     valued(s, 0, 3, store, first, second);
     asked(s, 2, b"", store, first, second);
+    written(s, store, first, second, &mut [170u8; 46]);
 }
 
-// On the settled desk: the formula on both models, and its table and another judged.
+// On the settled desk: the formula on both models, its table and another judged, and the case written into a buffer with two bytes more.
 fn settled<'a>(s: Standing, store: &[u8], first: &'a [u8], second: &'a [u8]) {
     let bottoms = [0u8; 4];
     let tops = [1u8; 4];
@@ -173,6 +201,7 @@ fn settled<'a>(s: Standing, store: &[u8], first: &'a [u8], second: &'a [u8]) {
     valued(s, 0, 2, store, first, second);
     asked(s, 0, &bottoms, store, first, second);
     asked(s, 1, &tops, store, first, second);
+    written(s, store, first, second, &mut [170u8; 49]);
 }
 
 // The example: opened, stepped until it is settled and once more, and asked.
