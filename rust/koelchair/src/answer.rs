@@ -1,6 +1,6 @@
 //! What the calls answer, and how it is read from the numbers that the archive gives.
 
-use crate::{raw, FormulaFacts, FormulaValue, Refusal};
+use crate::{raw, FormulaFacts, FormulaValue, Refusal, WRITTEN_MOST};
 use std::fmt;
 
 /// A number of an element of the lattice.
@@ -127,6 +127,15 @@ pub(crate) fn says(answer: raw::Answer) -> Result<bool, Refusal> {
     }
 }
 
+/// The answer of write.
+pub(crate) fn length(answer: raw::Answer) -> Result<usize, Refusal> {
+    match (answer.kind, usize::try_from(answer.value)) {
+        (0, _) => Err(Refusal::read(answer.number, answer.part)),
+        (10, Ok(value @ ..=WRITTEN_MOST)) => Ok(value),
+        _ => impossible("write", answer),
+    }
+}
+
 pub(crate) fn sizes(held: raw::DeskSizes) -> Result<Sizes, Refusal> {
     let raw::DeskSizes {
         number,
@@ -182,6 +191,7 @@ mod tests {
         assert_eq!(per_cent(given(6, 100)), Ok(100));
         assert_eq!(says(given(7, 0)), Ok(false));
         assert_eq!(says(given(7, 1)), Ok(true));
+        assert_eq!(length(given(10, 16_618)), Ok(16_618));
     }
 
     /// The facts by their fields: a number that is not 0, and each flag without the other.
@@ -219,6 +229,12 @@ mod tests {
         assert_eq!(element(refused), Err(Refusal::BadModel(2)));
         assert_eq!(per_cent(refused), Err(Refusal::BadModel(2)));
         assert_eq!(says(refused), Err(Refusal::BadModel(2)));
+        let short = raw::Answer {
+            number: 14,
+            part: 255,
+            ..raw::Answer::default()
+        };
+        assert_eq!(length(short), Err(Refusal::ShortBuffer));
         let held = raw::DeskSizes {
             number: 12,
             part: 255,
@@ -263,6 +279,18 @@ mod tests {
     #[should_panic(expected = "which it has not")]
     fn no_value_is_over_a_byte() {
         let _ = formula_value(given(9, 256));
+    }
+
+    #[test]
+    #[should_panic(expected = "which it has not")]
+    fn no_length_is_over_the_most() {
+        let _ = length(given(10, 16_619));
+    }
+
+    #[test]
+    #[should_panic(expected = "which it has not")]
+    fn an_element_is_no_length() {
+        let _ = length(given(5, 1));
     }
 
     #[test]

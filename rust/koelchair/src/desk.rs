@@ -123,6 +123,63 @@ impl Desk {
         self.lent().judge(table)
     }
 
+    /// The desk's case, written back: its directory first, then its parts without gaps. The panel lattice is written as its one
+    /// byte if it was opened so, and as a table of 27 elements if it was opened as that table. Neither the rounds nor the tables
+    /// show in what is written, and opening it gives a desk of the same case at round 0.
+    ///
+    /// ```
+    /// use koelchair::Desk;
+    ///
+    /// // The elements 0 below 1; two models of one state without propositions, of which the first has a loop. Before each part
+    /// // stands a byte, here 9, that belongs to none.
+    /// let case = [
+    ///     3, // parts, each with its offset and length
+    ///     14, 0, 7, 0, 22, 0, 4, 0, 27, 0, 4, 0,
+    ///     9, 2, 1, 0, 1, 1, 0, 1, // the lattice
+    ///     9, 1, 0, 1, 1, // model 1
+    ///     9, 1, 0, 1, 0, // model 2
+    /// ];
+    /// let mut desk = Desk::open(&case)?;
+    /// desk.settle();
+    /// let written = [
+    ///     3, 13, 0, 7, 0, 20, 0, 4, 0, 24, 0, 4, 0, //
+    ///     2, 1, 0, 1, 1, 0, 1, 1, 0, 1, 1, 1, 0, 1, 0,
+    /// ];
+    /// assert_eq!(desk.write(), written);
+    /// let opened = Desk::open(&written)?;
+    /// assert_eq!((opened.standing().round, opened.show()), (0, &[1][..]));
+    /// assert_eq!(opened.write(), written);
+    /// # Ok::<(), koelchair::Refusal>(())
+    /// ```
+    pub fn write(&self) -> Vec<u8> {
+        self.lent().write().expect(KEPT)
+    }
+
+    /// Writes what [`Desk::write`] gives at the front of a buffer, and gives its length, at most
+    /// [`WRITTEN_MOST`](crate::WRITTEN_MOST). The bytes after it are kept.
+    ///
+    /// ```
+    /// use koelchair::{Desk, Refusal};
+    ///
+    /// // The elements 0 below 1, and two models of one state.
+    /// let case = [
+    ///     3, 13, 0, 7, 0, 20, 0, 4, 0, 24, 0, 4, 0, //
+    ///     2, 1, 0, 1, 1, 0, 1, 1, 0, 1, 1, 1, 0, 1, 0,
+    /// ];
+    /// let desk = Desk::open(&case)?;
+    /// let mut out = [7; 30];
+    /// assert_eq!(desk.write_into(&mut out[..27]), Err(Refusal::ShortBuffer));
+    /// assert_eq!(out, [7; 30]);
+    /// assert_eq!(desk.write_into(&mut out), Ok(28));
+    /// assert_eq!((&out[..28], &out[28..]), (&case[..], &[7, 7][..]));
+    /// # Ok::<(), koelchair::Refusal>(())
+    /// ```
+    ///
+    /// Refused with 14 where the buffer is shorter than what is to be written; then nothing is written.
+    pub fn write_into(&self, out: &mut [u8]) -> Result<usize, Refusal> {
+        self.lent().write_into(out)
+    }
+
     /// What the desk holds.
     pub fn sizes(&self) -> Sizes {
         self.lent().sizes().expect(KEPT)

@@ -1,6 +1,7 @@
 //! A desk whose standing, store and tables belong to the caller: `DeskRef` for the calls that read, `DeskMut` for all.
 
-use crate::{answer, raw, Element, FormulaValue, Refusal, Sizes, State, StepAnswer, WorkedEntry};
+use crate::{answer, raw, Element, FormulaValue, Refusal, Sizes, State, StepAnswer};
+use crate::{WorkedEntry, WRITTEN_MOST};
 
 /// Where a desk stands. A standing of any content may be passed to any call: one that breaks a rule is refused with 12 by
 /// every call but [`DeskMut::open`].
@@ -103,6 +104,25 @@ impl<'a> DeskRef<'a> {
     /// Refused with 11 or 12, or with 13 where the table has another length or a byte that is no element.
     pub fn judge(self, table: &[u8]) -> Result<bool, Refusal> {
         answer::says(raw::judge(self, table))
+    }
+
+    /// The desk's case, written back: its directory first, then its parts without gaps, the lattice in the form in which it was
+    /// opened; see [`Desk::write`](crate::Desk::write).
+    ///
+    /// Refused with 11 or 12.
+    pub fn write(self) -> Result<Vec<u8>, Refusal> {
+        let mut out = vec![0; WRITTEN_MOST];
+        let length = self.write_into(&mut out)?;
+        out.truncate(length);
+        Ok(out)
+    }
+
+    /// Writes what [`DeskRef::write`] gives at the front of a buffer, and gives its length, at most [`WRITTEN_MOST`]. The bytes
+    /// after it are kept.
+    ///
+    /// Refused with 11 or 12, or with 14 where the buffer is shorter than what is to be written; then nothing is written.
+    pub fn write_into(self, out: &mut [u8]) -> Result<usize, Refusal> {
+        answer::length(raw::write(self, out))
     }
 
     /// What the desk holds, for a desk whose case is not at hand.

@@ -38,7 +38,7 @@
 //!
 //! - [`Desk`] owns what the calls need.
 //! - [`DeskRef`] and [`DeskMut`] borrow a standing, a store and two tables of any content and length, for callers that keep these
-//!   themselves: the calls that only read, and all of them.
+//!   themselves: the calls that read the desk, and all of them.
 //! - [`FormulaValue`] is a formula's element with its [`FormulaFacts`], which say from which round on a table covers the formula.
 //! - [`WorkedEntry`] is an entry of the next round with the number of pairs of states that were looked at to work it.
 //! - [`listing`] gives the whole result of a case as text, without a desk.
@@ -73,6 +73,9 @@ pub const TABLE_LENGTH: usize = 4_096;
 
 /// The most bytes of a case that is not refused with 1.
 pub const CASE_MOST: usize = 32_768;
+
+/// The most bytes that a case without gaps has, and so the most that [`Desk::write`] gives.
+pub const WRITTEN_MOST: usize = 16_618;
 
 /// The room for a listing; the longest is shorter.
 pub const LISTING_LENGTH: usize = 16_384;

@@ -6,7 +6,8 @@
 use crate::{DeskMut, DeskRef, Standing, LISTING_LENGTH};
 
 /// An answer in numbers: `kind` says which, and the fields that this kind does not use are 0 or false. Kind 9, that of value and whole,
-/// has in `byte` the deepest nesting of AX, in `flag1` whether a fixpoint occurs, in `flag2` whether EX occurs. No kind uses `second` yet.
+/// has in `byte` the deepest nesting of AX, in `flag1` whether a fixpoint occurs, in `flag2` whether EX occurs. Kind 10, that of write, has
+/// in `value` the length. No kind uses `second` yet.
 #[repr(C)]
 #[derive(Clone, Copy, Debug, Default)]
 pub struct Answer {
@@ -160,6 +161,18 @@ extern "C" {
         table_length: usize,
     ) -> Answer;
 
+    fn koelchair_write(
+        standing: Standing,
+        store: *const u8,
+        store_length: usize,
+        first: *const u8,
+        first_length: usize,
+        second: *const u8,
+        second_length: usize,
+        out: *mut u8,
+        out_length: usize,
+    ) -> Answer;
+
     fn koelchair_sizes(
         standing: Standing,
         store: *const u8,
@@ -185,11 +198,11 @@ extern "C" {
     fn koelchair_listing(case: *const u8, case_length: usize, text: *mut u8) -> usize;
 }
 
-/// A call that reads: the function, the desk, and its other arguments.
+/// A call that reads the desk: the function, the desk, and its other arguments.
 macro_rules! ask {
     ($function:ident, $desk:expr $(, $argument:expr)*) => {{
         let DeskRef { standing, store, first, second } = $desk;
-        // SAFETY: each pointer and length are those of one slice, and all are only read.
+        // SAFETY: each pointer and length are those of one slice. All are only read but the buffer of write, which is exclusive.
         unsafe {
             $function(
                 standing,
@@ -271,6 +284,10 @@ pub fn share(desk: DeskRef, element: u8) -> Answer {
 
 pub fn judge(desk: DeskRef, table: &[u8]) -> Answer {
     ask!(koelchair_judge, desk, table.as_ptr(), table.len())
+}
+
+pub fn write(desk: DeskRef, out: &mut [u8]) -> Answer {
+    ask!(koelchair_write, desk, out.as_mut_ptr(), out.len())
 }
 
 pub fn sizes(desk: DeskRef) -> DeskSizes {

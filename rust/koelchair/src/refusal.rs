@@ -21,8 +21,8 @@ pub struct RefusalEntry {
 /// Makes of the table the enum, its number and part, the refusal that a number and a part name, and the table as data.
 macro_rules! refusals {
     ($($number:literal $name:ident $(($field:ident: $type:ty))? => $part:expr, $words:literal;)*) => {
-        /// Why a call was refused. The first refusal that applies is given: 11, then 1 to 10 for a case; 11, then 12, then 13 for
-        /// every other call.
+        /// Why a call was refused. The first refusal that applies is given: 11, then 1 to 10 for a case; 11, then 12, then 13 or,
+        /// where a case is written, 14 for every other call.
         ///
         /// ```
         /// use koelchair::{Desk, Refusal};
@@ -90,6 +90,7 @@ refusals! {
     12 SpoiledDesk => NO_PART, "the desk breaks a rule";
     13 OutOfRange => NO_PART, "a formula, model, state or element is out of range, or the table to be judged is no \
         table of elements of this size";
+    14 ShortBuffer => NO_PART, "the buffer to write into is too short";
 }
 
 impl Refusal {
@@ -161,13 +162,13 @@ mod tests {
                 assert!(format!("{refusal:?}").starts_with(entry.name));
             }
         }
-        assert_eq!(REFUSALS.len(), 13);
+        assert_eq!(REFUSALS.len(), 14);
     }
 
     #[test]
-    #[should_panic(expected = "refusal 14")]
-    fn refusal_14_is_no_refusal() {
-        Refusal::read(14, NO_PART);
+    #[should_panic(expected = "refusal 15")]
+    fn refusal_15_is_no_refusal() {
+        Refusal::read(15, NO_PART);
     }
 
     #[test]
