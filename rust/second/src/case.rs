@@ -1,5 +1,5 @@
-//! The case: its directory, the order of refusals 1 to 10, and the gapless form in which the store holds it (docs/STORE.md).
-//! Rests on `lattice`, `model` and `formula`.
+//! The case: its directory, the order of refusals 1 to 10, the gapless form in which the store holds it (docs/STORE.md), and the case that
+//! says what was read. Rests on `lattice`, `model` and `formula`.
 
 use crate::formula::{self, Formula};
 use crate::lattice::{self, Lattice};
@@ -14,7 +14,7 @@ const NO_PART: u8 = 255;
 /// What a refused call gives: a number and a part.
 #[derive(Clone, Copy, Debug, PartialEq, Eq)]
 pub struct Refusal {
-    /// 1 to 13.
+    /// 1 to 14.
     pub number: u8,
     /// The part, or 255.
     pub part: u8,
@@ -109,18 +109,33 @@ fn content(parts: &[&[u8]]) -> Result<Content, Refusal> {
     })
 }
 
+/// The case that says what was read: "parts without gaps, directory first". It is made from the content alone: "Two desks with the same
+/// reading, the form of the lattice included, give the same bytes."
+pub fn of_content(content: &Content) -> Vec<u8> {
+    let Content {
+        lattice,
+        model1,
+        model2,
+        formulas,
+    } = content;
+    let mut parts = vec![lattice.part(), model1.part(), model2.part()];
+    parts.extend(formulas.iter().map(Formula::part));
+    gapless(&parts)
+}
+
 /// The case whose parts "follow the directory and one another without a gap, in order" (docs/STORE.md).
-pub fn gapless(parts: &[&[u8]]) -> Vec<u8> {
+pub fn gapless(parts: &[impl AsRef<[u8]>]) -> Vec<u8> {
     let low_first = |number: usize| [(number % 256) as u8, (number / 256 % 256) as u8];
     let mut case = vec![(parts.len() % 256) as u8];
     let mut start = 1 + 4 * parts.len();
     for part in parts {
+        let length = part.as_ref().len();
         case.extend(low_first(start));
-        case.extend(low_first(part.len()));
-        start += part.len();
+        case.extend(low_first(length));
+        start += length;
     }
     for part in parts {
-        case.extend(*part);
+        case.extend(part.as_ref());
     }
     case
 }

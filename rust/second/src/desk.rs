@@ -1,4 +1,4 @@
-//! The eight calls on a desk, a standing, a store and two tables, the work on one entry, and F of a table. Rests on `case`, `formula`, `facts` and `rounds`.
+//! The calls on a desk, a standing, a store and two tables, the work on one entry, and F of a table. Rests on `case`, `formula`, `facts` and `rounds`.
 
 use crate::case::{self, Content, Refusal};
 use crate::facts::{self, Facts};
@@ -37,7 +37,7 @@ pub struct Standing {
 pub enum Reply {
     /// The call was refused.
     Refused {
-        /// The number, 1 to 13.
+        /// The number, 1 to 14.
         number: u8,
         /// The part, or 255.
         part: u8,
@@ -65,6 +65,8 @@ pub enum Reply {
     PerCent(u8),
     /// Whether judge's table is sound.
     Says(bool),
+    /// How many bytes were written.
+    Length(usize),
     /// An entry of the next round.
     WorkedEntry {
         /// The element.
@@ -238,7 +240,24 @@ pub fn judge(
     }))
 }
 
-/// F of a table, or nothing where judge refuses it. It is none of the eight calls: by it a test knows which entries of the table are too
+/// Request 105: "Write the desk's case into a lent buffer". "The answer is the length, and bytes past it are kept. The writing is refused
+/// with 14, after 12, when the buffer is too short."
+pub fn write(
+    standing: &Standing,
+    store: &[u8],
+    first: &[u8],
+    second: &[u8],
+    out: &mut [u8],
+) -> Reply {
+    reply(check(standing, store, first, second).and_then(|desk| {
+        let case = case::of_content(&desk.content);
+        let front = out.get_mut(..case.len()).ok_or(Refusal::general(14))?;
+        front.copy_from_slice(&case);
+        Ok(Reply::Length(case.len()))
+    }))
+}
+
+/// F of a table, or nothing where judge refuses it. It is none of the calls: by it a test knows which entries of the table are too
 /// high, and which are lower than they could be.
 pub fn f_of(
     standing: &Standing,
@@ -254,7 +273,7 @@ pub fn f_of(
 }
 
 /// Request 103: "working one entry of F ... also returns how many pairs (q1', q2') it looked at". Of the shown table, so that the element
-/// is what the next round has there. It is none of the eight calls.
+/// is what the next round has there. It is none of the calls.
 pub fn entry(
     standing: &Standing,
     store: &[u8],

@@ -1,4 +1,4 @@
-//! The formula: how a formula part is read, and a formula's values on a model. Rests on `lattice` and `model`.
+//! The formula: how a formula part is read and written back, and a formula's values on a model. Rests on `lattice` and `model`.
 
 use crate::lattice::{Element, Lattice};
 use crate::model::{Model, Proposition, State};
@@ -98,6 +98,25 @@ fn body(
 ) -> Option<(Formula, &[u8])> {
     let (formula, rest) = node(rest, k, binders)?;
     Some((make(Box::new(formula)), rest))
+}
+
+impl Formula {
+    /// The part that was read, "in prefix form".
+    pub fn part(&self) -> Vec<u8> {
+        match self {
+            Formula::Bottom => vec![0],
+            Formula::Top => vec![1],
+            Formula::Holds(p) => vec![2, p.byte()],
+            Formula::Fails(p) => vec![3, p.byte()],
+            Formula::Variable(count) => vec![4, *count as u8],
+            Formula::Or(left, right) => [vec![5], left.part(), right.part()].concat(),
+            Formula::And(left, right) => [vec![6], left.part(), right.part()].concat(),
+            Formula::Ax(body) => [vec![7], body.part()].concat(),
+            Formula::Ex(body) => [vec![8], body.part()].concat(),
+            Formula::Least(body) => [vec![9], body.part()].concat(),
+            Formula::Greatest(body) => [vec![10], body.part()].concat(),
+        }
+    }
 }
 
 /// A map from states to elements, in the order of the states.

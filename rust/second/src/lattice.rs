@@ -27,6 +27,8 @@ struct Form {
 
 /// A checked lattice, with its meets and joins worked out into tables.
 pub struct Lattice {
+    /// Whether the part is the one byte 0. The panel lattice may stand in a part as its table too.
+    one_byte: bool,
     complement: Vec<Element>,
     order: Order,
     meets: Vec<Vec<Element>>,
@@ -45,6 +47,7 @@ pub fn read(part: &[u8]) -> Result<Lattice, u8> {
     let meets = meets(&order).ok_or(6u8)?;
     let joins = joins(&order).ok_or(6u8)?;
     let lattice = Lattice {
+        one_byte: part == [0],
         bottom: of_all(&meets),
         top: of_all(&joins),
         complement,
@@ -144,6 +147,17 @@ fn of_all(table: &[Vec<Element>]) -> Element {
 }
 
 impl Lattice {
+    /// The part that was read: a table, or "the panel lattice as its one byte if it was loaded so".
+    pub fn part(&self) -> Vec<u8> {
+        if self.one_byte {
+            return vec![0];
+        }
+        let mut part = vec![self.size() as u8];
+        part.extend(self.complement.iter().map(|element| element.byte()));
+        part.extend(self.order.iter().flatten().map(|&below| u8::from(below)));
+        part
+    }
+
     /// How many elements the lattice has.
     pub fn size(&self) -> usize {
         self.order.len()

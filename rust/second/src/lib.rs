@@ -5,7 +5,7 @@
 //! fixpoints by iteration until nothing changes. No call panics, whatever its arguments hold.
 //!
 //! Modules: `lattice`, `model`, `formula` (the parts of a case and their values), `facts` (of a formula as it is written), `case`
-//! (directory, refusals 1 to 10, layout of the store), `rounds` (F and what is read off a table), `desk` (the eight calls, the work
+//! (directory, refusals 1 to 10, layout of the store), `rounds` (F and what is read off a table), `desk` (the calls, the work
 //! on one entry, and F of a table), `report` (the listing).
 
 #![forbid(unsafe_code)]
@@ -21,7 +21,7 @@ mod report;
 mod rounds;
 
 pub use desk::{
-    entry, f_of, judge, open, score, share, show, step, value, whole, Reply, Standing,
+    entry, f_of, judge, open, score, share, show, step, value, whole, write, Reply, Standing,
     STORE_LENGTH, TABLE_LENGTH,
 };
 pub use facts::Facts;

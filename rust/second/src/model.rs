@@ -22,6 +22,11 @@ impl Proposition {
     pub fn below(k: u8, byte: u8) -> Option<Proposition> {
         (byte < k).then_some(Proposition(byte))
     }
+
+    /// The byte that stands for the proposition.
+    pub fn byte(self) -> u8 {
+        self.0
+    }
 }
 
 /// A checked model.
@@ -63,6 +68,15 @@ fn rows(values: &[Element], count: usize, width: usize) -> Vec<Vec<Element>> {
 }
 
 impl Model {
+    /// The part that was read.
+    pub fn part(&self) -> Vec<u8> {
+        let mut part = vec![self.states, self.propositions];
+        let rows = self.labels.iter().chain(&self.transitions);
+        let values = self.initial.iter().chain(rows.flatten());
+        part.extend(values.map(|element| element.byte()));
+        part
+    }
+
     /// N, the number of states.
     pub fn size(&self) -> u8 {
         self.states

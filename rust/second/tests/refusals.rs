@@ -2,7 +2,7 @@
 
 mod common;
 
-use common::{case, formula_value, lattice, Desk, L2, L3, LOOP, STILL};
+use common::{case, formula_value, lattice, spread, Desk, L2, L3, LOOP, STILL};
 use second::{Reply, STORE_LENGTH, TABLE_LENGTH};
 
 /// The number and part with which open refuses a case, every byte and field kept.
@@ -218,6 +218,12 @@ fn assert_all_refused(desk: &Desk, number: u8) {
     assert_eq!(desk.share(0), refused(number));
     assert_eq!(desk.judge(&[0]), refused(number));
     assert_eq!(desk.f_of(&[0]), None);
+    // Also where 14 would apply.
+    for length in [0, 1, 16_618] {
+        let mut out = vec![174; length];
+        assert_eq!(desk.write(&mut out), refused(number));
+        assert_eq!(out, vec![174; length]);
+    }
     assert_eq!(desk.entry(0, 0), refused(number));
     assert_eq!(desk.entry(255, 255), refused(number));
 }
@@ -363,4 +369,20 @@ fn number_13_arguments_out_of_range() {
         (none.value(0, 1, 0), none.whole(0, 1)),
         (refused(13), refused(13))
     );
+}
+
+/// "when the buffer is too short", of this case and not of the longest, nor as it stood when it was opened.
+#[test]
+fn number_14_a_short_buffer() {
+    let parts: [&[u8]; 4] = [L2, STILL, STILL, &[1]];
+    let mut desk = Desk::any();
+    assert_eq!(desk.open(&spread(&parts, &[5, 0, 2, 9])), Reply::Opened);
+    // 1 + 4 · 4 bytes of the directory, 7 of the lattice, 4 of each model, 1 of the formula.
+    for length in [0, 1, 17, 32] {
+        let mut out = vec![174; length];
+        assert_eq!(desk.write(&mut out), refused(14));
+        assert_eq!(out, vec![174; length]);
+    }
+    assert_eq!(desk.write(&mut [174; 33]), Reply::Length(33));
+    assert_eq!(desk.write(&mut vec![174; 100_000]), Reply::Length(33));
 }

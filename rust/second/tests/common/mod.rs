@@ -18,15 +18,21 @@ pub const LOOP: &[u8] = &[1, 0, 1, 1];
 
 /// The case of these parts without gaps.
 pub fn case(parts: &[&[u8]]) -> Vec<u8> {
-    let mut bytes = vec![parts.len() as u8];
-    let mut start = 1 + 4 * parts.len() as u16;
-    for part in parts {
-        bytes.extend(start.to_le_bytes());
-        bytes.extend((part.len() as u16).to_le_bytes());
-        start += part.len() as u16;
+    spread(parts, &vec![0; parts.len()])
+}
+
+/// The case of these parts with a gap of so many bytes before each.
+pub fn spread(parts: &[&[u8]], gaps: &[usize]) -> Vec<u8> {
+    let mut directory = vec![parts.len() as u8];
+    let mut rest = Vec::new();
+    for (part, &gap) in parts.iter().zip(gaps) {
+        rest.extend(vec![77; gap]);
+        let start = 1 + 4 * parts.len() + rest.len();
+        directory.extend((start as u16).to_le_bytes());
+        directory.extend((part.len() as u16).to_le_bytes());
+        rest.extend(*part);
     }
-    bytes.extend(parts.concat());
-    bytes
+    [directory, rest].concat()
 }
 
 /// What value and whole answer for a formula: its element, the deepest nesting of AX, whether a fixpoint and whether EX occurs.
@@ -146,6 +152,20 @@ impl Desk {
     pub fn judge(&self, table: &[u8]) -> Reply {
         let (store, first, second) = (&self.store, &self.first, &self.second);
         second::judge(&self.standing, store, first, second, table)
+    }
+
+    pub fn write(&self, out: &mut [u8]) -> Reply {
+        let (store, first, second) = (&self.store, &self.first, &self.second);
+        second::write(&self.standing, store, first, second, out)
+    }
+
+    /// What write puts into a buffer that is long enough for every case.
+    pub fn written(&self) -> Vec<u8> {
+        let mut out = vec![174; 16_618];
+        match self.write(&mut out) {
+            Reply::Length(length) => out[..length].to_vec(),
+            other => panic!("write answered {other:?}"),
+        }
     }
 
     pub fn f_of(&self, table: &[u8]) -> Option<Vec<u8>> {
