@@ -18,8 +18,13 @@ pub fn lay(random: &mut Random, desk: &mut Desk, draft: &Draft) {
     desk.store[..written].copy_from_slice(&bytes[..written]);
     desk.standing.states1 = draft.shape.states[0] as u8;
     desk.standing.states2 = draft.shape.states[1] as u8;
-    set_tables(random, desk, draft.shape);
-    set_place(random, desk, draft.shape);
+    any_place(random, desk, draft.shape);
+}
+
+/// Any tables and any round, next row and flags within the rules.
+pub fn any_place(random: &mut Random, desk: &mut Desk, shape: Shape) {
+    set_tables(random, desk, shape);
+    set_place(random, desk, shape);
 }
 
 /// Another case with the same states in the store, the standing kept. With another n the tables or the round may break a rule.
@@ -31,7 +36,7 @@ pub fn exchange_store(random: &mut Random, desk: &mut Desk, scale: Scale, shape:
 
 /// Alters a desk within the rules.
 pub fn within(random: &mut Random, desk: &mut Desk, shape: Shape) {
-    match random.below(6) {
+    match random.below(7) {
         0 => set_tables(random, desk, shape),
         1 => set_place(random, desk, shape),
         2 => desk.standing.second_whole = !desk.standing.second_whole,
@@ -41,6 +46,7 @@ pub fn within(random: &mut Random, desk: &mut Desk, shape: Shape) {
             desk.first[..shape.entries()].fill(element);
             desk.second[..shape.entries()].fill(element);
         }
+        5 => spread(random, desk),
         _ => {
             let place = random.below(shape.entries());
             let second = random.one_in(2);
@@ -83,6 +89,15 @@ fn unread(random: &mut Random, desk: &mut Desk, shape: Shape) {
     }
     if let Some(last) = desk.store.last_mut() {
         *last = byte;
+    }
+}
+
+/// The case in the store with gaps between its parts; nothing is altered where there are no parts.
+pub fn spread(random: &mut Random, desk: &mut Desk) {
+    let parts = desk.parts();
+    let spread = parts.and_then(|parts| cases::spread(random, &parts, STORE_LENGTH));
+    if let Some(bytes) = spread {
+        desk.store[..bytes.len()].copy_from_slice(&bytes);
     }
 }
 

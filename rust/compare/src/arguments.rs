@@ -1,6 +1,7 @@
 //! Arguments of the calls, mostly within their range and now and then at its end or beyond it. Rests on generator, calls, cases,
-//! desks and judged.
+//! desks, judged and buffers.
 
+use crate::buffers::Buffer;
 use crate::calls::Call;
 use crate::cases::Shape;
 use crate::desks::Desk;
@@ -12,11 +13,13 @@ pub enum Question {
     Call(Call),
     /// That a table be judged of which it is known how it was made.
     Judge(Judged),
+    /// That the case be written into a buffer.
+    Write(Buffer),
 }
 
-/// One of the six calls that alter nothing, or the work on an entry.
+/// One of the calls that do not alter the desk, or the work on an entry.
 pub fn question(random: &mut Random, shape: &Shape, desk: &Desk) -> Question {
-    let call = match random.weighted(&[2, 4, 3, 2, 3, 4, 4]) {
+    let call = match random.weighted(&[2, 4, 3, 2, 3, 4, 4, 4]) {
         0 => Call::Show,
         1 => Call::Value {
             formula: formula(random, shape),
@@ -30,6 +33,7 @@ pub fn question(random: &mut Random, shape: &Shape, desk: &Desk) -> Question {
         3 => Call::Score,
         4 => Call::Share(element(random, shape)),
         5 => return judge(random, shape, desk),
+        6 => return Question::Write(Buffer::random(random, desk)),
         _ => Call::Entry {
             q1: state_below(random, shape, shape.states[0]),
             q2: state_below(random, shape, shape.states[1]),

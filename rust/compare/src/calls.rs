@@ -5,7 +5,8 @@ use crate::desks::Desk;
 use koelchair::{Element, State};
 use second::Reply;
 
-/// The eight calls, `FinishRound`, which is as many steps as the round has rows left, and `Entry`, the work on one entry.
+/// The calls but write, `FinishRound`, which is as many steps as the round has rows left, and `Entry`, the work on one entry. Write is a
+/// function of its own ([`proved_write`], [`second_write`]), since a buffer is lent to it.
 #[derive(Clone, Debug)]
 pub enum Call {
     Open(Vec<u8>),
@@ -83,6 +84,17 @@ pub fn by_second(desk: &mut Desk, call: &Call) -> Reply {
     };
     desk.standing = conversions::to_proved(standing);
     reply
+}
+
+/// Write of the proved library, into a buffer.
+pub fn proved_write(desk: &Desk, out: &mut [u8]) -> Reply {
+    conversions::length(desk.lent().write_into(out))
+}
+
+/// Write of the second implementation.
+pub fn second_write(desk: &Desk, out: &mut [u8]) -> Reply {
+    let standing = conversions::to_second(desk.standing);
+    second::write(&standing, &desk.store, &desk.first, &desk.second, out)
 }
 
 /// F of a table by the second implementation, where judge does not refuse the table.

@@ -162,10 +162,16 @@ fn assembled(lattice: Lattice, part: Vec<u8>, models: [Model; 2], formulas: Vec<
     }
 }
 
-/// A lattice and its part; the panel's is often the one byte 0.
+/// A lattice and its part; the panel's is mostly the one byte 0, else its table.
 fn lattice(random: &mut Random, most: usize) -> (Lattice, Vec<u8>) {
     if random.one_in(40) || (most >= 27 && random.one_in(6)) {
-        (lattices::panel(), vec![0])
+        let panel = lattices::panel();
+        let part = if random.one_in(3) {
+            panel.part()
+        } else {
+            vec![0]
+        };
+        (panel, part)
     } else {
         let lattice = lattices::random(random, most);
         let part = lattice.part();
@@ -174,10 +180,11 @@ fn lattice(random: &mut Random, most: usize) -> (Lattice, Vec<u8>) {
 }
 
 /// A directory and the parts, with gaps of random bytes: `gaps[i]` before part i, and the last one at the end.
-pub fn laid(random: &mut Random, parts: &[Vec<u8>], gaps: &[usize]) -> Vec<u8> {
+pub fn laid(random: &mut Random, parts: &[impl AsRef<[u8]>], gaps: &[usize]) -> Vec<u8> {
     let mut directory = vec![parts.len() as u8];
     let mut rest = Vec::new();
     for (part, &gap) in parts.iter().zip(gaps) {
+        let part = part.as_ref();
         rest.extend(random.bytes(gap));
         let start = 1 + 4 * parts.len() + rest.len();
         directory.extend((start as u16).to_le_bytes());
@@ -188,9 +195,34 @@ pub fn laid(random: &mut Random, parts: &[Vec<u8>], gaps: &[usize]) -> Vec<u8> {
     [directory, rest].concat()
 }
 
-/// The bytes of the parts alone with their directory.
-fn gapless_length(parts: &[Vec<u8>]) -> usize {
-    1 + parts.iter().map(|part| 4 + part.len()).sum::<usize>()
+/// A directory and the parts without gaps.
+pub fn gapless(parts: &[impl AsRef<[u8]>]) -> Vec<u8> {
+    laid(&mut Random::new(0), parts, &vec![0; parts.len() + 1])
+}
+
+/// The length of the parts without gaps, with their directory.
+fn gapless_length(parts: &[impl AsRef<[u8]>]) -> usize {
+    1 + parts
+        .iter()
+        .map(|part| 4 + part.as_ref().len())
+        .sum::<usize>()
+}
+
+/// A directory and the parts, with one gap before a part or several, in at most `most` bytes; nothing where there is no room for a gap.
+pub fn spread(random: &mut Random, parts: &[impl AsRef<[u8]>], most: usize) -> Option<Vec<u8>> {
+    let room = most.checked_sub(gapless_length(parts))?;
+    if room == 0 {
+        return None;
+    }
+    let mut gaps: Vec<usize> = (0..=parts.len()).map(|_| random.below(4)).collect();
+    let place = random.below(parts.len());
+    gaps[place] += 1;
+    if random.one_in(2) || gaps.iter().sum::<usize>() > room {
+        gaps.fill(0);
+        let any = random.between(1, room);
+        gaps[place] = random.pick(&[1, room, any]);
+    }
+    Some(laid(random, parts, &gaps))
 }
 
 impl Draft {

@@ -1,10 +1,13 @@
 //! Two desks with the same content, one for each implementation: every call is made of both, and all that they give and leave is
-//! compared. Rests on calls, counts, desks and judged.
+//! compared. Rests on calls, counts, desks, judged and buffers.
 
+use crate::buffers::Buffer;
 use crate::calls::{self, Call};
 use crate::counts::Counts;
-use crate::desks::Desk;
+use crate::desks::{self, Desk};
+use crate::generator::Random;
 use crate::judged::{self, Judged, Soundness};
+use koelchair::Standing;
 use second::Reply;
 
 /// What differed, in words.
@@ -54,7 +57,7 @@ impl Pair<'_> {
             println!("{}: {} answers {proved:?}", self.place, words(&call));
         }
         if proved != second || self.proved != self.second {
-            return Err(self.difference(&call, &proved, &second));
+            return Err(self.difference(&words(&call), &proved, &second));
         }
         self.counts.call(&call, &proved, &before);
         if let (Some(formula), Reply::FormulaValue { facts, .. }) = (formula(&call), &proved) {
@@ -82,8 +85,8 @@ impl Pair<'_> {
         let outcome = judged::outcome(*origin, soundness);
         match outcome {
             Some(name) if *yes == (soundness != Soundness::TooHigh) && !(*yes && beyond) => {
-                self.counts.judged(&[name]);
-                self.counts.judged(&rounds.places(table, &f));
+                self.counts.all(&[name]);
+                self.counts.all(&rounds.places(table, &f));
                 Ok(*yes)
             }
             _ => Err(format!(
@@ -92,12 +95,78 @@ impl Pair<'_> {
         }
     }
 
-    fn difference(&self, call: &Call, proved: &Reply, second: &Reply) -> Difference {
+    /// Has both write the case that the desk holds into a buffer, and gives what they answer. What is written is opened on another desk.
+    pub fn write(&mut self, buffer: &Buffer) -> Result<Reply, Difference> {
+        let (reply, after) = self.write_alone(buffer)?;
+        self.counts.all(&buffer.met(&self.proved, &reply));
+        if let Reply::Length(length) = reply {
+            let opened = self.reopen(&after.bytes()[..length]);
+            opened.map_err(|difference| format!("what was written is opened, {difference}"))?;
+        }
+        Ok(reply)
+    }
+
+    /// Has both write, and gives the buffer as they left it. It must be what the parts in the store say, and both desks must be unchanged.
+    fn write_alone(&mut self, buffer: &Buffer) -> Result<(Reply, Buffer), Difference> {
+        let before = self.proved.clone();
+        let [mut ours, mut theirs] = [buffer.clone(), buffer.clone()];
+        let proved = calls::proved_write(&self.proved, ours.lent());
+        let second = calls::second_write(&self.second, theirs.lent());
+        let call = format!("write into {} bytes", buffer.bytes().len());
+        if self.print {
+            println!("{}: {call} answers {proved:?}", self.place);
+        }
+        if proved != second || ours != theirs || self.proved != self.second {
+            let text = self.difference(&call, &proved, &second);
+            return Err(text + &first_difference("buffer", ours.bytes(), theirs.bytes()));
+        }
+        if buffer.after(&before, &proved).as_ref() != Some(&ours) || self.proved != before {
+            return Err(format!(
+                "call {} {call}: both answer {proved:?} and leave what must not be left",
+                self.place
+            ));
+        }
+        self.counts.reply(&proved);
+        self.place += 1;
+        Ok((proved, ours))
+    }
+
+    /// Opens what was written on a desk of zeros: both must make of it a desk of the same sizes at round 0, with both tables all top, and
+    /// write the same bytes again.
+    fn reopen(&mut self, written: &[u8]) -> Result<(), Difference> {
+        let Standing {
+            states1, states2, ..
+        } = self.proved.standing;
+        let entries = usize::from(states1) * usize::from(states2);
+        let all_top = vec![self.proved.lattice().top(); entries];
+        let mut pair = Pair::new(desks::zeroed(), self.counts, self.print);
+        let open = Call::Open(written.to_vec());
+        let text = words(&open);
+        let replies = [pair.call(open)?, pair.call(Call::Show)?];
+        let buffer = Buffer::of_length(&mut Random::new(0), written.len());
+        let (_, again) = pair.write_alone(&buffer)?;
+        let desk = pair.desk();
+        let expected = Standing {
+            states1,
+            states2,
+            ..Standing::default()
+        };
+        let holds = desk.standing == expected
+            && desk.first.starts_with(&all_top)
+            && desk.second.starts_with(&all_top)
+            && replies == [Reply::Opened, Reply::Shown(all_top)]
+            && again.bytes() == written;
+        match holds {
+            true => Ok(()),
+            false => Err(format!("{text}: {replies:?}, {:?}", desk.standing)),
+        }
+    }
+
+    fn difference(&self, call: &str, proved: &Reply, second: &Reply) -> Difference {
         let (ours, theirs) = (&self.proved, &self.second);
         let mut text = format!(
-            "call {} {}: the proved library answers {proved:?}, the second implementation {second:?}",
-            self.place,
-            words(call)
+            "call {} {call}: the proved library answers {proved:?}, the second implementation {second:?}",
+            self.place
         );
         if ours.standing != theirs.standing {
             text += &format!("; standings {:?} and {:?}", ours.standing, theirs.standing);

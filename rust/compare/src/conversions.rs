@@ -107,6 +107,10 @@ pub fn says(answer: Result<bool, Refusal>) -> Reply {
     reply(answer, Reply::Says)
 }
 
+pub fn length(answer: Result<usize, Refusal>) -> Reply {
+    reply(answer, Reply::Length)
+}
+
 pub fn worked_entry(answer: Result<WorkedEntry, Refusal>) -> Reply {
     reply(answer, |WorkedEntry { value, pairs }| Reply::WorkedEntry {
         element: value.0,

@@ -1,12 +1,14 @@
-//! How often each refusal, each answer, each fact of a formula and each sort of judged table was met. Rests on calls, judged and shapes.
+//! How often each refusal, each answer, each fact of a formula, each sort of judged table and each sort of writing was met. Rests on calls,
+//! judged, shapes and buffers.
 
+use crate::buffers;
 use crate::calls::Call;
 use crate::judged;
 use crate::shapes::{self, SHAPES};
 use koelchair::Standing;
 use second::{Facts, Reply};
 
-const REFUSALS: [&str; 13] = [
+const REFUSALS: [&str; 14] = [
     "refusal 1",
     "refusal 2",
     "refusal 3",
@@ -20,8 +22,9 @@ const REFUSALS: [&str; 13] = [
     "refusal 11",
     "refusal 12",
     "refusal 13",
+    "refusal 14",
 ];
-const ANSWERS: [&str; 13] = [
+const ANSWERS: [&str; 14] = [
     "Opened",
     "Row",
     "Round",
@@ -33,6 +36,7 @@ const ANSWERS: [&str; 13] = [
     "PerCent",
     "Says yes",
     "Says no",
+    "Length",
     "WorkedEntry",
     "WorkedEntry of no pairs",
 ];
@@ -70,7 +74,11 @@ impl Default for Counts {
         let answers = REFUSALS.iter().chain(&ANSWERS);
         let names = answers.chain(&FACTS).chain(&SHAPES).chain(&OTHERS).copied();
         Counts {
-            met: names.chain(judged::names()).map(|name| (name, 0)).collect(),
+            met: names
+                .chain(judged::names())
+                .chain(buffers::NAMES)
+                .map(|name| (name, 0))
+                .collect(),
         }
     }
 }
@@ -89,6 +97,7 @@ fn name(reply: &Reply) -> &'static str {
         Reply::PerCent(_) => "PerCent",
         Reply::Says(true) => "Says yes",
         Reply::Says(false) => "Says no",
+        Reply::Length(_) => "Length",
         Reply::WorkedEntry { pairs: 0, .. } => "WorkedEntry of no pairs",
         Reply::WorkedEntry { .. } => "WorkedEntry",
     }
@@ -124,10 +133,15 @@ impl Counts {
         entry.expect("a name of the lists above").1 += times;
     }
 
-    /// Counts a call, its answer, whether it settled a desk or found it settled, and the rounds finished in one call.
-    pub fn call(&mut self, call: &Call, reply: &Reply, before: &Standing) {
+    /// Counts a call by its answer.
+    pub fn reply(&mut self, reply: &Reply) {
         self.add(CALLS, 1);
         self.add(name(reply), 1);
+    }
+
+    /// Counts a call, its answer, whether it settled a desk or found it settled, and the rounds finished in one call.
+    pub fn call(&mut self, call: &Call, reply: &Reply, before: &Standing) {
+        self.reply(reply);
         if let (Call::Step | Call::FinishRound, &Reply::Settled(round)) = (call, reply) {
             self.add(settled(round, before.settled), 1);
         }
@@ -145,8 +159,8 @@ impl Counts {
         }
     }
 
-    /// Counts what came of a judged table.
-    pub fn judged(&mut self, names: &[&'static str]) {
+    /// Counts what came of a judged table, or of a writing.
+    pub fn all(&mut self, names: &[&'static str]) {
         for name in names {
             self.add(name, 1);
         }

@@ -70,7 +70,7 @@ impl Drawn {
             first.part(),
             second.part(),
         ];
-        cases::laid(&mut Random::new(0), &parts, &[0; 4])
+        cases::gapless(&parts)
     }
 }
 

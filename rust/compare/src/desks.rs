@@ -1,6 +1,6 @@
 //! Desks of any content and length. Rests on generator, lattices and cases.
 
-use crate::cases::Shape;
+use crate::cases::{self, Shape};
 use crate::generator::Random;
 use crate::lattices::{self, Lattice};
 use koelchair::{DeskMut, DeskRef, Standing};
@@ -59,14 +59,29 @@ impl Desk {
         lattices::of_part(self.part(0))
     }
 
-    /// A part of the case in the store, by the directory there; the case has such a part.
+    /// A part of the case in the store of a desk that breaks no rule; the case has such a part.
     fn part(&self, number: usize) -> &[u8] {
-        let pair = 1 + 4 * number;
-        let u16_at = |place: usize| {
-            let bytes = [self.store[place], self.store[place + 1]];
-            usize::from(u16::from_le_bytes(bytes))
+        self.parts().expect("the parts of a case")[number]
+    }
+
+    /// The parts of the case in the store, by the directory there; nothing where there is no such directory, or a part is not in the store.
+    /// No other rule is looked at.
+    pub fn parts(&self) -> Option<Vec<&[u8]>> {
+        let store = self.store.get(..STORE_LENGTH)?;
+        let count = usize::from(store[0]);
+        let part = |pair: &[u8]| {
+            let u16_at = |place| usize::from(u16::from_le_bytes([pair[place], pair[place + 1]]));
+            store.get(u16_at(0)..u16_at(0) + u16_at(2))
         };
-        &self.store[u16_at(pair)..][..u16_at(pair + 2)]
+        match count {
+            3..=11 => store[1..1 + 4 * count].chunks(4).map(part).collect(),
+            _ => None,
+        }
+    }
+
+    /// These parts without gaps.
+    pub fn gapless(&self) -> Option<Vec<u8>> {
+        Some(cases::gapless(&self.parts()?))
     }
 
     /// One table or the other.
@@ -93,7 +108,7 @@ fn any_standing(random: &mut Random) -> Standing {
 }
 
 /// `length` bytes, all zeros, all 255, small numbers or random.
-fn content(random: &mut Random, length: usize) -> Vec<u8> {
+pub fn content(random: &mut Random, length: usize) -> Vec<u8> {
     match random.below(4) {
         0 => vec![0; length],
         1 => vec![255; length],

@@ -1,6 +1,7 @@
 //! Random cases, desks and lists of calls, on which the proved library and the second implementation are held against each other. The
 //! tests are in tests/: `lists` makes lists of calls, `listings` compares what the program `report` prints, `shares` takes tables at and
-//! beside an exact half per cent, `entries` compares the work on single entries, `judges` what is said of tables.
+//! beside an exact half per cent, `entries` compares the work on single entries, `judges` what is said of tables, `writes` what is
+//! written into buffers.
 //!
 //! - generator: numbers from a seed
 //! - lattices, non_lattices, models, formulas: the parts of a case, within the rules and not
@@ -8,6 +9,7 @@
 //! - cases, damage: whole cases, within the rules, and aimed at the refusals 1 to 10
 //! - densities, work: cases of few transitions or many, and the work on one of their entries, pair by pair
 //! - judged: tables for judge, made from the rounds of a case, and what they are beside F of them
+//! - buffers: buffers for write, and what has to stand in them afterwards
 //! - desks, alterations: desks of any content, and desks altered from outside
 //! - conversions: standings and answers of the one implementation in the types of the other, which the benchmark takes too
 //! - calls, arguments: a call made of either implementation, and what it is made with
@@ -18,6 +20,7 @@
 
 pub mod alterations;
 pub mod arguments;
+pub mod buffers;
 pub mod calls;
 pub mod cases;
 pub mod comparison;

@@ -2,6 +2,7 @@
 
 use crate::alterations;
 use crate::arguments::{self, Question};
+use crate::buffers::Buffer;
 use crate::calls::Call;
 use crate::cases::{self, Scale, Shape, LARGE, LONG, SMALL};
 use crate::comparison::{Difference, Pair};
@@ -13,7 +14,7 @@ use second::Reply;
 
 #[derive(Clone, Copy, PartialEq, Eq)]
 enum Kind {
-    /// All eight calls with any arguments, steps most often.
+    /// All calls with any arguments, steps most often.
     AnyCalls,
     /// Cases aimed at the refusals 1 to 10, between other calls.
     RefusedCases,
@@ -184,6 +185,7 @@ impl List<'_> {
         } else {
             self.open()?;
         }
+        self.write()?;
         for _ in 0..4 {
             self.step_or_question()?;
         }
@@ -222,7 +224,14 @@ impl List<'_> {
         match arguments::question(&mut self.random, &self.shape, self.pair.desk()) {
             Question::Call(call) => self.pair.call(call).map(drop),
             Question::Judge(judged) => self.pair.judge(&judged).map(drop),
+            Question::Write(buffer) => self.pair.write(&buffer).map(drop),
         }
+    }
+
+    /// Writes the case into any buffer.
+    fn write(&mut self) -> Result<(), Difference> {
+        let buffer = Buffer::random(&mut self.random, self.pair.desk());
+        self.pair.write(&buffer).map(drop)
     }
 
     /// Opens with a case that is within the rules, which only a short desk refuses.

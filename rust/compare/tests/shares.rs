@@ -6,7 +6,6 @@ use compare::cases;
 use compare::comparison::Pair;
 use compare::counts::Counts;
 use compare::desks;
-use compare::generator::Random;
 use second::Reply;
 use std::io::Write;
 
@@ -15,7 +14,7 @@ fn case(states1: usize, states2: usize) -> Vec<u8> {
     let lattice = vec![2, 1, 0, 1, 1, 0, 1];
     let model = |states: usize| [vec![states as u8, 0], vec![0; states + states * states]].concat();
     let parts = [lattice, model(states1), model(states2)];
-    cases::laid(&mut Random::new(0), &parts, &[0; 4])
+    cases::gapless(&parts)
 }
 
 /// The counts c for which 100 c / all is a whole number and a half.
