@@ -128,7 +128,8 @@ fn writes_of_the_greatest_sizes_agree() {
     let mut desk = opened(&mut pair, &case);
     for _ in 0..3 {
         assert_eq!(write(random, &mut pair, WRITTEN_MOST - 1), refused(14));
-        for length in [WRITTEN_MOST, WRITTEN_MOST + 1, 100_000] {
+        // The low 16 bits of the last length say 0.
+        for length in [WRITTEN_MOST, WRITTEN_MOST + 1, 65_536] {
             let written = write(random, &mut pair, length);
             assert_eq!(written, Reply::Length(WRITTEN_MOST));
         }
