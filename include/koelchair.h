@@ -1,5 +1,5 @@
-/* Koelchair's eight calls, the rest of a round in one call, what a desk holds, how an entry is worked, and the listing, for C, C99 or
-   later, and for C++. They stand in target/staticlib/libexports.a, which `rt staticlib exports` proves and writes. The contracts are in
+/* Koelchair's calls, the rest of a round in one call, what a desk holds, how an entry is worked, and the listing, for C, C99 or later,
+   and for C++. They stand in target/staticlib/libexports.a, which `rt staticlib exports` proves and writes. The contracts are in
    crates/exports/src; how a case is laid out byte for byte, and what the words used here mean, is said in docs/SPECIFICATION.md.
 
    A desk is a standing, a store and two tables. The caller keeps all four: the standing as a struct, the others as bytes. A new desk
@@ -15,8 +15,8 @@
    Every length and every content of bytes is an input that gets an answer, and so is every standing.
 
    Nothing is kept between calls, so calls on different desks may run in different threads at the same time, and so may calls on one
-   desk that write nothing. No call takes memory from a heap. The stack that each takes is measured by examples/c/stack.c: see
-   docs/PERFORMANCE.md. */
+   desk that do not alter it; each koelchair_write among them has a buffer of its own to write into. No call takes memory from a heap.
+   The stack that each takes is measured by examples/c/stack.c: see docs/PERFORMANCE.md. */
 #ifndef KOELCHAIR_H
 #define KOELCHAIR_H
 
@@ -40,6 +40,7 @@ extern "C" {
 #define KOELCHAIR_STORE_LENGTH 24576   /* a store has at least as many */
 #define KOELCHAIR_TABLE_LENGTH 4096    /* a table has at least as many */
 #define KOELCHAIR_CASE_MOST 32768      /* a case has at most as many */
+#define KOELCHAIR_WRITTEN_MOST 16618   /* koelchair_write writes at most as many */
 #define KOELCHAIR_LISTING_LENGTH 16384 /* the text of koelchair_listing has at least as many */
 
 /* ---- sizes of what a case holds: at most so many */
@@ -62,6 +63,7 @@ extern "C" {
 #define KOELCHAIR_PER_CENT 6      /* value is 0 to 100 */
 #define KOELCHAIR_SAYS 7          /* value is 1 for yes, 0 for no */
 #define KOELCHAIR_FORMULA_VALUE 9 /* value is the element; byte, flag1 and flag2 are facts of the formula */
+#define KOELCHAIR_LENGTH 10       /* value is the length */
 
 /* ---- numbers of refusals; koelchair_refusal_words says what each means. The part is that of the case, or KOELCHAIR_NO_PART. */
 
@@ -78,6 +80,7 @@ extern "C" {
 #define KOELCHAIR_REFUSED_SHORT_DESK 11
 #define KOELCHAIR_REFUSED_SPOILED_DESK 12
 #define KOELCHAIR_REFUSED_OUT_OF_RANGE 13
+#define KOELCHAIR_REFUSED_SHORT_BUFFER 14
 
 #define KOELCHAIR_NO_PART 255
 
@@ -113,6 +116,8 @@ static inline const char *koelchair_refusal_words(uint8_t number)
     case KOELCHAIR_REFUSED_OUT_OF_RANGE:
         return "a formula, model, state or element is out of range, or the table to be judged is no "
                "table of elements of this size";
+    case KOELCHAIR_REFUSED_SHORT_BUFFER:
+        return "the buffer to write into is too short";
     default:
         return "no refusal has this number";
     }
@@ -207,7 +212,8 @@ koelchair_moved koelchair_finish_round(koelchair_standing standing,
                                        uint8_t *first, size_t first_length,
                                        uint8_t *second, size_t second_length);
 
-/* ---- the calls that read: they write nothing. Each reads the store and both tables. */
+/* ---- the calls that read: they do not alter the desk. Each reads the store and both tables; koelchair_write alone writes, into the
+   buffer that it is lent for that. */
 
 /* Names the whole table, in which byte q1 times N2 + q2 is the entry of states q1 and q2. */
 koelchair_shown koelchair_show(koelchair_standing standing,
@@ -258,11 +264,24 @@ koelchair_answer koelchair_judge(koelchair_standing standing,
                                  const uint8_t *second, size_t second_length,
                                  const uint8_t *table, size_t table_length);
 
+/* Writes the desk's case at the front of out, as koelchair_open takes it: the count of parts, the directory, and the parts, each where
+   the one before it ends, without the gaps that the case may have had. A lattice part of the one byte 0 stays that byte, and the same
+   lattice as a table stays a table. Writes these bytes alone, at most KOELCHAIR_WRITTEN_MOST, and keeps those after them; out overlaps
+   neither the store nor a table. Rounds, tables and gaps do not show in what is written: desks of the same parts give the same bytes.
+   Opening them makes a desk of the same case at round 0, all entries of both tables top, which gives the same bytes again.
+   KOELCHAIR_LENGTH with the number of bytes written, or KOELCHAIR_REFUSED with 11, with 12, or with 14 where out is shorter than what is
+   to be written, the first of these that applies; then nothing is written. */
+koelchair_answer koelchair_write(koelchair_standing standing,
+                                 const uint8_t *store, size_t store_length,
+                                 const uint8_t *first, size_t first_length,
+                                 const uint8_t *second, size_t second_length,
+                                 uint8_t *out, size_t out_length);
+
 /* ---- what a desk holds */
 
 /* The sizes of what the desk holds: elements, propositions, states and formulas. Reads the store and both tables; writes nothing. A desk
-   that every call but koelchair_open refuses has the number 11 or 12 and the part of that refusal, and zeros. It is none of the eight
-   calls: use it for a desk whose case is not at hand. */
+   that every call but koelchair_open refuses has the number 11 or 12 and the part of that refusal, and zeros. It is none of the calls
+   of docs/SPECIFICATION.md: use it for a desk whose case is not at hand. */
 koelchair_desk_sizes koelchair_sizes(koelchair_standing standing,
                                      const uint8_t *store, size_t store_length,
                                      const uint8_t *first, size_t first_length,
@@ -275,8 +294,8 @@ koelchair_desk_sizes koelchair_sizes(koelchair_standing standing,
    and the join of a q1' once that is top. So these are the pairs for which the meet over the propositions and all smaller q1' is not
    bottom and, for that q1', the join over smaller q2' is not top; one whose transition from q1 is bottom is among them. Over a lattice of
    one element there are none. Reads the store and both tables; writes nothing. A desk that every call but koelchair_open refuses has
-   the number 11 or 12 and the part of that refusal; where q1 is not below N1 or q2 not below N2 it is 13. It is none of the eight
-   calls: use it to see how much of the work of a round ends early. */
+   the number 11 or 12 and the part of that refusal; where q1 is not below N1 or q2 not below N2 it is 13. It is none of the calls of
+   docs/SPECIFICATION.md: use it to see how much of the work of a round ends early. */
 koelchair_worked_entry koelchair_entry(koelchair_standing standing,
                                        const uint8_t *store, size_t store_length,
                                        const uint8_t *first, size_t first_length,
