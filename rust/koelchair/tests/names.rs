@@ -116,6 +116,7 @@ fn the_header_has_the_sizes() {
         ("STORE_LENGTH", koelchair::STORE_LENGTH),
         ("TABLE_LENGTH", koelchair::TABLE_LENGTH),
         ("CASE_MOST", koelchair::CASE_MOST),
+        ("WRITTEN_MOST", koelchair::WRITTEN_MOST),
         ("LISTING_LENGTH", koelchair::LISTING_LENGTH),
         ("ELEMENTS_MOST", koelchair::ELEMENTS_MOST),
         ("STATES_MOST", koelchair::STATES_MOST),

@@ -11,16 +11,35 @@ pub const L3: [u8; 13] = [3, 2, 1, 0, 1, 1, 1, 0, 1, 1, 0, 0, 1];
 /// The lattice of one element.
 pub const L1: [u8; 3] = [1, 0, 1];
 
+/// The panel lattice as a table of its 27 elements: number 9a + 3b + c for three answers of 0 to 2.
+pub fn panel_table() -> Vec<u8> {
+    let answers = |e: u8| [e / 9, e / 3 % 3, e % 3];
+    let at_most = |e, f| (0..3).all(|i| answers(e)[i] <= answers(f)[i]);
+    let mut part = vec![27];
+    part.extend((0..27).rev());
+    for e in 0..27 {
+        part.extend((0..27).map(|f| u8::from(at_most(e, f))));
+    }
+    part
+}
+
 /// The case with these parts, one after another.
 pub fn case(parts: &[&[u8]]) -> Vec<u8> {
+    with_gaps(parts, &[])
+}
+
+/// The case with these parts, before each of which stand some bytes that belong to none.
+pub fn with_gaps(parts: &[&[u8]], gap: &[u8]) -> Vec<u8> {
     let mut bytes = vec![parts.len() as u8];
     let mut place = 1 + 4 * parts.len();
     for part in parts {
+        place += gap.len();
         bytes.extend((place as u16).to_le_bytes());
         bytes.extend((part.len() as u16).to_le_bytes());
         place += part.len();
     }
     for part in parts {
+        bytes.extend(gap);
         bytes.extend(*part);
     }
     bytes
@@ -42,11 +61,17 @@ pub fn example_2_exchanged() -> Vec<u8> {
     case(&[&L2, &[1, 0, 1, 0], &[1, 0, 1, 1]])
 }
 
-/// Worked example 4 with formula AX not-p.
+/// The parts of worked example 4, with formula AX not-p.
+pub const PARTS_4: [&[u8]; 4] = [
+    &L2,
+    &[2, 1, 1, 0, 0, 1, 0, 1, 0, 0],
+    &[2, 1, 1, 0, 0, 0, 0, 1, 0, 0],
+    &[7, 3, 0],
+];
+
+/// Worked example 4.
 pub fn example_4() -> Vec<u8> {
-    let model_1 = [2, 1, 1, 0, 0, 1, 0, 1, 0, 0];
-    let model_2 = [2, 1, 1, 0, 0, 0, 0, 1, 0, 0];
-    case(&[&L2, &model_1, &model_2, &[7, 3, 0]])
+    case(&PARTS_4)
 }
 
 /// L2, eight states against one, without transitions; p is 1 in the one and in the first `ones` of the eight. So `ones`

@@ -1,4 +1,4 @@
-//! A desk that owns its buffers and one that is lent them, on the worked examples of document 01, and what they refuse.
+//! A desk that owns its buffers and one that is lent them, on the worked examples of document 01, and what they refuse and write.
 
 mod cases;
 mod entries;
@@ -6,3 +6,4 @@ mod examples;
 mod finishing;
 mod refusals;
 mod sizes;
+mod writing;

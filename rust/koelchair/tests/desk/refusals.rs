@@ -1,7 +1,7 @@
 //! What is refused, and that a refusal alters nothing.
 
 use crate::cases::{self, case, Lent, L2, L3};
-use koelchair::{Desk, Element, Refusal, State, STORE_LENGTH, TABLE_LENGTH};
+use koelchair::{Desk, Element, Refusal, State, STORE_LENGTH, TABLE_LENGTH, WRITTEN_MOST};
 
 /// A case for each refusal of open, with its number and part.
 fn refused_cases() -> Vec<(Vec<u8>, Refusal)> {
@@ -74,6 +74,11 @@ fn assert_refused(desk: &Lent, refusal: Refusal) {
     assert_eq!(desk.sizes(), Err(refusal));
     assert_eq!(desk.entry(State(0), State(0)), Err(refusal));
     assert_eq!(desk.entry(State(255), State(255)), Err(refusal));
+    assert_eq!(desk.write(), Err(refusal));
+    let mut out = [0xA5; WRITTEN_MOST];
+    assert_eq!(desk.write_into(&mut out), Err(refusal));
+    assert_eq!(desk.write_into(&mut []), Err(refusal));
+    assert_eq!(out, [0xA5; WRITTEN_MOST]);
 }
 
 #[test]

@@ -4,7 +4,7 @@ use crate::cases::{case, L2};
 use koelchair::{Desk, Refusal};
 
 /// A chain of so many elements.
-fn chain(n: usize) -> Vec<u8> {
+pub fn chain(n: usize) -> Vec<u8> {
     let mut part = vec![n as u8];
     part.extend((0..n).rev().map(|e| e as u8));
     part.extend((0..n * n).map(|i| u8::from(i / n <= i % n)));
@@ -12,14 +12,14 @@ fn chain(n: usize) -> Vec<u8> {
 }
 
 /// A model of so many states and propositions, all of whose values are 0.
-fn model(states: usize, propositions: usize) -> Vec<u8> {
+pub fn model(states: usize, propositions: usize) -> Vec<u8> {
     let mut part = vec![states as u8, propositions as u8];
     part.resize(2 + states * (1 + propositions + states), 0);
     part
 }
 
 /// The formula `bytes` long that is top under so many AX.
-fn formula(bytes: usize) -> Vec<u8> {
+pub fn formula(bytes: usize) -> Vec<u8> {
     let mut part = vec![7; bytes - 1];
     part.push(1);
     part
