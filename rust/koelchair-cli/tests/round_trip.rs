@@ -13,6 +13,7 @@ use koelchair_cli::formula_text;
 use koelchair_cli::lexer::{lex, Cursor};
 use koelchair_cli::parse::{parse, Text};
 use koelchair_cli::print::{print, print_bytes};
+use std::path::Path;
 
 fn read(text: &str) -> Text {
     match parse(Source::new("text", text)) {
@@ -100,7 +101,8 @@ fn accepted_cases_with_gaps_come_back_gapless() {
     for _ in 0..200 {
         let gapless = encode(&random.case()).expect("the case can be written");
         let gapped = with_gaps(&gapless, &mut random);
-        assert!(Desk::open(&gapped).is_ok());
+        let written = Desk::open(&gapped).map(|desk| desk.write());
+        assert_eq!(written.as_ref(), Ok(&gapless));
         assert!(
             decode(&gapped).is_some(),
             "an accepted case has a text with names"
@@ -193,6 +195,28 @@ fn the_tool_encodes_and_decodes() {
         let again = run(&["encode", "-"], &decoded.out);
         assert_eq!(again.out, bytes.out, "{file}");
     }
+}
+
+/// A desk of an example, a step after its opening, writes a file that has the text of the example's own bytes.
+#[test]
+fn what_a_desk_writes_is_decoded() {
+    let written = Path::new(env!("CARGO_TARGET_TMPDIR")).join("written.bytes");
+    let mut opened = 0;
+    for file in examples() {
+        let file = file.display().to_string();
+        let bytes = run(&["encode", &file], &[]).out;
+        let Ok(mut desk) = Desk::open(&bytes) else {
+            continue;
+        };
+        desk.step();
+        std::fs::write(&written, desk.write()).expect("the file can be written");
+        let decoded = run(&["decode", &written.display().to_string()], &[]);
+        assert_eq!((decoded.status, decoded.err.as_str()), (0, ""), "{file}");
+        let text = run(&["decode", "-"], &bytes).text();
+        assert_eq!(decoded.text(), text, "{file}");
+        opened += 1;
+    }
+    assert!(opened > 20, "examples are opened: {opened}");
 }
 
 #[test]
