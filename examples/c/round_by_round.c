@@ -1,13 +1,16 @@
 /* Reads a case from standard input, prints its listing, works its rounds to the end, and prints every answer: the table at each round,
-   which formulas it covers and what the next round changes, the score, the share, and the formulas' facts and values. A refusal is said
-   in words, with its number and part.
+   which formulas it covers and what the next round changes, the score, the share, the formulas' facts and values, and how long the case
+   is that the desk writes back. Where a file is named it gets the bytes of that case. A refusal is said in words, with its number and
+   part.
 
    From the repository's root, after `rt staticlib exports`:
 
        cc -std=c99 -Wall -Wextra -Werror -Iinclude examples/c/round_by_round.c target/staticlib/libexports.a -o target/round_by_round
        target/round_by_round < examples/c/example4.bytes
+       target/round_by_round target/written.bytes < examples/c/example4.bytes
+       cargo koelchair decode target/written.bytes
 
-   Exit status: 0 the case was opened, 1 a call was refused, 2 standard input could not be read. */
+   Exit status: 0 the case was opened, 1 a call was refused, 2 standard input could not be read or the file not be written. */
 #include <stdio.h>
 #include <stdlib.h>
 
@@ -177,6 +180,34 @@ static void print_sizes(const struct desk *d)
                held.elements, held.propositions, held.states1, held.states2, held.formulas);
 }
 
+/* ---- the case written back */
+
+/* A file with these bytes; false where it cannot be written. */
+static bool put_file(const char *name, const uint8_t *bytes, size_t length)
+{
+    FILE *file = fopen(name, "wb");
+    if (file == NULL)
+        return false;
+    bool whole = fwrite(bytes, 1, length, file) == length;
+    return fclose(file) == 0 && whole;
+}
+
+/* Has the desk write its case into a buffer that is long enough for every case, and shows what it says to one that is a byte too short.
+   Where a file is named the case is put there; false where that fails. */
+static bool write_case(const struct desk *d, const char *name)
+{
+    static uint8_t out[KOELCHAIR_WRITTEN_MOST];
+    koelchair_answer written = koelchair_write(LENT(d), out, sizeof out);
+    unless_refused("write", written);
+    size_t length = written.value;
+    printf("write: %lu bytes\n", (unsigned long)length);
+    koelchair_answer shorter = koelchair_write(LENT(d), out, length - 1);
+    printf("write into %lu bytes: refused %d %d: %s\n", (unsigned long)length - 1, shorter.number, shorter.part, koelchair_refusal_words(shorter.number));
+    return name == NULL || put_file(name, out, length);
+}
+
+/* ---- the listing */
+
 static void print_listing(const uint8_t *case_bytes, size_t case_length)
 {
     static uint8_t text[KOELCHAIR_LISTING_LENGTH];
@@ -184,7 +215,7 @@ static void print_listing(const uint8_t *case_bytes, size_t case_length)
     printf("listing:\n%.*s", (int)length, (const char *)text);
 }
 
-int main(void)
+int main(int argc, char **argv)
 {
     /* A byte more than a case may have, so that a longer input is refused. */
     static uint8_t input[KOELCHAIR_CASE_MOST + 1];
@@ -209,6 +240,11 @@ int main(void)
     for (uint8_t formula = 0; print_facts(&d, formula); formula++) {
         print_values(&d, formula, 1);
         print_values(&d, formula, 2);
+    }
+    const char *name = argc > 1 ? argv[1] : NULL;
+    if (!write_case(&d, name)) {
+        fprintf(stderr, "%s could not be written\n", name);
+        return 2;
     }
     return EXIT_SUCCESS;
 }

@@ -27,7 +27,7 @@ enum {
 static uint8_t case_bytes[KOELCHAIR_CASE_MOST];
 static size_t case_length;
 static uint8_t store[KOELCHAIR_STORE_LENGTH], first[KOELCHAIR_TABLE_LENGTH], second[KOELCHAIR_TABLE_LENGTH], table[KOELCHAIR_TABLE_LENGTH];
-static uint8_t text[KOELCHAIR_LISTING_LENGTH];
+static uint8_t text[KOELCHAIR_LISTING_LENGTH], out[KOELCHAIR_WRITTEN_MOST];
 static koelchair_standing standing;
 static uint8_t formula;
 static koelchair_answer answer;
@@ -135,6 +135,7 @@ static void whole(void) { answer = koelchair_whole(LENT, formula, 2); }
 static void score(void) { answer = koelchair_score(LENT); }
 static void share(void) { answer = koelchair_share(LENT, 5); }
 static void judge(void) { answer = koelchair_judge(LENT, table, sizeof table); }
+static void write_case(void) { answer = koelchair_write(LENT, out, sizeof out); }
 
 static void sizes(void) { answer.kind = koelchair_sizes(LENT).number == 0 ? KOELCHAIR_OPENED : KOELCHAIR_REFUSED; }
 
@@ -196,6 +197,7 @@ int main(void)
     printf("score %zu\n", taken(score));
     printf("share %zu\n", taken(share));
     printf("judge %zu\n", taken(judge));
+    printf("write %zu\n", taken(write_case));
     printf("sizes %zu\n", taken(sizes));
     printf("entry %zu\n", taken(entry));
     printf("listing %zu\n", taken(listing));

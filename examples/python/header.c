@@ -6,6 +6,7 @@ const char koelchair_version[] = KOELCHAIR_VERSION;
 const size_t koelchair_store_length = KOELCHAIR_STORE_LENGTH;
 const size_t koelchair_table_length = KOELCHAIR_TABLE_LENGTH;
 const size_t koelchair_listing_length = KOELCHAIR_LISTING_LENGTH;
+const size_t koelchair_written_most = KOELCHAIR_WRITTEN_MOST;
 
 /* The bytes of each struct, by which a caller sees that its own declarations fit. */
 const size_t koelchair_standing_bytes = sizeof(koelchair_standing);

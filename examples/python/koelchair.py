@@ -10,6 +10,8 @@
     for formula in range(desk.sizes().formulas):
         whole = desk.whole(formula, 1)
         print("formula", formula, "is", whole.element, "and covered from", whole.facts.covered_from())
+    with open("written.bytes", "wb") as file:  # read by: koelchair decode written.bytes
+        file.write(desk.write())
 
 `build.sh` makes the shared library libkoelchair.so, which stands beside this file, from the proved archive. This module passes
 arguments on and reads answers; its own is only how FormulaFacts says which rounds cover a formula, by the conditions of
@@ -94,6 +96,7 @@ _FUNCTIONS = {
     "score": (_DESK, _Answer),
     "share": (_DESK + [c_uint8], _Answer),
     "judge": (_DESK + _BYTES, _Answer),
+    "write": (_DESK + _BYTES, _Answer),
     "sizes": (_DESK, _DeskSizes),
     "entry": (_DESK + [c_uint8, c_uint8], _WorkedEntry),
     "listing": (_BYTES + [c_char_p], c_size_t),
@@ -130,14 +133,15 @@ def _load(path):
     return library
 
 
-def _length(name):
-    return c_size_t.in_dll(_library, f"koelchair_{name}_length").value
+def _size(name):
+    return c_size_t.in_dll(_library, f"koelchair_{name}").value
 
 
 _library = _load(pathlib.Path(__file__).resolve().parent / "libkoelchair.so")
 
 VERSION = ctypes.string_at(ctypes.addressof(c_char.in_dll(_library, "koelchair_version"))).decode()
-STORE_LENGTH, TABLE_LENGTH, LISTING_LENGTH = map(_length, ["store", "table", "listing"])
+STORE_LENGTH, TABLE_LENGTH = _size("store_length"), _size("table_length")
+LISTING_LENGTH, WRITTEN_MOST = _size("listing_length"), _size("written_most")
 
 
 class Refused(Exception):
@@ -301,6 +305,13 @@ class Desk:
         order. Such a table lies at or below the greatest simulation, and need not be a simulation itself; refused with 13."""
         table = bytes(table)
         return self._asked(_library.koelchair_judge, table, len(table)) == 1
+
+    def write(self):
+        """The desk's case as bytes: its directory, then its parts without gaps, the lattice in the form in which it was opened. Rounds and
+        tables do not show in them; a desk of these bytes begins at round 0."""
+        out = ctypes.create_string_buffer(WRITTEN_MOST)
+        length = self._asked(_library.koelchair_write, out, WRITTEN_MOST)
+        return out[:length]
 
     def sizes(self):
         """What the desk holds."""

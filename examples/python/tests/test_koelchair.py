@@ -92,6 +92,18 @@ class Examples(unittest.TestCase):
         desk.open(example(1))
         self.assertEqual((desk.standing.round, desk.settle()), (0, 2))
 
+    def test_a_case_is_written_back(self):
+        for bytes_read in [example(1), example(4), case("covered-from")]:
+            desk = koelchair.Desk(bytes_read + b"in no part")
+            self.assertEqual(desk.write(), bytes_read)
+            desk.step()
+            self.assertEqual(desk.write(), bytes_read)
+            desk.settle()
+            self.assertEqual(desk.write(), bytes_read)
+            self.assertTrue(desk.standing.settled)
+            desk.open(desk.write())
+            self.assertEqual((desk.standing.round, desk.write()), (0, bytes_read))
+
     def test_listing(self):
         lines = "rounds 3\nrow 0: 0 0\nrow 1: 0 0\nscore 0\nformula 0: 0 1\n"
         self.assertEqual(koelchair.listing(example(4)), lines)
@@ -154,7 +166,7 @@ class Header(unittest.TestCase):
         header = (ROOT / "include/koelchair.h").read_text()
         defined = dict(re.findall(r"#define KOELCHAIR_(\w+) (\S+)", header))
         self.assertEqual(f'"{koelchair.VERSION}"', defined["VERSION"])
-        for name in ["STORE_LENGTH", "TABLE_LENGTH", "LISTING_LENGTH"]:
+        for name in ["STORE_LENGTH", "TABLE_LENGTH", "LISTING_LENGTH", "WRITTEN_MOST"]:
             self.assertEqual(str(getattr(koelchair, name)), defined[name])
 
 
