@@ -1,4 +1,4 @@
-//! Each call and the whole report, measured on one case by the proved library and by another.
+//! Each call, write and the whole report, measured on one case by the proved library and by another.
 
 use crate::cases::Setting;
 use crate::libraries::{assert_same, put_back, Given, Library, Proved};
@@ -113,6 +113,20 @@ impl<'a> Calls<'a> {
         })
     }
 
+    /// Measures how the desk's case, which has no gaps, is written into a buffer of its length; nothing where the other library has no such
+    /// call.
+    pub fn write(&self, repeat: usize) -> Option<Times> {
+        let mut out = vec![0; self.case.len()];
+        self.other.write(&self.other_desk, &mut out)?;
+        let proved = write_side(&Proved, &self.proved_desk, out.len());
+        let other = write_side(self.other, &self.other_desk, out.len());
+        let times = in_turn(repeat, proved, other, |ours, given, theirs, also| {
+            assert_eq!(given, also);
+            assert!(ours == theirs, "what is written differs");
+        });
+        Some(times)
+    }
+
     /// The medians of the proved library's check, which is all that show does, and of its step, in nanoseconds. They take turns, so that
     /// their difference, the row, is not that of the machine's speed.
     pub fn check_and_step(&self, repeat: usize) -> (f64, f64) {
@@ -170,6 +184,22 @@ fn side<'a>(
     }
 }
 
+/// What write writes into.
+type Buffer = Vec<u8>;
+
+/// A library's write on this desk, into a buffer of so many bytes; the buffer is what is put back.
+fn write_side<'a>(
+    library: &'a dyn Library,
+    desk: &'a Desk,
+    length: usize,
+) -> Side<Buffer, impl Fn(&mut Buffer), impl Fn(&mut Buffer) -> Option<Reply> + 'a> {
+    Side {
+        desk: vec![0; length],
+        restore: |out: &mut Buffer| out.fill(0),
+        call: |out: &mut Buffer| library.write(desk, out),
+    }
+}
+
 /// A library's listing of a case.
 fn report_side<'a>(
     library: &'a dyn Library,
@@ -220,6 +250,8 @@ mod tests {
             let times = calls.measure(1, &call);
             assert!(times.proved > 0.0 && times.other > 0.0, "{call:?}");
         }
+        let written = calls.write(1).expect("a library that writes");
+        assert!(written.proved > 0.0 && written.other > 0.0);
         assert!(calls.report(1).proved > 0.0);
     }
 
@@ -260,10 +292,8 @@ mod tests {
         }
     }
 
-    /// The archive that is linked, made into a shared library, answers as it does linked.
-    #[test]
-    fn a_shared_library_answers_alike() {
-        let folder = Folder::new("koelchair-bench-shared");
+    /// The archive that is linked, made into a shared library with these options more.
+    fn shared(folder: &Folder, options: &[&str]) -> Former {
         let shared = folder.file("former.so");
         let own = Path::new(env!("CARGO_MANIFEST_DIR")).join("../../target/staticlib");
         let archive = std::env::var_os("KOELCHAIR_ARCHIVE").map_or(own, PathBuf::from);
@@ -271,9 +301,29 @@ mod tests {
             .args(["-shared", "-o", &shared, "-Wl,--whole-archive"])
             .arg(archive.join("libexports.a"))
             .arg("-Wl,--no-whole-archive")
+            .args(options)
             .status();
         assert!(made.expect("cc").success());
-        assert_alike(&Former::load(&shared).expect("a shared library"));
+        Former::load(&shared).expect("a shared library")
+    }
+
+    /// It answers as it does linked.
+    #[test]
+    fn a_shared_library_answers_alike() {
+        let folder = Folder::new("koelchair-bench-shared");
+        assert_alike(&shared(&folder, &[]));
+    }
+
+    /// A library from before there was write has its other calls measured.
+    #[test]
+    fn a_shared_library_without_write() {
+        let folder = Folder::new("koelchair-bench-without");
+        let names = folder.file("names");
+        std::fs::write(&names, "{ local: koelchair_write; };").expect("a file");
+        let former = shared(&folder, &[&format!("-Wl,--version-script={names}")]);
+        let calls = calls(&former);
+        assert!(calls.write(1).is_none());
+        assert!(calls.measure(1, &Call::Score).other > 0.0);
     }
 
     #[test]
@@ -291,6 +341,15 @@ mod tests {
         let mut calls = calls(&Second);
         calls.other_desk.first[0] ^= 1;
         calls.measure(1, &Call::Step);
+    }
+
+    /// The last formula's last byte, which is a proposition, is another one in the other desk.
+    #[test]
+    #[should_panic(expected = "what is written differs")]
+    fn other_bytes_are_seen() {
+        let mut calls = calls(&Second);
+        calls.other_desk.store[calls.case.len() - 1] ^= 1;
+        calls.write(1);
     }
 
     /// No pair is left out where nothing ends early.

@@ -42,6 +42,19 @@ macro_rules! function {
     };
 }
 
+/// Write, which takes the tables to read them alone, and the buffer.
+type Write = unsafe extern "C" fn(
+    Standing,
+    *const u8,
+    usize,
+    *const u8,
+    usize,
+    *const u8,
+    usize,
+    *mut u8,
+    usize,
+) -> Answer;
+
 /// The functions of a library that is never unloaded.
 pub struct Former {
     open: unsafe extern "C" fn(
@@ -63,6 +76,8 @@ pub struct Former {
     score: function!(() -> Answer),
     share: function!((u8) -> Answer),
     judge: function!((*const u8, usize) -> Answer),
+    /// None in a library from before request 105.
+    write: Option<Write>,
     listing: unsafe extern "C" fn(*const u8, usize, *mut u8) -> usize,
 }
 
@@ -82,6 +97,7 @@ impl Former {
                 score: library.function(c"koelchair_score")?,
                 share: library.function(c"koelchair_share")?,
                 judge: library.function(c"koelchair_judge")?,
+                write: library.function(c"koelchair_write").ok(),
                 listing: library.function(c"koelchair_listing")?,
             })
         }
@@ -153,6 +169,30 @@ impl Library for Former {
         Given::Reply(reply(answer))
     }
 
+    fn write(&self, desk: &Desk, out: &mut [u8]) -> Option<Reply> {
+        let Desk {
+            standing,
+            store,
+            first,
+            second,
+        } = desk;
+        // SAFETY: each pointer and length are those of one slice; the buffer, which is written, is exclusive.
+        let answer = unsafe {
+            self.write?(
+                *standing,
+                store.as_ptr(),
+                store.len(),
+                first.as_ptr(),
+                first.len(),
+                second.as_ptr(),
+                second.len(),
+                out.as_mut_ptr(),
+                out.len(),
+            )
+        };
+        Some(reply(answer))
+    }
+
     fn listing(&self, case: &[u8]) -> String {
         let mut text = Box::new([0; LISTING_LENGTH]);
         // SAFETY: the case is only read, and the text has the length that is written within.
@@ -203,6 +243,7 @@ fn reply(answer: Answer) -> Reply {
                 ex: flag2,
             },
         },
+        10 => Reply::Length(value as usize),
         _ => panic!("the former library answers with kind {kind}, which there is not"),
     }
 }

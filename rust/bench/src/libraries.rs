@@ -12,6 +12,9 @@ pub trait Library {
     /// Makes a call of a desk.
     fn call(&self, desk: &mut Desk, call: &Call) -> Given;
 
+    /// Writes a desk's case into a buffer; nothing where the library has no such call.
+    fn write(&self, desk: &Desk, out: &mut [u8]) -> Option<Reply>;
+
     /// What the program `report` prints for a case.
     fn listing(&self, case: &[u8]) -> String;
 }
@@ -46,6 +49,10 @@ impl Library for Proved {
         }
     }
 
+    fn write(&self, desk: &Desk, out: &mut [u8]) -> Option<Reply> {
+        Some(calls::proved_write(desk, out))
+    }
+
     fn listing(&self, case: &[u8]) -> String {
         koelchair::listing(case)
     }
@@ -60,6 +67,10 @@ impl Library for Second {
 
     fn call(&self, desk: &mut Desk, call: &Call) -> Given {
         Given::Reply(calls::by_second(desk, call))
+    }
+
+    fn write(&self, desk: &Desk, out: &mut [u8]) -> Option<Reply> {
+        Some(calls::second_write(desk, out))
     }
 
     fn listing(&self, case: &[u8]) -> String {

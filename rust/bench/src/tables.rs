@@ -22,24 +22,32 @@ const SIZES: [(Lattice, u8); 7] = [
     (Lattice::PowerSet(6), 64),
 ];
 
-/// A call's name, and the call on a case; none for the report.
-type Named = (&'static str, fn(&Calls) -> Option<Call>);
+/// What is measured in a row of the calls' table.
+enum Work {
+    Call(Call),
+    Write,
+    Report,
+}
+
+/// Its name, and what it is on a case.
+type Named = (&'static str, fn(&Calls) -> Work);
 
 /// The calls in the order of the table.
-const CALLS: [Named; 11] = [
-    ("open", |calls| Some(calls.open())),
-    ("step", |_| Some(Call::Step)),
-    ("show", |_| Some(Call::Show)),
-    ("value, AX EX AX", |calls| Some(calls.value(NESTED))),
-    ("value, three fixpoints", |c| Some(c.value(FIXPOINTS))),
-    ("whole, three fixpoints", |c| Some(c.whole(FIXPOINTS))),
-    ("score", |_| Some(Call::Score)),
-    ("share", |calls| Some(calls.share())),
-    ("judge", |calls| Some(calls.judge())),
+const CALLS: [Named; 12] = [
+    ("open", |calls| Work::Call(calls.open())),
+    ("step", |_| Work::Call(Call::Step)),
+    ("show", |_| Work::Call(Call::Show)),
+    ("value, AX EX AX", |calls| Work::Call(calls.value(NESTED))),
+    ("value, three fixpoints", |c| Work::Call(c.value(FIXPOINTS))),
+    ("whole, three fixpoints", |c| Work::Call(c.whole(FIXPOINTS))),
+    ("score", |_| Work::Call(Call::Score)),
+    ("share", |calls| Work::Call(calls.share())),
+    ("judge", |calls| Work::Call(calls.judge())),
     ("judge, no at the first entry", |calls| {
-        Some(calls.judge_too_high())
+        Work::Call(calls.judge_too_high())
     }),
-    ("report", |_| None),
+    ("write", |_| Work::Write),
+    ("report", |_| Work::Report),
 ];
 
 /// Prints all tables, or the rows of them that are asked for, with the proved library and another.
@@ -49,8 +57,8 @@ pub fn print(options: &Options, other: &dyn Library) {
         "Medians of up to {} samples of each side, which take turns: proved, {lower}, proved, {lower}, and so on. A sample repeats its call \
          for about 0.4 ms or makes it once, and its time is that of one call. *{name} / proved* is the other side's median as a \
          multiple of the proved one's: above 1 the proved one is the faster, so many times. Half of the ratios of two samples that \
-         follow one another are within the *middle half*. After each two samples the answers, the standings and the tables were \
-         compared, and were equal.\n",
+         follow one another are within the *middle half*. After each two samples the answers, the standings, the tables and what \
+         write wrote were compared, and were equal.\n",
         options.repeat,
         lower = name.to_lowercase(),
     );
@@ -127,10 +135,14 @@ fn print_size(
     let (lattice, states) = (setting.lattice, setting.states1);
     let calls = halfway(setting, other);
     let (mut show, mut step) = (None, None);
-    for &(name, call) in wanted {
-        let times = match call(&calls) {
-            Some(call) => calls.measure(repeat, &call),
-            None => calls.report(repeat),
+    for &(name, work) in wanted {
+        let measured = match work(&calls) {
+            Work::Call(call) => Some(calls.measure(repeat, &call)),
+            Work::Write => calls.write(repeat),
+            Work::Report => Some(calls.report(repeat)),
+        };
+        let Some(times) = measured else {
+            continue;
         };
         print!("| {lattice} | {states} | {name}");
         match name {
