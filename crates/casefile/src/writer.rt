@@ -15,11 +15,11 @@ pub fn gapless_length(bytes: &[u8]) -> usize
     ensures { λ r. ⌜ r ≡ length (gaplessOf (now (bytes .entry))) ⌝ }
 {
     let count = bytes[0];
-    let mut at = 1 + 4 * elements::index(count);
+    let mut length = 1 + 4 * elements::index(count);
     for i in 0..count {
-        at = at + part_size(bytes, i);
+        length = length + part_size(bytes, i);
     }
-    at
+    length
 }
 
 // Writes bytes at a place of a buffer.
@@ -71,10 +71,10 @@ pub fn write_parts(bytes: &[u8], out: &mut [u8])
     ensures { λ _. ⌜ now (out .exit) ≡ withParts (now (bytes .entry)) (now (out .entry)) ⌝ }
 {
     let count = bytes[0];
-    let mut at = 1 + 4 * elements::index(count);
+    let mut place = 1 + 4 * elements::index(count);
     for i in 0..count {
         let p = part(bytes, i);
-        copy(p, out, at);
-        at = at + p.len();
+        copy(p, out, place);
+        place = place + p.len();
     }
 }

@@ -80,8 +80,8 @@ module _ (d : Desk) (b : List ℕ) (n : ℕ) (w : List ℕ) (x : WritesBack d b 
         count = m;
         most = omega (arith, m, gapless-most (take 24576 (d .store)) c (u .held .rules .reads));
         fits = omega (arith, m, range-exactly (Question.Write b) (viewOf c d) .0 (u .range) .0);
-        front = ap (take n) k ∙ front-is (caseBytes c) b n m;
         rest = ap (drop n) k ∙ rest-is (caseBytes c) b n m;
+        front = ap (take n) k ∙ front-is (caseBytes c) b n m;
       }
 
 -- ---- opening what was written
