@@ -29,9 +29,6 @@ returns c = write-short (held (c .before .before .before)) _ _ (c .before .gaple
 write-requires : tie.Need-write-requires
 write-requires c κs = (held (c .before .before .before .before) .case .placed, omega (arith, c .before .before .gapless-length .ensures, c .before .if1 .left))
 
-cast-t20 : tie.Need-cast-t20
-cast-t20 c = omega (arith, c .before .before .before .before .before .gapless-length .ensures, held (c .before .before .before .before .before .before .before) .case .short)
-
 returns-2 : tie.Need-returns-2
 returns-2 c = refused-call (Call.Ask (Question.Write (c .before .before .before .before .before .before .before .before .before .args .out .now))) (desk (c .before .before .before)) _ _ _ refl (c .before .before .before .examine .ensures) (c .before .f .given .1)
 
@@ -41,4 +38,5 @@ returns-3 c = held-write (held (c .before .before .before .before .before .befor
 pub write-spec : {M : Type 1} → statement M
 write-spec =
     tie.close (tie.spec (λ c κs. search needs) (λ c. search needs) (λ c. search needs) slice-aggregate-bytes
-    gapless-length-requires returns write-requires cast-t20 returns-2 (λ c. search needs) returns-3)
+    gapless-length-requires returns write-requires
+    (λ c. omega (arith, c .before .before .before .before .before .gapless-length .ensures, held (c .before .before .before .before .before .before .before) .case .short)) returns-2 (λ c. search needs) returns-3)
