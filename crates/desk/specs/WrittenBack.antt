@@ -48,15 +48,15 @@ same-buffer p = cc
 
 -- ---- what is written
 
--- write on the desk d answered n and left w in the buffer b: the store holds a content, of which the first n bytes are the case; 'bytes past it are kept'
+-- write on the desk d answered n and left w in the buffer b: the store holds a content; 'bytes past it are kept', and the n bytes before are its case
 pub record WrittenCase (d : Desk) (b : List ℕ) (n : ℕ) (w : List ℕ) : Type 0 where
   pub holds : Content
   pub reads : storeReading (d .store) ≡ content holds
   pub count : n ≡ length (caseBytes holds)
   pub most : n ≤ 16618
   pub fits : n ≤ length b
-  pub front : take n w ≡ caseBytes holds
   pub rest : drop n w ≡ drop n b
+  pub front : take n w ≡ caseBytes holds
 
 module _ (d : Desk) (b : List ℕ) (n : ℕ) (w : List ℕ) (x : WritesBack d b n w) where
   abbrev call : Call
