@@ -4,7 +4,7 @@ pub mod Directory  -- what the directory says, refusals 1 to 3, and the bytes of
 pub mod Reading  -- the content of a case, or its refusal
 pub mod Gapless  -- the gapless case of a list of parts
 pub mod Answer  -- what the check of a case answers
-pub mod Conditions  -- what a case has to be, and what functions on an accepted case ask for
+pub mod Conditions  -- what a case has to be, what functions on an accepted case ask for, and when two contents say the same
 pub mod RefusedAs  -- which refusal a case is given, 1 to 10, and exactly when
 -- ---- theorems
 pub mod Placed  -- a case whose parts stand where they may
@@ -25,4 +25,5 @@ pub mod Steps  -- what the steps of the check answer, and what those of the writ
 pub mod Misplaced  -- the loop over the directory
 pub mod Formulas  -- the loop over the formula parts
 pub mod Answered  -- the steps of the check give the answer of the reading
-pub mod Writer  -- the loops that write a gapless case
+pub mod Appended  -- bytes that are written one after the other
+pub mod Writer  -- the loops that write a gapless case, and the one that counts its bytes

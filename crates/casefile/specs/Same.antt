@@ -112,9 +112,6 @@ module _ {b d : List ℕ} (c e : Content) (u : CaseOf b c) (v : CaseOf d e) (s :
       ∙ ap (λ (φs : List Formula). bytesOf (getD φs i bottom)) (s .formulas)
       ∙ sym (v .formula-bytes i (omega (arith, u .as-many, ap length (s .formulas)))))
 
-  parts-same : contentParts c ≡ contentParts e
-  parts-same = cc (lattice-same, model-same _ _ (u .shape1) (v .shape1) (s .first), model-same _ _ (u .shape2) (v .shape2) (s .second), formulas-same)
-
 -- ---- accepted cases that say the same
 
 model-itself : (M : Model ℕ) → SameModel M M
@@ -127,7 +124,10 @@ case-itself c = record { form = refl; size = refl; complement = λ a l. refl; or
 module _ (b d : List ℕ) (c e : Content) (p : caseReading b ≡ content c) (q : caseReading d ≡ content e) where
   -- Two accepted cases that say the same have the same parts, byte for byte.
   pub same-parts : SameCase c e → contentParts c ≡ contentParts e
-  same-parts s = parts-same c e (content-exactly b c .0 p) (content-exactly d e .0 q) s
+  same-parts s =
+      let u = content-exactly b c .0 p in
+      let v = content-exactly d e .0 q in
+      cc (lattice-same c e u v s, model-same _ _ (u .shape1) (v .shape1) (s .first), model-same _ _ (u .shape2) (v .shape2) (s .second), formulas-same c e u v s)
 
   pub same-content : SameCase c e → c ≡ e
   same-content s = content-unique b d c e p q (same-parts s)

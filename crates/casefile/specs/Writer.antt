@@ -1,94 +1,26 @@
--- For loops that write bytes one after the other: what stands so far, and what is still to come. Rests on Gapless and Accepted.
---   Appended: the first bytes of a buffer are written, and with the rest they are a whole; its laws are appended-start, -left, -length,
---     -byte, -part, -done, -last, -u16
---   copied, pair-put: a copy byte by byte, and a pair by two u16 numbers
+-- The loops over the parts of a case that write its gapless form, or count its bytes. Rests on Appended, Gapless and Accepted.
 --   gapless-fits, directory-fits: a placed case is at least as long as its gapless form, and a buffer for that holds the directory
---   Measured: the place that a loop over the parts has come to; measured-start, -next, -end: its begin, its turn and its end
+--   Measured: the place that a loop over the parts has come to; measured-none, -more, -small, -done: its begin, its turn, its size and its end
 --   Writing: such a loop that writes, and its two kinds, PairsWritten and PartsWritten
 --   writing-start; pairs-turn, parts-turn; writing-done: its begin, its turns and its end
 --   Room, writing-room, pairs-buffer-length, parts-buffer-length: what a turn asks for, and that the buffer has its length
 --   case-written: the count, the pairs and the parts are the gapless case
-use Prim.Native.Nat.{ℕ, zero, suc, _+_, _*_, _-_, _/_, _%_, _≤_, _<_}
-use mathlib.Core.Path.{_≡_, refl, sym, subst, ap, ap₂, _∙_}
-use mathlib.Core.List.{List, [], _∷_, _++_, append-assoc, append-nil}
+use Prim.Native.Nat.{ℕ, zero, suc, _+_, _*_, _-_, _≤_, _<_}
+use mathlib.Core.Path.{_≡_, refl, sym, subst, ap, _∙_}
+use mathlib.Core.List.{List, [], _∷_, _++_}
 use native.Mathlib.Nat.{zero-add}
 use native.Mathlib.Numerals.{add-one}
 use native.Mathlib.Omega.{arith}
-use lib.ListN.{length, getD, take, drop, set, length-append, length-drop, take-append-drop}
-use lib.Seq.{length-take-le, take-length, take-at, drop-cons, drop-append-add, drop-drop, set-at, paste}
+use lib.ListN.{length, take, drop, set, length-append}
+use lib.Seq.{length-take-le}
 use Rattle.theory.specs.Lists.{written}
 use Rattle.casefile.specs.Directory.{partCount, directoryEnd, partStart, partSize, partAt, partsFrom, partsOf}
-use Rattle.casefile.specs.Gapless.{u16Then, pairs, joined, gapless, pairsOf, joinedOf, gaplessOf}
+use Rattle.casefile.specs.Gapless.{pairs, joined, gapless, pairsOf, joinedOf, gaplessOf}
 use Rattle.casefile.specs.Conditions.{Placed}
 use Rattle.casefile.specs.Laid.{pairs-length, gapless-length}
 use Rattle.casefile.specs.Accepted.{part-length, parts-length}
-use Rattle.casefile.specs.Steps.{withU16, withPair, withPairs, withParts}
-
--- d was the buffer at first, out is it now. The first `at` bytes are written; with `rest` after them they are `whole`
-pub record Appended (d out : List ℕ) (at : ℕ) (rest whole : List ℕ) : Type 0 where
-  pub front : List ℕ
-  pub front-length : length front ≡ at
-  pub goes-on : front ++ rest ≡ whole
-  pub holds : out ≡ front ++ drop at d
-
-pub appended-start : (d : List ℕ) (at : ℕ) (rest : List ℕ) → at ≤ length d → Appended d d at rest (take at d ++ rest)
-appended-start d at rest l =
-    record { front = take at d; front-length = length-take-le at d l; goes-on = refl; holds = sym (take-append-drop at d) }
-
-module _ {d out rest whole : List ℕ} {at : ℕ} where
-  pub appended-left : Appended d out at rest whole → at + length rest ≡ length whole
-  appended-left w = omega (arith, w .front-length, ap length (w .goes-on), length-append (w .front) rest)
-
-  pub appended-length : Appended d out at rest whole → at ≤ length d → length out ≡ length d
-  appended-length w l = ap length (w .holds) ∙ simp (length-append, length-drop) (omega (arith, w .front-length))
-
-  pub appended-byte : (x : ℕ) → Appended d out at (x ∷ rest) whole → at < length d → Appended d (set out at x) (at + 1) rest whole
-  appended-byte x w l =
-      record {
-        front = w .front ++ (x ∷ []);
-        front-length = omega (arith, length-append (w .front) (x ∷ []), w .front-length);
-        goes-on = append-assoc (w .front) (x ∷ []) rest ∙ w .goes-on;
-        holds =
-            ap (λ (o : List ℕ). set o at x) (w .holds ∙ ap (λ (o : List ℕ). w .front ++ o) (drop-cons d at 0 l))
-            ∙ set-at (w .front) (getD d at 0) (drop (suc at) d) x at (w .front-length)
-            ∙ sym (append-assoc (w .front) (x ∷ []) (drop (suc at) d))
-            ∙ rw add-one refl;
-      }
-
-  pub appended-part : (p : List ℕ) → Appended d out at (p ++ rest) whole → Appended d (written at p out) (at + length p) rest whole
-  appended-part p w =
-      record {
-        front = w .front ++ p;
-        front-length = omega (arith, length-append (w .front) p, w .front-length);
-        goes-on = append-assoc (w .front) p rest ∙ w .goes-on;
-        holds =
-            ap₂ _++_
-            (ap (λ (f : List ℕ). f ++ p) (ap (take at) (w .holds) ∙ take-at (w .front) (drop at d) at (w .front-length)))
-            (ap (drop (at + length p)) (w .holds)
-            ∙ rw (← w .front-length) (drop-append-add (w .front) (drop (length (w .front)) d) (length p) ∙ drop-drop (length p) (length (w .front)) d));
-      }
-
-pub appended-done : {d out whole : List ℕ} {at : ℕ} → Appended d out at [] whole → out ≡ whole ++ drop (length whole) d
-appended-done {d} {out} {whole} w =
-    let e : w .front ≡ whole = sym (append-nil (w .front)) ∙ w .goes-on in
-    w .holds ∙ ap₂ (λ (f : List ℕ) (n : ℕ). f ++ drop n d) e (sym (w .front-length) ∙ ap length e)
-
-pub appended-last : {d out whole : List ℕ} {at : ℕ} (p : List ℕ) → Appended d out at p whole → written at p out ≡ whole ++ drop (length whole) d
-appended-last {d} {out} {whole} {at} p w = appended-done (appended-part p (subst (λ (r : List ℕ). Appended d out at r whole) (sym (append-nil p)) w))
-
--- a copy, byte by byte, that has come to its end
-pub copied : (d : List ℕ) (at : ℕ) (s : List ℕ) (j : ℕ) → j ≤ length s → length s ≤ j → paste d at s j ≡ written at s d
-copied d at s j l m = let e : j ≡ length s = omega arith in rw (e, take-length s) refl
-
--- a pair is written by two u16 numbers
-pub pair-put : (d e f : List ℕ) (i u v start size : ℕ) → u ≡ i → v ≡ i → e ≡ withU16 d (1 + 4 * u) start → f ≡ withU16 e (3 + 4 * v) size → f ≡ withPair d i start size
-pair-put d e f i u v start size p q x y = y ∙ rw (x, p, q) refl
-
--- a u16 number is written by two stores
-pub appended-u16 : {d out rest whole : List ℕ} {at : ℕ} (x : ℕ) → Appended d out at (u16Then x rest) whole → at + 2 ≤ length d → Appended d (withU16 out at x) (at + 2) rest whole
-appended-u16 {d} {out} {rest} {whole} {at} x w l =
-    let e : at + 1 + 1 ≡ at + 2 = omega arith in
-    rw e at (appended-byte (x / 256) (appended-byte (x % 256) w (omega arith)) (omega arith))
+use Rattle.casefile.specs.Steps.{withPair, withPairs, withParts}
+use Rattle.casefile.specs.Appended.{Appended, appended-start, appended-length, appended-byte, appended-part, appended-done, appended-last, appended-u16}
 
 -- ---- a placed case is at least as long as its gapless form
 
@@ -137,15 +69,15 @@ pub record Measured (b : List ℕ) (i at : ℕ) : Type 0 where
   pub placed : Placed b
   pub offset : at + length (joined (partsLeft b i)) ≡ length (gaplessOf b)
 
-pub measured-start : {b : List ℕ} → Placed b → Measured b 0 (directoryEnd b)
-measured-start {b} p =
+pub measured-none : {b : List ℕ} → Placed b → Measured b 0 (directoryEnd b)
+measured-none {b} p =
     let e : partCount b - 0 ≡ partCount b = omega arith in
     record { placed = p; offset = rw e (omega (arith, gapless-length (partsOf b), parts-length b 0 (partCount b))) }
 
 module _ {b : List ℕ} {i at : ℕ} (w : Measured b i at) where
-  pub measured-next : (size : ℕ) → i < partCount b → size ≡ partSize b i → Measured b (i + 1) (at + size)
+  pub measured-more : (size : ℕ) → i < partCount b → size ≡ partSize b i → Measured b (i + 1) (at + size)
   unfolding joined
-  measured-next size l e =
+  measured-more size l e =
       record {
         placed = w .placed;
         offset = omega (arith, e, part-length b (w .placed) i l, rw (parts-next b i l) at (w .offset), length-append (partAt b i) (joined (partsLeft b (i + 1))));
@@ -155,9 +87,9 @@ module _ {b : List ℕ} {i at : ℕ} (w : Measured b i at) where
   pub measured-small : at < 65536
   measured-small = omega (arith, w .offset, gapless-fits b (w .placed), w .placed .directory .size-most)
 
-  pub measured-end : partCount b ≤ i → at ≡ length (gaplessOf b)
+  pub measured-done : partCount b ≤ i → at ≡ length (gaplessOf b)
   unfolding partsFrom joined
-  measured-end l = let e : partCount b - i ≡ 0 = omega arith in omega (arith, rw e at (w .offset))
+  measured-done l = let e : partCount b - i ≡ 0 = omega arith in omega (arith, rw e at (w .offset))
 
 -- where such a loop has come to, in a buffer that was d. It writes, from the place `from` on, what f makes of the parts and of the offset of
 -- the first: the pairs, or the parts themselves. What is left of it, from part i on with the offset `at`, goes to `place`
@@ -187,7 +119,7 @@ pub writing-start : (f : ℕ → List (List ℕ) → List ℕ) (from : ℕ) {b d
 writing-start f from {b} {d} p l m =
     let e : partCount b - 0 ≡ partCount b = omega arith in
     record {
-      measured = measured-start p;
+      measured = measured-none p;
       fits = l;
       front = m;
       appended = rw e (appended-start d from (f (directoryEnd b) (partsOf b)) (omega (arith, directory-fits b d l)));
@@ -196,7 +128,7 @@ writing-start f from {b} {d} p l m =
 module _ {f : ℕ → List (List ℕ) → List ℕ} {from : ℕ} {b d out : List ℕ} {i at place : ℕ} (w : Writing f from b d out i at place) where
   -- after a turn
   measured-turn : (size : ℕ) → i < partCount b → size ≡ length (partAt b i) → Measured b (i + 1) (at + size)
-  measured-turn size l e = measured-next (w .measured) size l (e ∙ part-length b (w .measured .placed) i l)
+  measured-turn size l e = measured-more (w .measured) size l (e ∙ part-length b (w .measured .placed) i l)
 
   pub writing-room : i < partCount b → Room b d i at
   writing-room l =

@@ -35,8 +35,8 @@ pub record Demand1 (k : Call) (d : Desk) : Type 0 where
   pub at-11 : (examined k d ≡ refused ShortDesk) ↔ (short d ≡ true)
   -- else open answers 1 to 10 with its part, each exactly when its row of the table applies to the case and no earlier one does
   pub refused-as : (b : List ℕ) → k ≡ Call.Open b → short d ≡ false → RefusedAs (λ n p. perform k d .reply ≡ Reply.Refused n p) b
-  -- the other calls get 12 'when, and only when, one of these is broken', then the refusal of their first condition that is broken, among
-  -- them 13, and nothing else
+  -- the other calls get 12 'when, and only when, one of these is broken', then the refusal of their first condition that is broken, 13 or
+  -- 14, and nothing else
   pub at-12 : isOpen k ≡ false → (examined k d ≡ refused SpoiledDesk) ↔ ((short d ≡ false) × ((c : Content) → ¬ Rules d c))
   pub after-12 : isOpen k ≡ false → (r : Refusal) → 12 < numberOf r → (examined k d ≡ refused r) ↔ ((short d ≡ false) × InStore k d (some r))
   pub ranges : (q : Question) (v : View) → (firstRefusal (conditions q) v ≡ none) ↔ InRange q v

@@ -108,7 +108,7 @@ module _ (c : Content) (T : ℕ) (answers : List Reply) (d : Desk) where
     -- request 105: write answers the length of the case without gaps, at most 16,618, and leaves the case at the front of its buffer, bytes past it
     -- kept; 'refused with 14 .. when the buffer is too short', which alters nothing
     pub written-back : (b : List ℕ) → length (caseBytes c) ≤ length b → WritesBack d b (length (caseBytes c)) (written 0 (caseBytes c) b)
-    pub written-most : length (caseBytes c) ≤ 16618
+    pub case-most : length (caseBytes c) ≤ 16618
     pub write-refused : (b : List ℕ) → length b < length (caseBytes c)
         → perform (Call.Ask (Question.Write b)) d ≡ record { reply = numberReply ShortBuffer; desk = d; lent = b ∷ [] }
     -- 'Opening what was written gives the same store reading, at round 0 with both tables top', on every desk to which 11 does not apply

@@ -115,7 +115,7 @@ module _ {c : Content} {T : ℕ} where
         simulation-passes = simulation-passes v n sound;
         shown-passes-exactly = λ t e. let z : tableBytes c (roundIn c (v .round)) ≡ t = same-shown (showAnswer d) _ t (show-is w) e in rw z at (round-passes-exactly v n sound T (w .known .isT) (v .round));
         written-back = λ b l. n (Question.Write b) .answers (l, tt);
-        written-most = gapless-most (take 24576 (d .store)) c (stands-unspoiled w .rules .reads);
+        case-most = gapless-most (take 24576 (d .store)) c (stands-unspoiled w .rules .reads);
         write-refused = λ b l. n (Question.Write b) .refuses ShortBuffer (inl (λ h. omega (arith, h, l), refl));
         written-opens = written-opens d c (stands-unspoiled w .rules .reads);
         T-greatest = settled-greatest L (model1 c) (model2 c) T (w .known .isT);

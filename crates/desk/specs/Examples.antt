@@ -1,6 +1,7 @@
 -- Two examples of document 01 by computation: calls from a desk of zeros, and their answers. Rests on Run and casefile's Examples.
 --   zeros, AnswersAs: the desk, and that the calls of a list answer as it says; nested: the facts of their formulas
---   calls1; example4, calls4: the calls of worked examples 1 and 4, and the case of the latter; examples-answer: they answer so
+--   calls1, LeavesCase; example4, calls4: the calls of worked examples 1 and 4, what the last of the former leaves in its buffer, and the case of the
+--     latter; examples-answer: they answer so
 --   refused-show: what a refused show answers
 use Prim.Native.Nat.{ℕ}
 use mathlib.Core.Path.{_≡_, refl}
@@ -66,6 +67,10 @@ calls1 =
     ∷ (Call.Ask (Question.Write (replicate 44 7)), Reply.Length 42)
     ∷ []
 
+-- what the last of these leaves in its buffer: the case, which has no gaps, and the two bytes after it as they were
+abbrev pub LeavesCase : Type 0
+LeavesCase = perform (Call.Ask (Question.Write (replicate 44 7))) (run (map (λ x. x .0) calls1) zeros) .lent ≡ (reportCase ++ (7 ∷ 7 ∷ [])) ∷ []
+
 -- worked example 4 with AX of not-p: 'Round 1 is 1 0 / 0 0, round 2 all 0, T = 3. AX of not-p has value 1 at state 0 of model 2 and 0 in
 -- model 1'; state 0 is initial in both
 abbrev pub example4 : List ℕ
@@ -110,10 +115,6 @@ calls4 =
     ∷ (Call.Ask (Question.Judge (2 ∷ 0 ∷ 0 ∷ 0 ∷ [])), Reply.Refused 13 255)
     ∷ (Call.Ask (Question.Share 2), Reply.Refused 13 255)
     ∷ []
-
--- what the last of them leaves in its buffer: the case, which has no gaps, and the two bytes after it as they were
-abbrev pub LeavesCase : Type 0
-LeavesCase = perform (Call.Ask (Question.Write (replicate 44 7))) (run (Call.Open reportCase ∷ []) zeros) .lent ≡ (reportCase ++ (7 ∷ 7 ∷ [])) ∷ []
 
 -- the calls of a list, from a desk of zeros, answer as the list says
 abbrev pub AnswersAs : List (Call × Reply) → Type 0

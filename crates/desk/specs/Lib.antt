@@ -13,7 +13,7 @@ pub mod Demand2  -- the settled table is the greatest simulation, and values are
 pub mod Demand3  -- one claim about every list of calls with an accepted opening in it
 -- ---- theorems
 pub mod CaseParts  -- formula f and model m of an accepted case, as parts of its bytes
-pub mod RulesLaws  -- the tests of refusals 11, 12 and 13 say what their rules say
+pub mod RulesLaws  -- the tests of refusals 11 to 14 say what their rules say
 pub mod ViewLaws  -- a question is answered alike from views that agree at the pairs of states; the bytes of a table hold its entries
 pub mod RefusedLaws  -- which refusal a call gets, and what an accepted call knows
 pub mod Demand1Holds  -- demand 1 holds of every call on every desk

@@ -90,7 +90,8 @@ call-unchanged k d o s = go (accepted k d) refl (isOpen k) refl (isStep k) refl 
     go true a false p true q o s = absurd (false-true s refl)
     go true a false p false q o s = let w = accepted-content k d a in ap (λ z. z .desk) (perform-accepted k d (w .0) (w .1)) ∙ moved-unchanged k (w .0) d p q
 
--- 'The last six calls alter no buffer and no standing', accepted or refused: standing, store and both tables are as they were
+-- 'The last six calls alter no buffer and no standing'; 'A new call on a desk .., unless it opens, alters neither desk nor standing' (request 105).
+-- Accepted or refused: standing, store and both tables are as they were.
 pub reading-unchanged : (k : Call) (d : Desk) → isOpen k ≡ false → isStep k ≡ false → perform k d .desk ≡ d
 reading-unchanged k d o s = call-unchanged k d (ap (λ (x : Bool). x && accepted k d) o) (ap (λ (x : Bool). x && accepted k d) s)
 

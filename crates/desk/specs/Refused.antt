@@ -115,7 +115,7 @@ conditionTest (Condition.State m q) v = ltb q (modelIn (v .holds) m .states)
 conditionTest (Condition.Element e) v = ltb e (latticeSize (v .holds))
 conditionTest (Condition.TableLength t) v = eqb (length t) (tableSize (v .holds))
 conditionTest (Condition.TableBytes t) v = tableObeys (tableSize (v .holds)) (latticeSize (v .holds)) t
-conditionTest (Condition.Fits count b) v = leb (count (v .holds)) (length b)
+conditionTest (Condition.Fits needed b) v = leb (needed (v .holds)) (length b)
 
 -- and as a statement; `condition-exactly` (RulesLaws) ties the two
 abbrev pub ConditionHolds : Condition → View → Type 0
@@ -125,7 +125,7 @@ ConditionHolds (Condition.State m q) v = q < modelIn (v .holds) m .states
 ConditionHolds (Condition.Element e) v = e < latticeSize (v .holds)
 ConditionHolds (Condition.TableLength t) v = length t ≡ tableSize (v .holds)
 ConditionHolds (Condition.TableBytes t) v = (i : ℕ) → i < tableSize (v .holds) → getD t i 0 < latticeSize (v .holds)
-ConditionHolds (Condition.Fits count b) v = count (v .holds) ≤ length b
+ConditionHolds (Condition.Fits needed b) v = needed (v .holds) ≤ length b
 
 -- the refusal that is given where it is broken
 abbrev pub refusalOf : Condition → Refusal
@@ -135,7 +135,7 @@ refusalOf (Condition.State m q) = OutOfRange
 refusalOf (Condition.Element e) = OutOfRange
 refusalOf (Condition.TableLength t) = OutOfRange
 refusalOf (Condition.TableBytes t) = OutOfRange
-refusalOf (Condition.Fits count b) = ShortBuffer
+refusalOf (Condition.Fits needed b) = ShortBuffer
 
 -- the conditions of a question, in order; of any call: open, step and show have none
 abbrev pub conditions : Question → List Condition

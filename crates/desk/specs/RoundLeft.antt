@@ -1,7 +1,7 @@
--- The rest of a round in one call: so many steps as the round has rows left. It is no ninth call. Rests on Refused, Perform and Run.
+-- The rest of a round in one call: so many steps as the round has rows left. It is no call of its own. Rests on Refused, Perform and Run.
 --   stepsLeft, by leftIn: the steps that are left in the round
 --   finished, by stepsDone: the answer of the last of them, and the desk after them; Finishes: the same as a statement
---   Act: one of the eight calls, or the rest of a round; callsFor: the calls that a list of these amounts to; runActs: the desk after it
+--   Act: one of the calls, or the rest of a round; callsFor: the calls that a list of these amounts to; runActs: the desk after it
 use Prim.Native.Nat.{ℕ, _-_}
 use mathlib.Core.Path.{_≡_}
 use mathlib.Core.Bool.{cond}

@@ -120,7 +120,7 @@ condition-exactly (Condition.TableBytes t) v =
       λ h i l. ltb-true _ _ (all-at (tableSize c) (λ j. ltb (getD t j 0) (latticeSize c)) h i l),
       λ h. all-in _ _ (λ i l. lt-ltb _ _ (h i l)),
     )
-condition-exactly (Condition.Fits count b) v = (leb-true _ _, le-leb _ _)
+condition-exactly (Condition.Fits needed b) v = (leb-true _ _, le-leb _ _)
 
 -- the refusals that they give have numbers above 12
 refusal-late : (x : Condition) → 12 < numberOf (refusalOf x)
@@ -130,7 +130,7 @@ refusal-late (Condition.State m q) = omega arith
 refusal-late (Condition.Element e) = omega arith
 refusal-late (Condition.TableLength t) = omega arith
 refusal-late (Condition.TableBytes t) = omega arith
-refusal-late (Condition.Fits count b) = omega arith
+refusal-late (Condition.Fits needed b) = omega arith
 
 none-some : (r : Refusal) → none ≡ some r → ⊥
 none-some r e = let z : _≡_ {A = ℕ} 0 1 = cc in omega arith

@@ -13,14 +13,13 @@ use lib.ListN.{length, getD, drop, replicate, length-replicate, getD-replicate}
 use Rattle.theory.specs.Lattice.{Element}
 use Rattle.theory.specs.Simulation.{SameTable}
 use Rattle.theory.specs.Written.{written-length, written-at}
-use Rattle.casefile.specs.Reading.{Content, content, contentParts, caseReading}
-use Rattle.casefile.specs.Gapless.{gapless}
+use Rattle.casefile.specs.Reading.{Content, content, caseReading}
 use Rattle.casefile.specs.Accepted.{gapless-most}
 use Rattle.casefile.specs.Content.{ContentSound, content-sound}
 use Rattle.entries.specs.Table.{tableOf}
 use Rattle.rounds.specs.Round.{RoundSoFar, round-none, top-round}
 use Rattle.desk.specs.Desk.{Standing, Desk, wholeTable, otherTable}
-use Rattle.desk.specs.Case.{ops, model1, model2, N1, N2, tableSize, operator, roundIn, IsT}
+use Rattle.desk.specs.Case.{ops, model1, model2, N1, N2, tableSize, operator, roundIn, IsT, caseBytes}
 use Rattle.desk.specs.Refused.{short}
 use Rattle.desk.specs.RulesLaws.{long-enough}
 use Rattle.desk.specs.Moved.{opened, topped, stored}
@@ -81,7 +80,7 @@ module _ (c : Content) (T : ℕ) where
   pub record Stands (s : ℕ) (d : Desk) : Type 0 where
     pub known : Known c T
     pub rest : List ℕ
-    pub store-is : d .store ≡ gapless (contentParts c) ++ rest
+    pub store-is : d .store ≡ caseBytes c ++ rest
     pub store-long : 24576 ≤ length (d .store)
     pub sizes : SizesAre c (d .standing)
     pub progress : ProgressAt s d
@@ -115,7 +114,7 @@ module _ {c : Content} {T : ℕ} (known : Known c T) where
   topped-elements t h i l = rw (topped-at t h i l) (known-sound known .laws .top-element)
 
   stored-long : (s : List ℕ) → 24576 ≤ length s → 24576 ≤ length (stored c s)
-  stored-long s h = rw (written-length 0 (gapless (contentParts c)) s (omega (arith, gapless-most (known .case) c (known .reads)))) h
+  stored-long s h = rw (written-length 0 (caseBytes c) s (omega (arith, gapless-most (known .case) c (known .reads)))) h
 
   pub opening-starts : (d : Desk) → short d ≡ false → Stands c T 0 (opened c d)
   unfolding opened
@@ -123,7 +122,7 @@ module _ {c : Content} {T : ℕ} (known : Known c T) where
       let w = long-enough d n in
       record {
         known = known;
-        rest = drop (0 + length (gapless (contentParts c))) (d .store);
+        rest = drop (0 + length (caseBytes c)) (d .store);
         store-is = refl;
         store-long = stored-long (d .store) (w .store-long);
         sizes = (refl, refl);

@@ -12,13 +12,12 @@ use Rattle.theory.specs.Loop.{tab-length}
 use Rattle.theory.specs.Lists.{tab}
 use Rattle.theory.specs.Written.{written-length, written-after}
 use Rattle.theory.specs.Lists.{written}
-use Rattle.casefile.specs.Reading.{Content, content, contentParts}
-use Rattle.casefile.specs.Gapless.{gapless}
+use Rattle.casefile.specs.Reading.{Content, content}
 use Rattle.casefile.specs.Accepted.{gapless-most}
 use Rattle.casefile.specs.Content.{content-sound}
 use Rattle.model.specs.Places.{row-le}
 use Rattle.desk.specs.Desk.{Desk, Call, otherTable}
-use Rattle.desk.specs.Case.{ops, N1, N2, tableSize, operator}
+use Rattle.desk.specs.Case.{ops, N1, N2, tableSize, operator, caseBytes}
 use Rattle.desk.specs.View.{shownTable}
 use Rattle.desk.specs.Refused.{examined}
 use Rattle.desk.specs.Moved.{opened, topped, rowWorked, worked, stepped}
@@ -61,7 +60,7 @@ opened-same b c d a =
     let most = gapless-most b c (a .reads) in
     let few = content-sound b c (a .reads) .entries-most in
     record {
-      store-same = written-same 0 (gapless (contentParts c)) (d .store) 24576 (omega (arith, most, l .store-long)) (omega (arith, most));
+      store-same = written-same 0 (caseBytes c) (d .store) 24576 (omega (arith, most, l .store-long)) (omega (arith, most));
       first-same = topped-same c (d .first) (omega (arith, few, l .first-long));
       second-same = topped-same c (d .second) (omega (arith, few, l .second-long));
     }

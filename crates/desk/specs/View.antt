@@ -17,7 +17,7 @@ givenTable c t = tableOf t (N2 c)
 abbrev pub shownTable : Content → Desk → ℕ → ℕ → ℕ
 shownTable c d = givenTable c (wholeTable d)
 
--- what value, whole, score, share and judge are answered from: 'that case with round r shown'
+-- what value, whole, score, share, judge and write are answered from: 'that case with round r shown'
 pub record View : Type 0 where
   pub holds : Content
   pub round : ℕ

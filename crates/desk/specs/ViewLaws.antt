@@ -56,7 +56,7 @@ module _ (c : Content) (round : ℕ) (settled : Bool) (S U : ℕ → ℕ → ℕ
   test-same (Condition.Element e) = refl
   test-same (Condition.TableLength t) = refl
   test-same (Condition.TableBytes t) = refl
-  test-same (Condition.Fits count b) = refl
+  test-same (Condition.Fits needed b) = refl
 
   answer-same : (q : Question) → answerTo q (viewWith S) ≡ answerTo q (viewWith U)
   answer-same Question.Score = ap (λ (e : ℕ). replyAlone (Reply.Element e)) (score-cong (ops c) (model1 c) (model2 c) h)

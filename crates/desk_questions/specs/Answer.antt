@@ -1,12 +1,12 @@
--- What the calls that only read answer, in the desk's terms: for each of an enum's cases the number and values that document 01 gives. Rests on
+-- What the calls that only read the desk answer, in the desk's terms: for each of an enum's cases the number and values that document 01 gives. Rests on
 -- desk_check's Read and Answer, and desk's Refused.
---   Reads, Asks: what a call that only reads does, and a question; AsksWith: a question that is lent buffers to write into
+--   Reads, Asks: what a call that only reads the desk does, and a question; ReadsWith, AsksWith: those that are lent buffers to write into
 --   elementReply, valueReply, shareReply, judgeReply, lengthReply: each answer as the desk's reply
 use Prim.Native.Nat.{ℕ}
-use mathlib.Core.List.{List}
+use mathlib.Core.List.{List, []}
 use Rattle.desk_check.specs.declared.Standing.{Standing}
 use Rattle.desk_check.specs.Read.{deskOf}
-use Rattle.desk_check.specs.Answer.{Does, DoesWith}
+use Rattle.desk_check.specs.Answer.{DoesWith}
 use Rattle.desk.specs.Desk.{Call, Question, Reply}
 use Rattle.desk.specs.Refused.{numberReply}
 use Rattle.desk_questions.specs.declared.ElementAnswer.{ElementAnswer}
@@ -18,18 +18,21 @@ use Rattle.desk_questions.specs.declared.ShareAnswer.the-variants as sha
 use Rattle.desk_questions.specs.declared.JudgeAnswer.{JudgeAnswer}
 use Rattle.desk_questions.specs.declared.JudgeAnswer.the-variants as judge
 use Rattle.desk_questions.specs.declared.LengthAnswer.{LengthAnswer}
-use Rattle.desk_questions.specs.declared.LengthAnswer.the-variants as written
+use Rattle.desk_questions.specs.declared.LengthAnswer.the-variants as length
 
--- the call k on the desk of these four answers x and leaves that desk; so the question q
+-- the call k on the desk of these four answers x and leaves that desk, and `lent` in the buffers that it is lent to write into
+abbrev pub ReadsWith : List (List ℕ) → Call → Standing → List ℕ → List ℕ → List ℕ → Reply → Type 0
+ReadsWith lent k s store first second x = DoesWith lent k (deskOf s store first second) x (deskOf s store first second)
+
+-- one that is lent none; a question
 abbrev pub Reads : Call → Standing → List ℕ → List ℕ → List ℕ → Reply → Type 0
-Reads k s store first second x = Does k (deskOf s store first second) x (deskOf s store first second)
+Reads = ReadsWith []
 
 abbrev pub Asks : Question → Standing → List ℕ → List ℕ → List ℕ → Reply → Type 0
 Asks q = Reads (Call.Ask q)
 
--- and leaves `lent` in the buffers that it is lent to write into
 abbrev pub AsksWith : List (List ℕ) → Question → Standing → List ℕ → List ℕ → List ℕ → Reply → Type 0
-AsksWith lent q s store first second x = DoesWith lent (Call.Ask q) (deskOf s store first second) x (deskOf s store first second)
+AsksWith lent q = ReadsWith lent (Call.Ask q)
 
 abbrev pub elementReply : ElementAnswer → Reply
 elementReply (element.Refused r) = numberReply r
@@ -48,5 +51,5 @@ judgeReply (judge.Refused r) = numberReply r
 judgeReply (judge.Says b) = Reply.Says b
 
 abbrev pub lengthReply : LengthAnswer → Reply
-lengthReply (written.Refused r) = numberReply r
-lengthReply (written.Length n) = Reply.Length n
+lengthReply (length.Refused r) = numberReply r
+lengthReply (length.Length n) = Reply.Length n

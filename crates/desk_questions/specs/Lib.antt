@@ -1,4 +1,4 @@
--- What the calls that only read answer, in the desk's terms; then what their proofs use.
+-- What the calls that only read the desk answer, in the desk's terms; then what their proofs use.
 -- ---- what a reader must believe
 pub mod Answer  -- what show and a question do, and each enum of answers as the desk's reply
 -- ---- for the code

@@ -1,13 +1,10 @@
 -- What write does on a desk that is held, from what the code found. Rests on desk_check's Held, casefile's Accepted and Gapless, desk's Case.
---   length-fits: 32 bits hold the length
 --   held-write, write-short: write answered, and refused with 14
 use Prim.Native.Nat.{ℕ, _≤_, _<_}
 use mathlib.Core.Path.{_≡_, ap, _∙_}
-use mathlib.Core.Bool.{Bool, true, false}
 use mathlib.Core.List.{List, [], _∷_}
 use native.Mathlib.Omega.{arith}
 use borrow.Author.Tests.{le-leb, lt-leb}
-use lib.Dec.{leb}
 use lib.ListN.{length, take}
 use Rattle.theory.specs.Lists.{written}
 use Rattle.theory.specs.TestLaws.{cond-true, cond-false}

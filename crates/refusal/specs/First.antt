@@ -2,8 +2,8 @@
 -- number and part tell the refusals apart. Rests on Number.
 --   first-here: the test's own answer is given exactly when its condition is broken
 --   first-later: another is given exactly when the condition holds and it is given next; first-never: it is not given
---   refusal-unique: refusals with the same number and part are the same
-use Prim.Native.Nat.{ℕ}
+--   refusal-unique: refusals with the same number and part are the same; late-part: those from 11 on name no part
+use Prim.Native.Nat.{ℕ, _<_}
 use mathlib.Core.Path.{_≡_, refl, sym, ap₂, _∙_}
 use mathlib.Core.Bool.{Bool, true, false, cond}
 use mathlib.Core.Logic.{_↔_}
@@ -66,3 +66,20 @@ refusal-back ShortBuffer = refl
 
 pub refusal-unique : (r s : Refusal) → numberOf r ≡ numberOf s → partOf r ≡ partOf s → r ≡ s
 refusal-unique r s n p = sym (refusal-back r) ∙ ap₂ refusalOf n p ∙ refusal-back s
+
+-- 'From here on a new refusal gives part 255' (request 105), as 11, 12 and 13 do
+pub late-part : (r : Refusal) → 10 < numberOf r → partOf r ≡ 255
+late-part ShortDesk l = refl
+late-part CaseSize l = absurd (omega arith)
+late-part Directory l = absurd (omega arith)
+late-part (PartPlace p) l = absurd (omega arith)
+late-part LatticeForm l = absurd (omega arith)
+late-part NoPartialOrder l = absurd (omega arith)
+late-part NoMeetOrJoin l = absurd (omega arith)
+late-part NotDistributive l = absurd (omega arith)
+late-part BadComplement l = absurd (omega arith)
+late-part (BadModel p) l = absurd (omega arith)
+late-part (BadFormula p) l = absurd (omega arith)
+late-part SpoiledDesk l = refl
+late-part OutOfRange l = refl
+late-part ShortBuffer l = refl

@@ -123,7 +123,7 @@ fn write(s: Standing, n: u8, store: &[u8], first: &[u8], second: &[u8]) {
     }
 }
 
-// The calls that only read, by the word's letter.
+// The calls that only read the desk, by the word's letter.
 fn ask<'a>(s: Standing, letter: u8, bytes: &[u8], store: &[u8], first: &'a [u8], second: &'a [u8]) {
     let a = at(bytes, 0);
     let b = at(bytes, 1);

@@ -186,7 +186,7 @@ fn zeros(s: Standing, store: &mut [u8], first: &mut [u8], second: &mut [u8]) -> 
 
 // On the settled desk: a formula, a model, an element and a table that it does not have, and a buffer one byte too short.
 fn outside<'a>(s: Standing, store: &[u8], first: &'a [u8], second: &'a [u8]) {
-    say(b"# out of range\n");
+    say(b"# out of range, and a buffer too short\n");
     valued(s, 1, 1, store, first, second);
     valued(s, 0, 3, store, first, second);
     asked(s, 2, b"", store, first, second);

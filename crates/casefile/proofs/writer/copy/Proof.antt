@@ -7,7 +7,7 @@ use native.Mathlib.Numerals.{add-one}
 use native.Mathlib.Omega.{arith}
 use lib.ListN.{length, getD, set}
 use lib.Seq.{paste, paste-zero, paste-suc, length-paste}
-use Rattle.casefile.specs.Writer.{copied}
+use Rattle.casefile.specs.Appended.{copied}
 use Rattle.casefile.proofs.writer.copy.Statement.{statement}
 use Rattle.casefile.proofs.writer.copy.Tie as tie
 

@@ -1,6 +1,6 @@
 -- `casefile::writer::put_pair` meets its contract: two u16 numbers.
 use borrow.Author.Needs.{needs}
-use Rattle.casefile.specs.Writer.{pair-put}
+use Rattle.casefile.specs.Appended.{pair-put}
 use Rattle.casefile.proofs.writer.put_pair.Statement.{statement}
 use Rattle.casefile.proofs.writer.put_pair.Tie as tie
 
