@@ -1,8 +1,8 @@
 #!/bin/sh
 # Builds round_by_round.c, runs it on the cases here, on a case with bytes after its parts, on one that is cut off and on no input, and
-# compares what it prints with expected.txt, and the case that it writes with the one here, which has no gaps. Prints 'ok', or the
-# difference and ends with status 1; status 2 where it could not be built. Needs the archive of `rt staticlib exports`. CC and CFLAGS may
-# name another compiler and more options.
+# compares what it prints with expected.txt, and the case that it writes with the one here, which has no gaps; a name that cannot be
+# written has to be said. Prints 'ok', or the difference and ends with status 1; status 2 where it could not be built. Needs the archive of
+# `rt staticlib exports`. CC and CFLAGS may name another compiler and more options.
 cd "$(dirname "$0")/../.." || exit 2
 archive=target/staticlib/libexports.a
 if [ ! -f "$archive" ]; then
@@ -33,12 +33,20 @@ written() {
     rm -f "$work/written.bytes"
 }
 
+# What a run says of a name that it cannot write, here that of a directory, and its exit status.
+unwritable() {
+    echo "== $1, written back to a directory"
+    { "$work/round_by_round" examples/c < "$2" > /dev/null; } 2>&1
+    echo "exit status $?"
+}
+
 {
     run "example 1" examples/c/example1.bytes
     run "example 4" examples/c/example4.bytes
     run "examples/covered-from.case" examples/c/covered-from.bytes
     written "example 4" examples/c/example4.bytes examples/c/example4.bytes
     written "example 1 and bytes after it" "$work/longer.bytes" examples/c/example1.bytes
+    unwritable "example 1" examples/c/example1.bytes
     run "example 1 without its last byte" "$work/cut.bytes"
     run "no input" /dev/null
 } > "$work/output.txt"

@@ -10,9 +10,12 @@
        target/round_by_round target/written.bytes < examples/c/example4.bytes
        cargo koelchair decode target/written.bytes
 
-   Exit status: 0 the case was opened, 1 a call was refused, 2 standard input could not be read or the file not be written. */
+   Exit status: 0 the case was opened, 1 a call was refused, or write was not where its buffer was too short, 2 standard input could not
+   be read or the file could not be written. */
+#include <errno.h>
 #include <stdio.h>
 #include <stdlib.h>
+#include <string.h>
 
 #include "koelchair.h"
 
@@ -182,7 +185,7 @@ static void print_sizes(const struct desk *d)
 
 /* ---- the case written back */
 
-/* A file with these bytes; false where it cannot be written. */
+/* A file with these bytes; false where it cannot be written, and errno then says why. */
 static bool put_file(const char *name, const uint8_t *bytes, size_t length)
 {
     FILE *file = fopen(name, "wb");
@@ -192,7 +195,7 @@ static bool put_file(const char *name, const uint8_t *bytes, size_t length)
     return fclose(file) == 0 && whole;
 }
 
-/* Has the desk write its case into a buffer that is long enough for every case, and shows what it says to one that is a byte too short.
+/* Has the desk write its case into a buffer that is long enough for every case, and prints what it says to one that is a byte too short.
    Where a file is named the case is put there; false where that fails. */
 static bool write_case(const struct desk *d, const char *name)
 {
@@ -202,7 +205,12 @@ static bool write_case(const struct desk *d, const char *name)
     size_t length = written.value;
     printf("write: %lu bytes\n", (unsigned long)length);
     koelchair_answer shorter = koelchair_write(LENT(d), out, length - 1);
-    printf("write into %lu bytes: refused %d %d: %s\n", (unsigned long)length - 1, shorter.number, shorter.part, koelchair_refusal_words(shorter.number));
+    printf("write into %lu bytes: ", (unsigned long)length - 1);
+    if (shorter.kind != KOELCHAIR_REFUSED) {
+        printf("not refused\n");
+        exit(EXIT_FAILURE);
+    }
+    printf("refused %d %d: %s\n", shorter.number, shorter.part, koelchair_refusal_words(shorter.number));
     return name == NULL || put_file(name, out, length);
 }
 
@@ -243,7 +251,7 @@ int main(int argc, char **argv)
     }
     const char *name = argc > 1 ? argv[1] : NULL;
     if (!write_case(&d, name)) {
-        fprintf(stderr, "%s could not be written\n", name);
+        fprintf(stderr, "%s could not be written: %s\n", name, strerror(errno));
         return 2;
     }
     return EXIT_SUCCESS;
