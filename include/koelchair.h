@@ -63,7 +63,7 @@ extern "C" {
 #define KOELCHAIR_PER_CENT 6      /* value is 0 to 100 */
 #define KOELCHAIR_SAYS 7          /* value is 1 for yes, 0 for no */
 #define KOELCHAIR_FORMULA_VALUE 9 /* value is the element; byte, flag1 and flag2 are facts of the formula */
-#define KOELCHAIR_LENGTH 10       /* value is the length */
+#define KOELCHAIR_LENGTH 10       /* value is how many bytes were written */
 
 /* ---- numbers of refusals; koelchair_refusal_words says what each means. The part is that of the case, or KOELCHAIR_NO_PART. */
 
@@ -266,11 +266,12 @@ koelchair_answer koelchair_judge(koelchair_standing standing,
 
 /* Writes the desk's case at the front of out, as koelchair_open takes it: the count of parts, the directory, and the parts, each where
    the one before it ends, without the gaps that the case may have had. A lattice part of the one byte 0 stays that byte, and the same
-   lattice as a table stays a table. Writes these bytes alone, at most KOELCHAIR_WRITTEN_MOST, and keeps those after them; out overlaps
-   neither the store nor a table. Rounds, tables and gaps do not show in what is written: desks of the same parts give the same bytes.
-   Opening them makes a desk of the same case at round 0, all entries of both tables top, which gives the same bytes again.
-   KOELCHAIR_LENGTH with the number of bytes written, or KOELCHAIR_REFUSED with 11, with 12, or with 14 where out is shorter than what is
-   to be written, the first of these that applies; then nothing is written. */
+   lattice given by its complements and order stays so (757 bytes). Writes these bytes alone and keeps those after them; out overlaps
+   neither the store nor a table. Neither rounds nor entries nor gaps can be seen in what is written: desks of the same parts give the
+   same bytes. Opening them makes a desk of the same case at round 0, all entries of both tables top, which gives the same bytes again.
+   KOELCHAIR_LENGTH, or KOELCHAIR_REFUSED with 11, with 12, or with 14 where out is shorter than what is to be written, the first of
+   these that applies; then nothing is written. An out of KOELCHAIR_WRITTEN_MOST bytes is long enough for every case, so that 14 is then
+   never given. */
 koelchair_answer koelchair_write(koelchair_standing standing,
                                  const uint8_t *store, size_t store_length,
                                  const uint8_t *first, size_t first_length,

@@ -307,8 +307,8 @@ class Desk:
         return self._asked(_library.koelchair_judge, table, len(table)) == 1
 
     def write(self):
-        """The desk's case as bytes: its directory, then its parts without gaps, the lattice in the form in which it was opened. Rounds and
-        tables do not show in them; a desk of these bytes begins at round 0."""
+        """The desk's case as bytes: its directory, then its parts without gaps, the lattice in the form in which it was opened. Neither
+        rounds nor entries nor gaps can be seen in them; a desk of these bytes begins at round 0."""
         out = ctypes.create_string_buffer(WRITTEN_MOST)
         length = self._asked(_library.koelchair_write, out, WRITTEN_MOST)
         return out[:length]

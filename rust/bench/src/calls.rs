@@ -1,4 +1,4 @@
-//! Each call, write and the whole report, measured on one case by the proved library and by another.
+//! Each call and the whole report, measured on one case by the proved library and by another.
 
 use crate::cases::Setting;
 use crate::libraries::{assert_same, put_back, Given, Library, Proved};

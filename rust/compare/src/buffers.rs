@@ -25,7 +25,7 @@ const HALF_ROUND: &str = "written of a desk with a half-worked round";
 const GAPS: &str = "written of a store with gaps";
 const NO_GAPS: &str = "written of a store without gaps";
 const PANEL_BYTE: &str = "written, the panel lattice as its byte";
-const PANEL_TABLE: &str = "written, the panel lattice as its table";
+const PANEL_ORDER: &str = "written, the panel lattice by its complements and order";
 const MOST: &str = "written, 16,618 bytes";
 
 /// All that is counted of a writing.
@@ -48,7 +48,7 @@ pub const NAMES: [&str; 20] = [
     GAPS,
     NO_GAPS,
     PANEL_BYTE,
-    PANEL_TABLE,
+    PANEL_ORDER,
     MOST,
 ];
 
@@ -171,7 +171,7 @@ fn written(desk: &Desk, case: &[u8]) -> Vec<&'static str> {
         (lattice == [0], PANEL_BYTE),
         (
             lattice.first() == Some(&27) && lattice == lattices::panel().part(),
-            PANEL_TABLE,
+            PANEL_ORDER,
         ),
         (case.len() == WRITTEN_MOST, MOST),
     ];
@@ -238,9 +238,9 @@ mod tests {
         let expected = [LONGER, OVER_16_BITS, AT_ROUND_0, NO_GAPS, PANEL_BYTE];
         assert_eq!(of_none, expected);
         let panel = lattices::panel().part();
-        let table = desk(&[panel, vec![6, 7], vec![8]], &[0; 4]);
-        let of_table = buffer(774).met(&table, &Reply::Length(773));
-        assert_eq!(of_table, [ONE_LONGER, AT_ROUND_0, NO_GAPS, PANEL_TABLE]);
+        let ordered = desk(&[panel, vec![6, 7], vec![8]], &[0; 4]);
+        let of_ordered = buffer(774).met(&ordered, &Reply::Length(773));
+        assert_eq!(of_ordered, [ONE_LONGER, AT_ROUND_0, NO_GAPS, PANEL_ORDER]);
         for (length, name) in [(0, EMPTY), (15, SHORTER), (16, ONE_SHORT)] {
             assert_eq!(buffer(length).met(&gaps, &refused(14)), [name]);
         }

@@ -5,8 +5,8 @@ use crate::desks::Desk;
 use koelchair::{Element, State};
 use second::Reply;
 
-/// The calls but write, `FinishRound`, which is as many steps as the round has rows left, and `Entry`, the work on one entry. Write is a
-/// function of its own ([`proved_write`], [`second_write`]), since a buffer is lent to it.
+/// All calls except write; besides them `FinishRound`, which is as many steps as the round has rows left, and `Entry`, the work on one
+/// entry. Write is a function of its own ([`proved_write`], [`second_write`]), since a buffer is lent to it.
 #[derive(Clone, Debug)]
 pub enum Call {
     Open(Vec<u8>),

@@ -162,7 +162,7 @@ fn assembled(lattice: Lattice, part: Vec<u8>, models: [Model; 2], formulas: Vec<
     }
 }
 
-/// A lattice and its part; the panel's is mostly the one byte 0, else its table.
+/// A lattice and its part; the panel's is mostly the one byte 0, else its complements and order.
 fn lattice(random: &mut Random, most: usize) -> (Lattice, Vec<u8>) {
     if random.one_in(40) || (most >= 27 && random.one_in(6)) {
         let panel = lattices::panel();

@@ -106,11 +106,11 @@ fn both_forms_of_the_panel_lattice_are_kept() {
         let desk = opened(&mut pair, &by_byte);
         let mut parts = desk.parts().expect("a desk as opened");
         assert_eq!(parts[0], [0]);
-        let table = lattices::panel().part();
-        parts[0] = &table;
-        let by_table = cases::gapless(&parts);
-        assert_eq!(by_table.len(), by_byte.len() + 756);
-        for case in [by_byte, by_table] {
+        let ordered = lattices::panel().part();
+        parts[0] = &ordered;
+        let by_order = cases::gapless(&parts);
+        assert_eq!(by_order.len(), by_byte.len() + 756);
+        for case in [by_byte, by_order] {
             opened(&mut pair, &case);
             let length = Reply::Length(case.len());
             assert_eq!(write(random, &mut pair, case.len()), length);

@@ -124,8 +124,8 @@ impl Desk {
     }
 
     /// The desk's case, written back: its directory first, then its parts without gaps. The panel lattice is written as its one
-    /// byte if it was opened so, and as a table of 27 elements if it was opened as that table. Neither the rounds nor the tables
-    /// show in what is written, and opening it gives a desk of the same case at round 0.
+    /// byte if it was opened so, and by its complements and order if these were given (757 bytes). Neither rounds nor entries nor
+    /// gaps can be seen in what is written, and opening it gives a desk of the same case at round 0.
     ///
     /// ```
     /// use koelchair::Desk;

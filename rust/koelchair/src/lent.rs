@@ -106,8 +106,8 @@ impl<'a> DeskRef<'a> {
         answer::says(raw::judge(self, table))
     }
 
-    /// The desk's case, written back: its directory first, then its parts without gaps, each as it stands in the store; see
-    /// [`Desk::write`](crate::Desk::write).
+    /// The desk's case, written back: its directory first, then its parts without gaps, each as it stands in the store. Neither
+    /// rounds nor entries can be seen in it; see [`Desk::write`](crate::Desk::write).
     ///
     /// Refused with 11 or 12.
     pub fn write(self) -> Result<Vec<u8>, Refusal> {

@@ -21,8 +21,8 @@ pub struct RefusalEntry {
 /// Makes of the table the enum, its number and part, the refusal that a number and a part name, and the table as data.
 macro_rules! refusals {
     ($($number:literal $name:ident $(($field:ident: $type:ty))? => $part:expr, $words:literal;)*) => {
-        /// Why a call was refused. The first refusal that applies is given: 11, then 1 to 10 for a case; 11, then 12, then 13, or 14
-        /// where a case is written back, for every other call.
+        /// Why a call was refused. The first refusal that applies is given, in this order: for open 11, then 1 to 10; for write 11,
+        /// 12, 14; for every other call 11, 12, 13.
         ///
         /// ```
         /// use koelchair::{Desk, Refusal};

@@ -27,7 +27,7 @@ struct Form {
 
 /// A checked lattice, with its meets and joins worked out into tables.
 pub struct Lattice {
-    /// Whether the part is the one byte 0. The panel lattice may stand in a part as its table too.
+    /// Whether the part is the one byte 0. The panel lattice may also be given by its complements and order.
     one_byte: bool,
     complement: Vec<Element>,
     order: Order,

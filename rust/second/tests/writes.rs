@@ -77,7 +77,7 @@ fn places_above_255() {
 }
 
 #[test]
-fn neither_round_nor_tables_show() {
+fn neither_round_nor_entries_are_seen() {
     let model1: &[u8] = &[2, 1, 1, 0, 0, 1, 0, 1, 0, 0];
     let model2: &[u8] = &[2, 1, 1, 0, 0, 0, 0, 1, 0, 0];
     let parts = [L2, model1, model2, &[7, 3, 0]];
@@ -95,20 +95,21 @@ fn neither_round_nor_tables_show() {
     assert_opens(&desk.written(), 1);
 }
 
-/// "the panel lattice as its one byte if it was loaded so": as a table if it was loaded as its table, though the two desks answer alike.
+/// "the panel lattice as its one byte if it was loaded so": by its complements and order if these were
+/// loaded, though the two desks answer alike.
 #[test]
 fn both_forms_of_the_panel_lattice() {
     let places = |e: u8| [e / 9, e / 3 % 3, e % 3];
     let below = |i, j| places(i).iter().zip(places(j)).all(|(&x, y)| x <= y);
-    let table = lattice(27, |e| 26 - e, below);
-    assert_eq!(table.len(), 757);
+    let ordered = lattice(27, |e| 26 - e, below);
+    assert_eq!(ordered.len(), 757);
     let (model1, model2): (&[u8], &[u8]) = (&[1, 1, 26, 14, 9], &[1, 1, 26, 13, 0]);
     let with = |lattice| [lattice, model1, model2, &[8, 2, 0]];
-    let (by_byte, by_table) = (with(&[0]), with(&table));
-    let (byte, explicit) = (Desk::settled(&by_byte), Desk::settled(&by_table));
+    let (by_byte, by_order) = (with(&[0]), with(&ordered));
+    let (byte, explicit) = (Desk::settled(&by_byte), Desk::settled(&by_order));
     assert_eq!(byte.show(), explicit.show());
     assert_eq!(byte.score(), explicit.score());
-    for (desk, parts, length) in [(byte, by_byte, 31), (explicit, by_table, 787)] {
+    for (desk, parts, length) in [(byte, by_byte, 31), (explicit, by_order, 787)] {
         let written = desk.written();
         assert_eq!(written.len(), length);
         assert_eq!(written, case(&parts));
@@ -117,7 +118,7 @@ fn both_forms_of_the_panel_lattice() {
 }
 
 /// "Two desks with the same reading, the form of the lattice included, give the same bytes": the store is altered from outside, and gaps,
-/// the bytes in them and the bytes after the parts do not show.
+/// the bytes in them and the bytes after the parts cannot be seen in what is written.
 #[test]
 fn stores_with_gaps() {
     let parts: [&[u8]; 5] = [L3, LOOP, STILL, &[10, 7, 4, 0], &[1]];

@@ -11,8 +11,8 @@ pub const L3: [u8; 13] = [3, 2, 1, 0, 1, 1, 1, 0, 1, 1, 0, 0, 1];
 /// The lattice of one element.
 pub const L1: [u8; 3] = [1, 0, 1];
 
-/// The panel lattice as a table of its 27 elements: number 9a + 3b + c for three answers of 0 to 2.
-pub fn panel_table() -> Vec<u8> {
+/// The panel lattice by the complements and order of its 27 elements: number 9a + 3b + c for three answers of 0 to 2.
+pub fn panel_by_order() -> Vec<u8> {
     let answers = |e: u8| [e / 9, e / 3 % 3, e % 3];
     let at_most = |e, f| (0..3).all(|i| answers(e)[i] <= answers(f)[i]);
     let mut part = vec![27];

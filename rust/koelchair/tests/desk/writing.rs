@@ -144,13 +144,13 @@ fn another_case_in_the_store() {
     }
 }
 
-/// The panel lattice is the same by its one byte and by a table, and each is written in its own form.
+/// The panel lattice is the same by its one byte and by its complements and order, and each is written in its own form.
 #[test]
 fn the_form_of_the_lattice_is_kept() {
     let (model_1, model_2) = ([1, 1, 26, 14, 5], [1, 1, 26, 22, 13]);
-    let table = cases::panel_table();
-    assert_eq!(table.len(), 757);
-    let [by_byte, by_table] = [&[0][..], &table].map(|lattice| {
+    let ordered = cases::panel_by_order();
+    assert_eq!(ordered.len(), 757);
+    let [by_byte, by_order] = [&[0][..], &ordered].map(|lattice| {
         let case = case(&[lattice, &model_1, &model_2]);
         let mut desk = Lent::opened(&case);
         assert_eq!(written(&desk), case);
@@ -160,8 +160,8 @@ fn the_form_of_the_lattice_is_kept() {
         assert_eq!(written(&desk), case);
         desk
     });
-    assert_eq!(by_byte.lent().show(), by_table.lent().show());
-    assert_eq!(by_byte.lent().score(), by_table.lent().score());
+    assert_eq!(by_byte.lent().show(), by_order.lent().show());
+    assert_eq!(by_byte.lent().score(), by_order.lent().score());
 }
 
 /// What was written of a settled desk is opened: the desk is that of the case before its first step, and writes the same again.
