@@ -1,8 +1,9 @@
--- The worked examples of document 01 that are marked as proved, with the shares of request 101 and some more, in one list, each as a statement.
+-- The worked examples of document 01 that are marked as proved, with the shares of request 101, the bound of request 106 and some more, in one list, each as a statement.
 -- Rests on Part, Simulation, Value, Lists.
 --   Example, ExampleHolds: what an example says, over lattices and models given by the bytes of their parts (partOps, entries)
---   L1, L2, L3, subsets: the lattices; middleP, loop2, still2, loop3, still3, stepP, stepNoP, branches, reaches, only: the models
---   example1 .. example6 (with the tables onesOf), table1, reported: the examples; examples: all of them
+--   L1, L2, L3, subsets: the lattices; middleP, loop2, still2, loop3, still3, stepP, stepNoP, laterP, loopNoP, branches, reaches, only: the
+--     models
+--   example1 .. example6 (with the tables onesOf), table1, reported, wholeBound: the examples; examples: all of them
 use Prim.Native.Nat.{ℕ, zero, suc}
 use mathlib.Core.Path.{_≡_}
 use mathlib.Core.Bool.{false}
@@ -10,7 +11,7 @@ use mathlib.Core.List.{List, [], _∷_, _++_}
 use lib.Dec.{ltb}
 use lib.ListN.{length, getD}
 use Rattle.theory.specs.Lattice.{Ops, imp}
-use Rattle.theory.specs.Formula.{Formula, prop, negated, var, and, AX, EX, nu, nestedAX}
+use Rattle.theory.specs.Formula.{Formula, bottom, top, prop, negated, var, and, AX, EX, nu, nestedAX}
 use Rattle.theory.specs.Value.{valueAt, wholeValue}
 use Rattle.theory.specs.Simulation.{round, FirstUnchanged, score, indicator, share}
 use Rattle.theory.specs.Part.{isMeet, isJoin, meetOf, joinOf, topOf, botOf, element, opsOf, explicitPart, modelOf}
@@ -43,6 +44,8 @@ pub data Example : Type 0 where
   -- the value of a formula on a whole model, and the score of round r
   wholeIs : (lattice model : List ℕ) (φ : Formula) (v : ℕ) → Example
   scoreIs : (lattice model₁ model₂ : List ℕ) (r v : ℕ) → Example
+  -- the score of round r is not at most 'not the formula's whole value on model a, joined with its whole value on model b'
+  scoreExceeds : (lattice model₁ model₂ : List ℕ) (r : ℕ) (φ : Formula) (a b : List ℕ) → Example
   -- the share of a table's entries at or above an element
   shareIs : (lattice table : List ℕ) (l share : ℕ) → Example
 
@@ -55,6 +58,8 @@ ExampleHolds (exceeds l m₁ m₂ r φ q₁ q₂) =
     partOps l .atMost (round (partOps l) (modelOf m₁) (modelOf m₂) r q₁ q₂) (imp (partOps l) (valueAt (partOps l) (modelOf m₂) φ q₂) (valueAt (partOps l) (modelOf m₁) φ q₁)) ≡ false
 ExampleHolds (wholeIs l m φ v) = wholeValue (partOps l) (modelOf m) φ ≡ v
 ExampleHolds (scoreIs l m₁ m₂ r v) = score (partOps l) (modelOf m₁) (modelOf m₂) (round (partOps l) (modelOf m₁) (modelOf m₂) r) ≡ v
+ExampleHolds (scoreExceeds l m₁ m₂ r φ a b) =
+    partOps l .atMost (score (partOps l) (modelOf m₁) (modelOf m₂) (round (partOps l) (modelOf m₁) (modelOf m₂) r)) (imp (partOps l) (wholeValue (partOps l) (modelOf a) φ) (wholeValue (partOps l) (modelOf b) φ)) ≡ false
 ExampleHolds (shareIs l t a s) = share (partOps l) (length t) (λ i. getD t i 0) a ≡ s
 
 -- ---- the lattices: 'L2 is 0 below 1; L3 is 0 below 1 below 2 with not-1 = 1', one element, and the subsets of {a, b, c}
@@ -97,6 +102,14 @@ stepP = 2 ∷ 1 ∷ 1 ∷ 0 ∷ 0 ∷ 1 ∷ 0 ∷ 1 ∷ 0 ∷ 0 ∷ []
 
 abbrev pub stepNoP : List ℕ
 stepNoP = 2 ∷ 1 ∷ 1 ∷ 0 ∷ 0 ∷ 0 ∷ 0 ∷ 1 ∷ 0 ∷ 0 ∷ []
+
+-- three states, transitions from 0 to 1 and from 1 to 2; p = 0, 0, 1
+abbrev pub laterP : List ℕ
+laterP = 3 ∷ 1 ∷ 1 ∷ 0 ∷ 0 ∷ 0 ∷ 0 ∷ 1 ∷ 0 ∷ 1 ∷ 0 ∷ 0 ∷ 0 ∷ 1 ∷ 0 ∷ 0 ∷ 0 ∷ []
+
+-- one state with a loop; p = 0
+abbrev pub loopNoP : List ℕ
+loopNoP = 1 ∷ 1 ∷ 1 ∷ 0 ∷ 1 ∷ []
 
 -- example 1 of 000: three states; p is {a, b}, {b} and {b, c}; from q0 a transition of {b, c} to each of the others
 abbrev pub branches : List ℕ
@@ -162,5 +175,15 @@ table1 = valueIs subsets reaches always 0 3 ∷ valueIs subsets reaches always 1
 abbrev pub reported : List Example
 reported = scoreIs L3 middleP middleP 2 1 ∷ wholeIs L3 middleP (prop 0) 1 ∷ []
 
+-- request 106: what the bound of the score rests on, each where the score would exceed it. AX of not-p, with 1 nested AX, at round 1 of example 4: fewer
+-- than r are needed. νz.¬p∧AXz at round 2, where T is 4: no fixpoint. EX of top at T of example 2 exchanged: no EX. And there AX of bottom, with the models
+-- exchanged in the bound, which goes from model 2 to model 1.
+abbrev pub wholeBound : List Example
+wholeBound =
+    scoreExceeds L2 stepP stepNoP 1 (AX (negated 0)) stepNoP stepP
+    ∷ settlesAt L2 laterP loopNoP 4 ∷ scoreExceeds L2 laterP loopNoP 2 (nu (and (negated 0) (AX (var 0)))) loopNoP laterP
+    ∷ scoreExceeds L2 still2 loop2 1 (EX top) loop2 still2
+    ∷ scoreExceeds L2 still2 loop2 1 (AX bottom) still2 loop2 ∷ []
+
 abbrev pub examples : List (List Example)
-examples = example1 ∷ example2 ∷ example3 ∷ example4 ∷ example5 ∷ example6 ∷ table1 ∷ reported ∷ []
+examples = example1 ∷ example2 ∷ example3 ∷ example4 ∷ example5 ∷ example6 ∷ table1 ∷ reported ∷ wholeBound ∷ []

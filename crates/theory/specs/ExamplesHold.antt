@@ -24,7 +24,7 @@ use Rattle.theory.specs.Test.{allBelow}
 use Rattle.theory.specs.TestLaws.{all-at, all-in, and-l, and-r, and-in, false-true}
 use Rattle.theory.specs.Lists.{tab}
 use Rattle.theory.specs.Monotone.{body-cong, iterate-stays}
-use Rattle.theory.specs.Examples.{partOps, ExampleHolds, L2, subsets, loop2, still2, reaches, always, example1, example2, example3, example4, example5, example6, table1, reported, examples, settlesAt}
+use Rattle.theory.specs.Examples.{partOps, ExampleHolds, L2, subsets, loop2, still2, reaches, always, example1, example2, example3, example4, example5, example6, table1, reported, wholeBound, examples, settlesAt}
 
 -- ---- T by a test that is computed
 
@@ -98,10 +98,14 @@ reported-holds : All ExampleHolds reported
 unfolding partOps roundOf F wholeValue score eval bigMeet bigJoin imp iff
 reported-holds = (refl, (refl, tt))
 
+wholeBound-holds : All ExampleHolds wholeBound
+unfolding partOps unchangedTest roundOf F wholeValue score eval bigMeet bigJoin imp iff
+wholeBound-holds = (refl, (settles-by-test _ _ _ 4 refl refl, (refl, (refl, (refl, tt)))))
+
 -- ---- Theorem 8
 
 pub examples-hold : All (All ExampleHolds) examples
-examples-hold = (example1-holds, (example2-holds, (example3-holds, (example4-holds, (example5-holds, (example6-holds, (table1-holds, (reported-holds, tt))))))))
+examples-hold = (example1-holds, (example2-holds, (example3-holds, (example4-holds, (example5-holds, (example6-holds, (table1-holds, (reported-holds, (wholeBound-holds, tt)))))))))
 
 -- ---- 'T is at most N1·N2·(h − 1) + 1' is met in example 2, with h = 2
 

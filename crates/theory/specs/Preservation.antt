@@ -13,7 +13,7 @@ use Rattle.theory.specs.Lattice.{Ops, Laws, AtMost, imp, bigMeet, bigJoi
 use Rattle.theory.specs.Model.{Model}
 use Rattle.theory.specs.Formula.{Formula, bottom, top, prop, negated, var, or, and, AX, EX, mu, nu, closedUnder, universal, fixpointFree, overProps, nestedAX, UniversalSentence}
 use Rattle.theory.specs.Value.{iterate, bind, allNext, someNext, eval, enough, valueAt, wholeValue}
-use Rattle.theory.specs.Simulation.{propositionPart, successorPart, F, roundOf, round, PostFixedBy, Bounds, FirstUnchanged, score}
+use Rattle.theory.specs.Simulation.{propositionPart, successorPart, F, roundOf, round, PostFixedBy, Bounds, BoundsWhole, FirstUnchanged, score}
 use Rattle.theory.specs.Folds.{bigMeet-le, bigMeet-mono, bigJoin-lub, join-bigMeet, meet-mono, join-mono, imp-mono, imp-meet, imp-join, imp-bot, imp-top, imp-neg, iff-l, iff-r, de-morgan-join}
 use Rattle.theory.specs.TestLaws.{and-l, and-r, false-true}
 use Rattle.theory.specs.Fixpoint.{applications-le}
@@ -143,14 +143,14 @@ module _ {A : Type 0} {O : Ops A} (L : Laws O) (M₁ M₂ : Model A) where
   pub bounded-at-T : (T : ℕ) → FirstUnchanged O M₁ M₂ T → (φ : Formula) → UniversalSentence (M₁ .propositions) φ → Bounds O M₁ M₂ (round O M₁ M₂ T) (valueAt O M₁ φ) (valueAt O M₂ φ)
   bounded-at-T T f = bounded-table (round O M₁ M₂ T) (settled-below L M₁ M₂ T f)
 
-  -- ---- theorem 7 (theorem 6.1 of 000): the score is at most 'not the whole value on model 2, joined with the whole value on model 1'
+  -- ---- theorem 7 (theorem 6.1 of 000): the score bounds the whole values
 
-  pub score-bounds : (S : ℕ → ℕ → A) (φ : Formula) → Bounds O M₁ M₂ S (valueAt O M₁ φ) (valueAt O M₂ φ) → AtMost O (score O M₁ M₂ S) (imp O (wholeValue O M₂ φ) (wholeValue O M₁ φ))
+  pub score-bounds : (S : ℕ → ℕ → A) (φ : Formula) → Bounds O M₁ M₂ S (valueAt O M₁ φ) (valueAt O M₂ φ) → BoundsWhole O M₁ M₂ (score O M₁ M₂ S) φ
   unfolding score wholeValue
   score-bounds S φ h = bounds-moves S (valueAt O M₁ φ) (valueAt O M₂ φ) (M₁ .initial) (M₂ .initial) h
 
-  pub score-by-round : (φ : Formula) → UniversalSentence (M₁ .propositions) φ → fixpointFree φ ≡ true → (r : ℕ) → nestedAX φ < r → AtMost O (score O M₁ M₂ (round O M₁ M₂ r)) (imp O (wholeValue O M₂ φ) (wholeValue O M₁ φ))
+  pub score-by-round : (φ : Formula) → UniversalSentence (M₁ .propositions) φ → fixpointFree φ ≡ true → (r : ℕ) → nestedAX φ < r → BoundsWhole O M₁ M₂ (score O M₁ M₂ (round O M₁ M₂ r)) φ
   score-by-round φ s x r h = score-bounds _ φ (bounded-by-round φ s x r h)
 
-  pub score-at-T : (T : ℕ) → FirstUnchanged O M₁ M₂ T → (φ : Formula) → UniversalSentence (M₁ .propositions) φ → AtMost O (score O M₁ M₂ (round O M₁ M₂ T)) (imp O (wholeValue O M₂ φ) (wholeValue O M₁ φ))
+  pub score-at-T : (T : ℕ) → FirstUnchanged O M₁ M₂ T → (φ : Formula) → UniversalSentence (M₁ .propositions) φ → BoundsWhole O M₁ M₂ (score O M₁ M₂ (round O M₁ M₂ T)) φ
   score-at-T T f φ s = score-bounds _ φ (bounded-at-T T f φ s)

@@ -1,17 +1,18 @@
--- The simulation operator F, its rounds, the first round that changes nothing, score and share. Rests on Lattice, Model, Value.
+-- The simulation operator F, its rounds, the first round that changes nothing, score and share. Rests on Lattice, Model, Formula, Value.
 --   propositionPart, successorPart, F: the operator on tables, and its two parts
 --   AllPairs, SameTable, AtMostTable, Bounds: tables at the pairs of states
 --   round, FirstUnchanged, Simulation, GreatestSimulation: the rounds, T, and the simulations; of any operator roundOf, FirstUnchangedOf,
 --     FixedBy, GreatestFixedBy
 --   PostFixedBy: S at or below G(S), for any operator G
---   score; share, by indicator, count, goesUp and perCent
+--   score; BoundsWhole: an element bounds the whole values of a formula; share, by indicator, count, goesUp and perCent
 use Prim.Native.Nat.{ℕ, zero, suc, _+_, _*_, _-_, _/_, _%_, _<_}
 use mathlib.Core.Path.{_≡_}
 use mathlib.Core.Bool.{Bool, true, false, _&&_, _||_}
 use lib.Dec.{ltb, eqb}
 use Rattle.theory.specs.Lattice.{Ops, AtMost, imp, iff, bigMeet, bigJoin}
 use Rattle.theory.specs.Model.{Model}
-use Rattle.theory.specs.Value.{allNext, someNext}
+use Rattle.theory.specs.Formula.{Formula}
+use Rattle.theory.specs.Value.{allNext, someNext, wholeValue}
 
 module _ {A : Type 0} (O : Ops A) (M₁ M₂ : Model A) where
   -- ---- F. Both models have the same propositions; those of model 1 are counted.
@@ -90,6 +91,10 @@ module _ {A : Type 0} (O : Ops A) (M₁ M₂ : Model A) where
   -- 'score is the meet over q1 of Q0(q1) → the join over q2 of Q0(q2) met with the shown entry'
   unfoldable pub score : (ℕ → ℕ → A) → A
   score S = bigMeet O (M₁ .states) (λ q₁. imp O (M₁ .initial q₁) (bigJoin O (M₂ .states) (λ q₂. O .meet (M₂ .initial q₂) (S q₁ q₂))))
+
+  -- 'at most "not the whole value on model 2, joined with the whole value on model 1"' (request 106), of an element, such as the score
+  abbrev pub BoundsWhole : A → Formula → Type 0
+  BoundsWhole e φ = AtMost O e (imp O (wholeValue O M₂ φ) (wholeValue O M₁ φ))
 
 -- ---- share
 
