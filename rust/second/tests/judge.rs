@@ -3,40 +3,9 @@
 
 mod common;
 
-use common::{lattice, Desk, Numbers, L3, LOOP, STILL};
+use common::sets::{Sets, LATTICES};
+use common::{element, lattice, Desk, Numbers, L3, LOOP, STILL};
 use second::Reply;
-
-/// A lattice of sets: the element of each number is a set of bits, and the order is inclusion.
-struct Sets {
-    /// The set of each element. Meets and joins of these are among them.
-    sets: &'static [u8],
-    complement: &'static [u8],
-}
-
-/// A chain of three and the subsets of two things, each as the numbers go and renumbered; of the subsets also with a complement that keeps
-/// the two in the middle.
-const LATTICES: [Sets; 5] = [
-    Sets {
-        sets: &[0, 1, 3],
-        complement: &[2, 1, 0],
-    },
-    Sets {
-        sets: &[3, 0, 1],
-        complement: &[1, 0, 2],
-    },
-    Sets {
-        sets: &[0, 1, 2, 3],
-        complement: &[3, 2, 1, 0],
-    },
-    Sets {
-        sets: &[0, 1, 2, 3],
-        complement: &[3, 1, 2, 0],
-    },
-    Sets {
-        sets: &[2, 3, 0, 1],
-        complement: &[3, 2, 1, 0],
-    },
-];
 
 /// Formulas without EX: p, not-p, AX p, AX (p or AX not-p), p always, and not-p some time.
 const UNIVERSAL: [&[u8]; 6] = [
@@ -49,40 +18,8 @@ const UNIVERSAL: [&[u8]; 6] = [
 ];
 
 impl Sets {
-    fn size(&self) -> u8 {
-        self.sets.len() as u8
-    }
-
-    fn set(&self, element: u8) -> u8 {
-        self.sets[usize::from(element)]
-    }
-
-    fn element(&self, set: u8) -> u8 {
-        let place = self.sets.iter().position(|&other| other == set);
-        place.expect("a set of the lattice") as u8
-    }
-
-    fn at_most(&self, a: u8, b: u8) -> bool {
-        self.set(a) & !self.set(b) == 0
-    }
-
     fn all_at_most(&self, table: &[u8], other: &[u8]) -> bool {
         table.iter().zip(other).all(|(&a, &b)| self.at_most(a, b))
-    }
-
-    fn meet(&self, a: u8, b: u8) -> u8 {
-        self.element(self.set(a) & self.set(b))
-    }
-
-    /// (not a) joined with b.
-    fn implies(&self, a: u8, b: u8) -> u8 {
-        let not_a = self.complement[usize::from(a)];
-        self.element(self.set(not_a) | self.set(b))
-    }
-
-    fn part(&self) -> Vec<u8> {
-        let complement = |e| self.complement[usize::from(e)];
-        lattice(self.size(), complement, |i, j| self.at_most(i, j))
     }
 
     /// A desk of two random models of two states, with the universal formulas.
@@ -103,10 +40,7 @@ impl Sets {
 
     /// The greatest table that keeps the bound for a formula: 'not the value in model 2, joined with the value in model 1'.
     fn bound(&self, desk: &Desk, formula: u8) -> [u8; 4] {
-        let value = |model, state| match desk.value(formula, model, state) {
-            Reply::FormulaValue { element, .. } => element,
-            other => panic!("value answered {other:?}"),
-        };
+        let value = |model, state| element(desk.value(formula, model, state));
         [(0, 0), (0, 1), (1, 0), (1, 1)].map(|(q1, q2)| self.implies(value(2, q2), value(1, q1)))
     }
 }
@@ -239,7 +173,7 @@ fn rounds_and_meets_of_the_settled_table() {
                 let met = rounds[last].iter().map(|&e| sets.meet(e, element));
                 assert!(passes(&desk, &met.collect::<Vec<u8>>()));
             }
-            assert!(passes(&desk, &[sets.element(0); 4]));
+            assert!(passes(&desk, &[sets.bottom(); 4]));
         }
         assert!(early > 20);
     }

@@ -2,6 +2,8 @@
 
 #![allow(dead_code)]
 
+pub mod sets;
+
 use second::{Facts, Reply, Standing, STORE_LENGTH, TABLE_LENGTH};
 
 /// 0 below 1.
@@ -43,6 +45,14 @@ pub fn formula_value(element: u8, (nesting, fixpoint, ex): (u8, bool, bool)) -> 
         ex,
     };
     Reply::FormulaValue { element, facts }
+}
+
+/// The element that value, whole or score answered.
+pub fn element(reply: Reply) -> u8 {
+    match reply {
+        Reply::Element(element) | Reply::FormulaValue { element, .. } => element,
+        other => panic!("answered {other:?}"),
+    }
 }
 
 /// A chain of n elements, each the complement of its opposite.

@@ -1,0 +1,92 @@
+//! Small lattices of sets, whose operations are worked by bits and not by the second implementation.
+
+use super::lattice;
+
+/// A lattice of sets: the element of each number is a set of bits, and the order is inclusion.
+#[derive(Debug)]
+pub struct Sets {
+    /// The set of each element. Meets and joins of these are among them, and so is the empty set.
+    pub sets: &'static [u8],
+    pub complement: &'static [u8],
+}
+
+/// A chain of three and the subsets of two things, each as the numbers go and renumbered; of the subsets also with a complement that keeps
+/// the two in the middle.
+pub const LATTICES: [Sets; 5] = [
+    Sets {
+        sets: &[0, 1, 3],
+        complement: &[2, 1, 0],
+    },
+    Sets {
+        sets: &[3, 0, 1],
+        complement: &[1, 0, 2],
+    },
+    Sets {
+        sets: &[0, 1, 2, 3],
+        complement: &[3, 2, 1, 0],
+    },
+    Sets {
+        sets: &[0, 1, 2, 3],
+        complement: &[3, 1, 2, 0],
+    },
+    Sets {
+        sets: &[2, 3, 0, 1],
+        complement: &[3, 2, 1, 0],
+    },
+];
+
+impl Sets {
+    pub fn size(&self) -> u8 {
+        self.sets.len() as u8
+    }
+
+    fn set(&self, element: u8) -> u8 {
+        self.sets[usize::from(element)]
+    }
+
+    fn element(&self, set: u8) -> u8 {
+        let place = self.sets.iter().position(|&other| other == set);
+        place.expect("a set of the lattice") as u8
+    }
+
+    pub fn bottom(&self) -> u8 {
+        self.element(0)
+    }
+
+    pub fn top(&self) -> u8 {
+        self.element(self.sets.iter().fold(0, |all, set| all | set))
+    }
+
+    pub fn at_most(&self, a: u8, b: u8) -> bool {
+        self.set(a) & !self.set(b) == 0
+    }
+
+    pub fn meet(&self, a: u8, b: u8) -> u8 {
+        self.element(self.set(a) & self.set(b))
+    }
+
+    pub fn join(&self, a: u8, b: u8) -> u8 {
+        self.element(self.set(a) | self.set(b))
+    }
+
+    /// (not a) joined with b.
+    pub fn implies(&self, a: u8, b: u8) -> u8 {
+        self.join(self.complement[usize::from(a)], b)
+    }
+
+    pub fn meet_over(&self, elements: &[u8]) -> u8 {
+        let meet = |meet, &element: &u8| self.meet(meet, element);
+        elements.iter().fold(self.top(), meet)
+    }
+
+    pub fn join_over(&self, elements: &[u8]) -> u8 {
+        let join = |join, &element: &u8| self.join(join, element);
+        elements.iter().fold(self.bottom(), join)
+    }
+
+    /// The lattice part.
+    pub fn part(&self) -> Vec<u8> {
+        let complement = |e| self.complement[usize::from(e)];
+        lattice(self.size(), complement, |i, j| self.at_most(i, j))
+    }
+}
