@@ -40,6 +40,10 @@ impl Lattice {
         greatest(self.size, |a, b| self.at_most(a, b), i, j)
     }
 
+    pub fn join(&self, i: usize, j: usize) -> usize {
+        greatest(self.size, |a, b| self.at_most(b, a), i, j)
+    }
+
     pub fn set(&mut self, i: usize, j: usize, to: bool) {
         self.order[i * self.size + j] = to;
     }

@@ -1,7 +1,7 @@
 //! Random cases, desks and lists of calls, on which the proved library and the second implementation are held against each other. The
 //! tests are in tests/: `lists` makes lists of calls, `listings` compares what the program `report` prints, `shares` takes tables at and
 //! beside an exact half per cent, `entries` compares the work on single entries, `judges` what is said of tables, `writes` what is
-//! written into buffers.
+//! written into buffers, `scores` holds scores against formulas' values on both whole models.
 //!
 //! - generator: numbers from a seed
 //! - lattices, non_lattices, models, formulas: the parts of a case, within the rules and not
