@@ -250,9 +250,11 @@ fn a_round_with_an_early_change_does_not_settle_by_its_last_row() {
 #[test]
 fn score_joins_over_the_starts_of_model_2() {
     let model1: &[u8] = &[1, 1, 2, 2, 0];
-    let model2: &[u8] = &[2, 1, 1, 2, 2, 1, 0, 0, 0, 0];
-    let desk = Desk::settled(&[L3, model1, model2]);
-    assert_eq!(desk.show(), [2, 1]);
+    let mut model2 = vec![3, 1, 1, 2, 0, 2, 1, 2];
+    model2.extend([0; 9]);
+    let desk = Desk::settled(&[L3, model1, &model2]);
+    assert_eq!(desk.show(), [2, 1, 2]);
+    // The join of 1, 1 and 0.
     assert_eq!(desk.score(), Reply::Element(1));
     let middle: &[u8] = &[1, 1, 1, 2, 0];
     let apart: &[u8] = &[1, 1, 2, 0, 0];
