@@ -14,7 +14,7 @@ use second::{Facts, Reply};
 use std::collections::BTreeMap;
 use std::io::Write;
 
-const CASES: u64 = 1_500;
+const CASES: u64 = 3_000;
 
 const BEFORE_T: &str = "covered before T, the bound not top";
 const HALF_WORKED: &str = "covered with some rows of the next round worked, the bound not top";
@@ -23,10 +23,12 @@ const NESTED_AT_T: &str = "covered at T alone for its nested AX, the bound not t
 const EQUAL: &str = "covered, the score is the bound and not top";
 const GREATER_NUMBER: &str = "covered, the score's number above the bound's";
 const EXCHANGED: &str = "covered, the score not at or below the bound of the models exchanged";
-const NOT_COVERED: &str = "not covered, the score not at or below the bound";
+const AS_MANY: &str = "not covered for r nested AX, the score not at or below the bound";
+const EARLY_FIXPOINT: &str = "not covered for its fixpoint, the score not at or below the bound";
+const EX: &str = "not covered at T for its EX, the score not at or below the bound";
 
 /// All that must be met.
-const KINDS: [&str; 8] = [
+const KINDS: [&str; 10] = [
     BEFORE_T,
     HALF_WORKED,
     FIXPOINT_AT_T,
@@ -34,7 +36,9 @@ const KINDS: [&str; 8] = [
     EQUAL,
     GREATER_NUMBER,
     EXCHANGED,
-    NOT_COVERED,
+    AS_MANY,
+    EARLY_FIXPOINT,
+    EX,
 ];
 
 /// A formula's facts and its whole values beside the score of the round shown.
@@ -67,36 +71,52 @@ impl Beside<'_> {
     /// Which kinds are met; the score must be at or below the bound of a covered formula.
     fn kinds(&self) -> Vec<&'static str> {
         let bound = self.bound(2, 1);
-        if !self.covered() {
-            return match self.at_most(bound) {
-                true => vec![],
-                false => vec![NOT_COVERED],
-            };
-        }
-        assert!(self.at_most(bound), "the bound is {bound}: {self:?}");
-        let says_something = bound != usize::from(self.lattice.top());
+        let kinds = match (self.covered(), self.at_most(bound)) {
+            (true, true) => self.covered_kinds(bound),
+            (true, false) => panic!("the bound is {bound}: {self:?}"),
+            (false, true) => vec![],
+            (false, false) => self.uncovered_kinds(),
+        };
+        let met = kinds.into_iter().filter(|(is, _)| *is);
+        met.map(|(_, kind)| kind).collect()
+    }
+
+    /// What is met where a formula is covered, and whether it is.
+    fn covered_kinds(&self, bound: usize) -> Vec<(bool, &'static str)> {
         let Standing {
             round,
             settled,
             row,
             ..
         } = self.standing;
-        let at_t_alone = !self.facts.covered_in(round, false);
-        let for_fixpoint = at_t_alone && self.facts.fixpoint;
-        let for_nesting = at_t_alone && !self.facts.fixpoint;
-        let met = [
+        let FormulaFacts { fixpoint, .. } = self.facts;
+        let says_something = bound != usize::from(self.lattice.top());
+        let at_t_alone = says_something && !self.facts.covered_in(round, false);
+        vec![
             (says_something && !settled, BEFORE_T),
             (says_something && row > 0, HALF_WORKED),
-            (says_something && for_fixpoint, FIXPOINT_AT_T),
-            (says_something && for_nesting, NESTED_AT_T),
+            (at_t_alone && fixpoint, FIXPOINT_AT_T),
+            (at_t_alone && !fixpoint, NESTED_AT_T),
             (says_something && usize::from(self.score) == bound, EQUAL),
             (usize::from(self.score) > bound, GREATER_NUMBER),
             (!self.at_most(self.bound(1, 2)), EXCHANGED),
-        ];
-        met.into_iter()
-            .filter(|(is, _)| *is)
-            .map(|(_, kind)| kind)
-            .collect()
+        ]
+    }
+
+    /// What is met where a formula is not covered and the score is not at or below the bound: each condition alone is missing.
+    fn uncovered_kinds(&self) -> Vec<(bool, &'static str)> {
+        let Standing { round, settled, .. } = self.standing;
+        let FormulaFacts {
+            nesting,
+            fixpoint,
+            ex,
+        } = self.facts;
+        let nesting = u32::from(nesting);
+        vec![
+            (!ex && !fixpoint && nesting == round && round > 0, AS_MANY),
+            (!ex && fixpoint && nesting < round, EARLY_FIXPOINT),
+            (ex && settled, EX),
+        ]
     }
 }
 
@@ -160,6 +180,12 @@ fn put_ax_for_ex(part: &mut [u8]) {
     }
 }
 
+/// A proposition or a negated one behind up to three AX; k is not 0.
+fn ax_of_proposition(random: &mut Random, k: usize) -> Vec<u8> {
+    let proposition = vec![random.between(2, 3) as u8, random.below(k) as u8];
+    [vec![7; random.below(4)], proposition].concat()
+}
+
 /// A case, most of its formulas without EX.
 fn case(random: &mut Random) -> Draft {
     let scale = match random.one_in(8) {
@@ -167,9 +193,12 @@ fn case(random: &mut Random) -> Draft {
         false => cases::scale(random),
     };
     let mut draft = cases::draft(random, scale);
+    let k = draft.propositions;
     for formula in &mut draft.parts[3..] {
-        if !random.one_in(4) {
-            put_ax_for_ex(formula);
+        match random.below(4) {
+            0 => (),
+            1 if k > 0 => *formula = ax_of_proposition(random, k),
+            _ => put_ax_for_ex(formula),
         }
     }
     draft
