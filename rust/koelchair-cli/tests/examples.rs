@@ -70,7 +70,7 @@ fn every_example_gets_its_listing_from_report() {
 }
 
 /// Other commands whose output stands beside an example.
-const OTHERS: [(&str, &[&str], &[&str]); 24] = [
+const OTHERS: [(&str, &[&str], &[&str]); 26] = [
     (
         "label-one-field-after-the-other.names",
         &["report", "--names", "--values"],
@@ -99,6 +99,8 @@ const OTHERS: [(&str, &[&str], &[&str]); 24] = [
     ),
     ("form-order.explain", &["explain"], &["old", "old"]),
     ("covered-from.names", &["report", "--names"], &[]),
+    ("score-bound.names", &["report", "--names"], &[]),
+    ("score-bound.step", &["step"], &[]),
     ("error-half-worked-table.check", &["check"], &[]),
     ("error-half-worked-table.step", &["step"], &[]),
     ("example-4-round-1.step", &["step"], &[]),
