@@ -225,7 +225,8 @@ koelchair_shown koelchair_show(koelchair_standing standing,
    KOELCHAIR_REFUSED with 11, 12 or 13. The nesting counts the AX that stand one within another, also with or, and, EX or a fixpoint
    between them; a fixpoint is not unrolled. The facts say which tables cover the formula: where nothing but the calls wrote the desk,
    each entry of the table shown is at most 'not the value at the state of model 2, joined with the value at the state of model 1' if EX
-   does not occur and the desk is settled, or if neither EX nor a fixpoint occurs and the nesting is below the standing's round. */
+   does not occur and the desk is settled, or if neither EX nor a fixpoint occurs and the nesting is below the standing's round. The
+   score is then at most 'not the whole value on model 2, joined with the whole value on model 1'. */
 koelchair_answer koelchair_value(koelchair_standing standing,
                                  const uint8_t *store, size_t store_length,
                                  const uint8_t *first, size_t first_length,

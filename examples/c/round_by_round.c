@@ -60,7 +60,8 @@ static bool formula_whole(const struct desk *d, uint8_t formula, uint8_t model, 
     return whole->kind == KOELCHAIR_FORMULA_VALUE;
 }
 
-/* Whether the table shown covers a formula, by the facts that whole gave: its entries then bound the formula's values. */
+/* Whether the table shown covers a formula, by the facts that whole gave: its entries then bound the formula's values, and its score the
+   whole values. */
 static bool covered(const struct desk *d, koelchair_answer whole)
 {
     bool fixpoint = whole.flag1, ex = whole.flag2;

@@ -170,7 +170,11 @@ class FormulaFacts(NamedTuple):
     ex: bool
 
     def covered_in(self, round, settled):
-        """Whether the shown table covers the formula; its round, and whether it is settled, are those of the standing."""
+        """Whether the shown table covers the formula; its round, and whether it is settled, are those of the standing.
+
+        Each entry is then at or below 'not the value at the state of model 2, joined with the value at the state of model 1', and
+        the score at or below 'not the whole value on model 2, joined with the whole value on model 1'.
+        """
         return not self.ex and (settled or (not self.fixpoint and self.nesting < round))
 
     def covered_from(self):

@@ -14,14 +14,15 @@ pub fn words(facts: FormulaFacts) -> String {
     format!("{nested}, {fixpoint} fixpoint, {ex}")
 }
 
-/// The facts, and from when on a pair's entry is at most 'not its value in model 2, joined with its value in model 1' (demand 3).
+/// The facts, and from when on a pair's entry is at most 'not its value in model 2, joined with its value in model 1' (demand 3), and the
+/// score at most the same of its whole values (request 106).
 pub fn bounded(facts: FormulaFacts) -> String {
     let bounded = match facts.covered_from() {
         CoveredFrom::Round(round) => {
-            format!("entries bound it from round {round} on, or once settled")
+            format!("entries and score bound it from round {round} on, or once settled")
         }
-        CoveredFrom::Settled => "entries bound it once settled".to_string(),
-        CoveredFrom::Never => "entries do not bound it".to_string(),
+        CoveredFrom::Settled => "entries and score bound it once settled".to_string(),
+        CoveredFrom::Never => "neither entries nor score bound it".to_string(),
     };
     format!("{}: {bounded}", words(facts))
 }
@@ -56,19 +57,19 @@ mod tests {
         };
         assert_eq!(
             said(0, false, false),
-            "no AX, no fixpoint, no EX: entries bound it from round 1 on, or once settled"
+            "no AX, no fixpoint, no EX: entries and score bound it from round 1 on, or once settled"
         );
         assert_eq!(
             said(2, false, false),
-            "2 nested AX, no fixpoint, no EX: entries bound it from round 3 on, or once settled"
+            "2 nested AX, no fixpoint, no EX: entries and score bound it from round 3 on, or once settled"
         );
         assert_eq!(
             said(1, true, false),
-            "1 nested AX, a fixpoint, no EX: entries bound it once settled"
+            "1 nested AX, a fixpoint, no EX: entries and score bound it once settled"
         );
         assert_eq!(
             said(0, true, true),
-            "no AX, a fixpoint, EX: entries do not bound it"
+            "no AX, a fixpoint, EX: neither entries nor score bound it"
         );
     }
 }

@@ -23,8 +23,9 @@ pub struct FormulaFacts {
     pub ex: bool,
 }
 
-/// From when on the entries of a table bound a formula: each is at or below 'not the formula's value at the state of model 2,
-/// joined with its value at the state of model 1'.
+/// From when on a table covers a formula: each of its entries is at or below 'not the formula's value at the state of model 2,
+/// joined with its value at the state of model 1', and its score is at or below 'not the whole value on model 2, joined with the
+/// whole value on model 1'.
 #[derive(Clone, Copy, Debug, PartialEq, Eq, Hash)]
 pub enum CoveredFrom {
     /// From this round on, and in the settled table also where that is of an earlier round.
@@ -36,8 +37,9 @@ pub enum CoveredFrom {
 }
 
 impl FormulaFacts {
-    /// Whether the shown table covers the formula, so that its entries bound the formula's values. Its round, and whether it is
-    /// settled, are those of the standing. Demand 3 promises it of a desk that only its calls moved on.
+    /// Whether the shown table covers the formula, so that its entries bound the formula's values and its score bounds the whole
+    /// values. Its round, and whether it is settled, are those of the standing. Demand 3, and request 106 of the score, promise it
+    /// of a desk that only its calls moved on.
     pub fn covered_in(self, round: u32, settled: bool) -> bool {
         let fewer = !self.fixpoint && u32::from(self.nesting) < round;
         !self.ex && (settled || fewer)

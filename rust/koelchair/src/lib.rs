@@ -25,7 +25,7 @@
 //! assert_eq!(desk.score(), Element(1));
 //! let whole = desk.whole(0, 1)?;
 //! assert_eq!(whole.element, Element(1));
-//! // The formula has no AX, no fixpoint and no EX, so that the entries bound it from round 1 on.
+//! // The formula has no AX, no fixpoint and no EX, so that entries and score bound it from round 1 on.
 //! assert_eq!(whole.facts.covered_from(), CoveredFrom::Round(1));
 //! # Ok::<(), koelchair::Refusal>(())
 //! ```

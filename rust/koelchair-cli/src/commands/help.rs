@@ -6,7 +6,7 @@ const COMMANDS: [(&str, &str, &str); 12] = [
         "check",
         "koelchair check [--json] [--deny-warnings] FILE",
         "Reads a case and says whether the desk accepts it, what it holds, and of each formula its nested AX, whether it has a\n\
-         fixpoint, whether it has EX, and from which round on entries bound it.\n\
+         fixpoint, whether it has EX, and from which round on entries and score bound it.\n\
          A refusal is said in words, with its number, its part and where that part stands in the text. A course's file, which\n\
          has no model 1, is checked with its model against itself.",
     ),
@@ -14,7 +14,7 @@ const COMMANDS: [(&str, &str, &str); 12] = [
         "report",
         "koelchair report [--names] [--values] [--share ELEMENT]... [--json] [--deny-warnings] FILE",
         "Prints the listing: T, the settled table, the score, and each formula's value on both models.\n\
-         --names   names in place of numbers, and from which round on entries bound each formula\n\
+         --names   names in place of numbers, and from which round on entries and score bound each formula\n\
          --values  also each formula's value at each state\n\
          --share   also the per cent of entries at or above this element, rounded, an exact half to the even neighbour",
     ),

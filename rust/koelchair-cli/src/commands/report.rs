@@ -1,5 +1,5 @@
-//! `report`: the listing of document 01, or with names, and below each formula from which round on entries bound it. Names are put to the numbers of
-//! the library's listing.
+//! `report`: the listing of document 01, or with names, and below each formula from which round on entries and score bound it. Names are
+//! put to the numbers of the library's listing.
 
 use super::{document, open, read_text, table, Arguments, Failure, Opened, Outcome, Printed};
 use crate::errors::Source;
@@ -70,7 +70,7 @@ fn numbers(opened: &Opened) -> Result<Listing, Failure> {
     listing::of(&opened.text.bytes).ok_or_else(unread)
 }
 
-/// The listing with names in place of numbers, and below each formula from which round on entries bound it.
+/// The listing with names in place of numbers, and below each formula from which round on entries and score bound it.
 fn named_listing(opened: &Opened, facts: &[FormulaFacts]) -> Result<String, Failure> {
     let (case, listing) = (&opened.case, numbers(opened)?);
     let name = |e: &u8| case.element(*e);

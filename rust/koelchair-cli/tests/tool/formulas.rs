@@ -65,20 +65,23 @@ fn they_count_as_the_fixpoints_for_what_covers_them() {
     for (formula, said) in [
         (
             "AG p",
-            "1 nested AX, a fixpoint, no EX: entries bound it once settled",
+            "1 nested AX, a fixpoint, no EX: entries and score bound it once settled",
         ),
         (
             "AF AX p",
-            "1 nested AX, a fixpoint, no EX: entries bound it once settled",
+            "1 nested AX, a fixpoint, no EX: entries and score bound it once settled",
         ),
         (
             "AX AF AX p",
-            "2 nested AX, a fixpoint, no EX: entries bound it once settled",
+            "2 nested AX, a fixpoint, no EX: entries and score bound it once settled",
         ),
-        ("EF p", "no AX, a fixpoint, EX: entries do not bound it"),
+        (
+            "EF p",
+            "no AX, a fixpoint, EX: neither entries nor score bound it",
+        ),
         (
             "AG EG p",
-            "1 nested AX, a fixpoint, EX: entries do not bound it",
+            "1 nested AX, a fixpoint, EX: neither entries nor score bound it",
         ),
     ] {
         let text = CLEAN.replace("AG p", formula);
