@@ -13,20 +13,21 @@ window.probe = {
     };
   },
 
-  // Of a table whose rows begin with a name: the elements in each row.
+  // Of a table whose rows begin with a formula's name: the elements in each row.
   chips(box) {
     const rows = [...document.querySelectorAll(`#${box} tbody tr`)];
-    return Object.fromEntries(rows.map((row) => [row.querySelector("th").textContent, [...row.querySelectorAll(".chip")].map((c) => c.textContent)]));
+    const name = (row) => (row.querySelector("th strong") ?? row.querySelector("th")).textContent;
+    return Object.fromEntries(rows.map((row) => [name(row), [...row.querySelectorAll(".chip")].map((c) => c.textContent)]));
   },
 
   formulas() {
     return { whole: this.chips("whole"), values: { 1: this.chips("values1"), 2: this.chips("values2") } };
   },
 
-  // For the heading and each formula: its text with its facts, whether the shown round covers it, and from when on a table does.
-  covered() {
-    const rows = [...document.querySelectorAll("#whole tr")].map((row) => [...row.querySelectorAll("th, td")]);
-    return rows.map((row) => [row[1], row[4], row[5]].map((cell) => cell.innerText.trim()));
+  // The table of whole values as it is read: the headings, then a row for each formula.
+  whole() {
+    const rows = [...document.querySelectorAll("#whole tr")];
+    return rows.map((row) => [...row.querySelectorAll("th, td")].map((cell) => cell.innerText.trim()));
   },
 
   pair() {
@@ -47,13 +48,20 @@ window.probe = {
     const found = [];
     for (const cell of document.querySelectorAll(".cell")) {
       cell.click();
-      const entry = document.querySelector("#pair-heading .chip").textContent;
+      const element = document.querySelector("#pair-heading .chip").textContent;
       for (const row of document.querySelectorAll("#bounds tbody tr")) {
         const [value2, value1, bound, below, covered] = [...row.querySelectorAll("td")].map((td) => td.textContent);
-        found.push({ value1, value2, bound, entry, below: below === "at or below", covered: covered.startsWith("covered") });
+        found.push({ value1, value2, bound, element, below: below === "at or below", covered: covered.startsWith("covered") });
       }
     }
     return found;
+  },
+
+  // The same of the whole values, which the score is compared with.
+  wholeBounds() {
+    const element = document.querySelector("#score .chip").textContent;
+    const line = ([, value1, value2, bound, below, covered]) => ({ value1, value2, bound, element, below: below === "at or below", covered: covered === "covered" });
+    return this.whole().slice(1).map(line);
   },
 
   drawings() {

@@ -1,28 +1,32 @@
-// The formulas with their values on both whole models and at each state, and whether the shown round covers them.
+// The formulas with their values on both whole models and at each state, the bound that the whole values give the score, and whether
+// the shown round covers them.
 
-// A formula as it is written, and below it its facts.
+// A formula with its name, as it is written, and below it its facts and from when on a table covers it.
 function formulaText(formula) {
-  return make("div", {}, make("code", {}, formula.text), make("div", { class: "facts" }, formula.facts));
+  const written = make("div", {}, make("strong", {}, formula.name), ": ", make("code", {}, formula.text));
+  return make("div", {}, written, make("div", { class: "facts" }, formula.facts), make("div", {}, coveredFrom(formula)));
 }
 
-// From when on a table covers a formula, in words.
 function coveredFrom(formula) {
   const from = formula.coveredFrom;
-  if (from === null) return "never";
-  return from === "settled" ? "once settled" : `from round ${from} on, or once settled`;
+  if (from === null) return "never covered";
+  return from === "settled" ? "covered once settled" : `covered from round ${from} on, or once settled`;
 }
 
-// For each formula whether the shown round covers it, below a heading with that round.
-const coveredHead = make("span");
-const coveredMarks = data.formulas.map(() => make("span"));
+// A formula's line on the whole models.
+function wholeLine(formula, score) {
+  const { bound, said, isCovered, mark } = bounded(formula, formula.whole, "score", score);
+  return [formulaText(formula), ...formula.whole.map(chip), chip(bound), said, coveredMark(isCovered, mark)];
+}
 
-function showCovered() {
-  coveredHead.textContent = `In round ${shownRound}`;
-  data.formulas.forEach((formula, f) => {
-    const [isCovered, mark] = covered(formula);
-    coveredMarks[f].className = isCovered ? "covered" : "";
-    coveredMarks[f].textContent = mark;
-  });
+// The table of whole values for the shown round and its score.
+function showWhole() {
+  if (data.formulas.length === 0) return;
+  const score = data.rounds[shownRound][0];
+  const scoreHead = make("span", {}, "The score ", chip(score), " is");
+  const head = ["Formula", capital(modelName(0)), capital(modelName(1)), "Bound", scoreHead, `In round ${shownRound}`];
+  const lines = data.formulas.map((formula) => wholeLine(formula, score));
+  at("whole").replaceChildren(tableOf("On the whole models", [head, ...lines]));
 }
 
 function showFormulas() {
@@ -30,18 +34,9 @@ function showFormulas() {
     at("formulas").append(make("p", {}, "The case has no formulas."));
     return;
   }
-  const whole = data.formulas.map((formula, f) => [
-    formula.name,
-    formulaText(formula),
-    chip(formula.whole[0]),
-    chip(formula.whole[1]),
-    coveredMarks[f],
-    coveredFrom(formula),
-  ]);
-  const head = ["Name", "Formula", capital(modelName(0)), capital(modelName(1)), coveredHead, "Covered"];
-  const wholeTable = scrolling("formulas on the whole models", tableOf("On the whole models", [head, ...whole]));
-  wholeTable.id = "whole";
-  at("formulas").append(wholeTable);
+  const whole = scrolling("formulas on the whole models", "");
+  whole.id = "whole";
+  at("formulas").append(make("p", {}, ...boundWords("whole value", "score")), whole);
   const tables = data.models.map((model, m) => {
     const lines = data.formulas.map((formula) => [formula.name, ...formula.values[m].map(chip)]);
     const caption = `At each state of ${modelName(m)}`;

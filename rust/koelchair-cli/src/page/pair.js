@@ -1,5 +1,4 @@
-// The chosen pair: its entry, why it is what it is, the way to the cause, and for each formula the bound 'not the value of who
-// follows, joined with the value of who is followed'.
+// The chosen pair: its entry, why it is what it is, the way to the cause, and for each formula the bound that its values give.
 
 let chosen = null;
 // The cause that is shown where the way to it was gone along, with what stood before; else the reasons of the chosen pair.
@@ -76,43 +75,11 @@ function toCell() {
   at("table-box").scrollBy(over(own.left, own.right, box.left + side, box.right - 8), over(own.top, own.bottom, box.top + head, box.bottom - 8));
 }
 
-// (not a) joined with b, by the tool's table.
-function implies(a, b) {
-  return lattice.implies[a * lattice.names.length + b];
-}
-
-function atMost(a, b) {
-  return lattice.atMost[a * lattice.names.length + b] === 1;
-}
-
-// Whether the shown round covers a formula: yes or no, a word for it, and why.
-function covered(formula) {
-  const from = formula.coveredFrom;
-  if (from === null) return [false, "never", "has EX"];
-  if (shownRound === T) return [true, "covered", "settled, no EX"];
-  if (from === "settled") return [false, "not yet", "has a fixpoint, only once settled"];
-  const nested = `${formula.nestedAx} nested AX`;
-  if (from <= shownRound) return [true, "covered", `${nested}, fewer than ${shownRound}`];
-  return [false, "not yet", `${nested}, from round ${from} on`];
-}
-
 // A formula's line: values of both, the bound, whether the entry keeps it, whether it must.
-function pairLine(formula, f, entry) {
-  const [q1, q2] = chosen;
-  const [value1, value2] = [formula.values[0][q1], formula.values[1][q2]];
-  const bound = implies(value2, value1);
-  const [isCovered, mark, why] = covered(formula);
-  const below = atMost(entry, bound);
-  if (isCovered && !below) failed(`${formula.name} is covered, and the entry is not at or below the bound`);
-  const line = [
-    formula.name,
-    chip(value2),
-    chip(value1),
-    chip(bound),
-    below ? "at or below" : "not at or below",
-    make("span", { class: isCovered ? "covered" : "" }, `${mark}: ${why}`),
-  ];
-  return { line, f, bound, below, isCovered };
+function pairLine(formula, entry) {
+  const values = [formula.values[0][chosen[0]], formula.values[1][chosen[1]]];
+  const { bound, said, isCovered, mark, why } = bounded(formula, values, "entry", entry);
+  return [formula.name, chip(values[1]), chip(values[0]), chip(bound), said, coveredMark(isCovered, `${mark}: ${why}`)];
 }
 
 // A text in which what stands between backquotes is code.
@@ -186,14 +153,11 @@ function showPair() {
 // The table of bounds, folded away below.
 function showBounds(entry) {
   const [q1, q2] = chosen;
-  const lines = data.formulas.map((formula, f) => pairLine(formula, f, entry));
+  const lines = data.formulas.map((formula) => pairLine(formula, entry));
   const head = ["Formula", `${capital(data.owners[1])}, at ${columns[q2]}`, `${capital(data.owners[0])}, at ${rows[q1]}`, "Bound", "The entry is", "Covered by this round?"];
-  const table = tableOf("", [head, ...lines.map((l) => l.line)]);
-  table.querySelectorAll("tbody tr").forEach((row, i) => {
-    Object.assign(row.dataset, { bound: lattice.names[lines[i].bound], below: lines[i].below, covered: lines[i].isCovered });
-  });
+  const table = tableOf("", [head, ...lines]);
   at("bounds").querySelector("div").replaceChildren(...(lines.length === 0 ? [make("p", {}, "The case has no formulas.")] : [
-    make("p", {}, `Bound: not the ${data.owners[1]}'s value, joined with the ${data.owners[0]}'s. The pair is (${rows[q1]}, ${columns[q2]}).`),
+    make("p", {}, ...boundWords("value", "entry"), ` The pair is (${rows[q1]}, ${columns[q2]}).`),
     scrolling("formulas at the chosen pair", table),
   ]));
 }

@@ -124,7 +124,7 @@ function goTo(round) {
   touched.forEach(showCell);
   showStanding();
   showOverview();
-  showCovered();
+  showWhole();
   showPair();
   writeAddress();
 }

@@ -1,5 +1,6 @@
 //! `page`: what stands in the page of each example is what the library says, and no name can break out of it.
 
+mod bounds;
 mod json;
 
 use json::{read, Json};
@@ -317,56 +318,6 @@ fn facts_are_the_librarys() {
         }
     }
     assert!(formulas > 20, "{formulas} formulas");
-}
-
-/// Whether a round covers a formula, by the page's `coveredFrom`.
-fn covered(formula: &Json, round: usize, settled: bool) -> bool {
-    match formula.get("coveredFrom") {
-        Json::Null => false,
-        Json::Number(from) => settled || *from <= round,
-        _ => settled,
-    }
-}
-
-#[test]
-fn covered_formulas_bound_every_entry() {
-    let mut covers = 0;
-    for Example { name, data, .. } in examples() {
-        let (lattice, tables) = (data.get("lattice"), tables(data));
-        let n = lattice.get("names").items().len();
-        let (implies, at_most) = (
-            lattice.get("implies").numbers(),
-            lattice.get("atMost").numbers(),
-        );
-        for (round, (_, table)) in tables.iter().enumerate() {
-            let settled = round + 1 == tables.len();
-            for formula in data
-                .get("formulas")
-                .items()
-                .iter()
-                .filter(|f| covered(f, round, settled))
-            {
-                let values: Vec<_> = formula
-                    .get("values")
-                    .items()
-                    .iter()
-                    .map(Json::numbers)
-                    .collect();
-                let columns = values[1].len();
-                for (place, entry) in table.iter().enumerate() {
-                    let bound =
-                        implies[values[1][place % columns] * n + values[0][place / columns]];
-                    assert_eq!(
-                        at_most[entry * n + bound],
-                        1,
-                        "{name}: round {round}, place {place}"
-                    );
-                }
-                covers += 1;
-            }
-        }
-    }
-    assert!(covers > 20, "{covers} formulas covered");
 }
 
 #[test]
