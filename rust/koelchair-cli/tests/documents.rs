@@ -1,5 +1,5 @@
-//! What the documents show is so: the case and the refusal in docs/TEXT-FORM.md, what follows each command, and the bytes and the
-//! listing in docs/SPECIFICATION.md.
+//! What the documents show is so: the case and the refusal in docs/TEXT-FORM.md, what follows each command, what follows from a score in
+//! docs/GUIDE.md, and the bytes and the listing in docs/SPECIFICATION.md.
 
 mod common;
 
@@ -45,7 +45,7 @@ fn printed(command: &str) -> String {
 
 #[test]
 fn commands_print_what_follows_them() {
-    for (document, least) in [("GUIDE.md", 13), ("TEXT-FORM.md", 5)] {
+    for (document, least) in [("GUIDE.md", 15), ("TEXT-FORM.md", 5)] {
         let blocks = blocks(&text(&folder("../../docs").join(document)));
         let commands = blocks.iter().filter_map(|b| b.strip_prefix("$ koelchair "));
         let mut count = 0;
@@ -81,6 +81,26 @@ fn the_guide_has_a_student_s_file_and_a_table() {
         let file = text(&folder("../../examples").join(file));
         let (_, without_comment) = file.split_once('\n').expect("a line");
         assert!(blocks.iter().any(|b| b == without_comment), "{file}");
+    }
+}
+
+/// The guide's table of what follows from a score: the student's values with which the bound is kept, worked out in the chain.
+#[test]
+fn the_guide_says_what_follows_from_a_score() {
+    let guide = text(&folder("../../docs/GUIDE.md"));
+    let names = ["no", "unsure", "yes"];
+    for (score, name) in names.iter().enumerate() {
+        let follows = |course: usize| {
+            let kept = |student: &usize| score <= (2 - course).max(*student);
+            let left: Vec<&str> = (0..3).filter(kept).map(|s| names[s]).collect();
+            match left.len() {
+                3 => "nothing follows".to_string(),
+                _ => format!("the student's is {}", left.join(" or ")),
+            }
+        };
+        let cells = [2, 1, 0].map(follows).join(" | ");
+        let row = format!("| {name} | {cells} |");
+        assert!(guide.lines().any(|line| line == row), "{row}");
     }
 }
 
