@@ -24,7 +24,7 @@ function showWhole() {
   if (data.formulas.length === 0) return;
   const score = data.rounds[shownRound][0];
   const scoreHead = make("span", {}, "The score ", chip(score), " is");
-  const head = ["Formula", capital(modelName(0)), capital(modelName(1)), "Bound", scoreHead, `In round ${shownRound}`];
+  const head = ["Formula", capital(modelName(0)), capital(modelName(1)), "Bound", scoreHead, `Covered by round ${shownRound}?`];
   const lines = data.formulas.map((formula) => wholeLine(formula, score));
   at("whole").replaceChildren(tableOf("On the whole models", [head, ...lines]));
 }
