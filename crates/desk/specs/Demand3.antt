@@ -1,9 +1,8 @@
 -- Demand 3: one claim about every list of calls from any desk, refused ones included, with an accepted opening in it. Rests on Run.
---   FactsAnswered: value or whole answered these facts of a formula; ScoreAnswered: what score, and whole on both models, answered
---   SaysYes: judge says yes of a table
+--   FactsAnswered: value or whole answered these facts of a formula; SaysYes: judge says yes of a table
 --   WritesBack: what write answers and leaves in its buffer; OpenedAnew: what opening that gives
 --   BoundedIn, BoundedBy: the entries of a table, and those shown, bound a formula; ScoreBounds: score's answer does
---   PromisedByRound, PromisedAtT: of which formulas this is promised; Covers: the same by a formula's facts
+--   PromisedByRound, PromisedAtT: of which formulas this is promised; Covers, PromisedByFacts: the same by a formula's facts
 --   Claim: the claim, a field for each part of it; Demand3: there are a last accepted opening and a T of which it holds
 -- Demand3Holds proves it.
 use Prim.Native.Nat.{ℕ, _+_, _*_, _-_, _%_, _≤_, _<_}
@@ -13,7 +12,7 @@ use mathlib.Core.Logic.{_⊎_, _↔_}
 use mathlib.Core.List.{List, [], _∷_}
 use lib.ListN.{length, getD, take, replicate}
 use Rattle.theory.specs.Lists.{written}
-use Rattle.theory.specs.Lattice.{AtMost, LongestChain, imp}
+use Rattle.theory.specs.Lattice.{LongestChain}
 use Rattle.theory.specs.Formula.{Formula, fixpointFree, nestedAX, UniversalSentence}
 use Rattle.theory.specs.Value.{valueAt}
 use Rattle.theory.specs.Simulation.{SameTable, AtMostTable, Bounds, BoundsWhole, Simulation, GreatestSimulation, PostFixedBy}
@@ -32,12 +31,6 @@ use Rattle.desk.specs.Run.{run, LastOpening, answersSince, roundAfter, a
 pub data FactsAnswered (d : Desk) (f : ℕ) (x : FormulaFacts) : Type 0 where
   by-value : (m q e : ℕ) → asked (Question.Value f m q) d ≡ Reply.FormulaValue e x → FactsAnswered d f x
   by-whole : (m e : ℕ) → asked (Question.Whole f m) d ≡ Reply.FormulaValue e x → FactsAnswered d f x
-
--- score, on the desk d, answered e, and whole answered v₁ and v₂ of formula f on models 1 and 2, with the facts x
-pub record ScoreAnswered (d : Desk) (f e v₁ v₂ : ℕ) (x : FormulaFacts) : Type 0 where
-  pub by-score : asked Question.Score d ≡ Reply.Element e
-  pub on-model1 : asked (Question.Whole f 1) d ≡ Reply.FormulaValue v₁ x
-  pub on-model2 : asked (Question.Whole f 2) d ≡ Reply.FormulaValue v₂ x
 
 -- judge on the desk d says yes of the table t: t passes
 abbrev pub SaysYes : Desk → List ℕ → Type 0
@@ -91,9 +84,13 @@ module _ (c : Content) (T : ℕ) (answers : List Reply) (d : Desk) where
   abbrev pub PromisedAtT : (Formula → Type 0) → Type 0
   PromisedAtT P = r ≡ T → (φ : Formula) → UniversalSentence (model1 c .propositions) φ → P φ
 
-  -- these conditions by the facts x of a formula: no EX, and either no fixpoint and fewer than r nested AX, or r = T
+  -- these conditions by the facts x of a formula: no EX, and either no fixpoint and fewer than r nested AX, or r = T; and what is promised by the facts
+  -- that were answered of a formula of the case
   abbrev pub Covers : FormulaFacts → Type 0
   Covers x = (x .ex ≡ false) × (((x .fixpoint ≡ false) × (x .nesting < r)) ⊎ (r ≡ T))
+
+  abbrev pub PromisedByFacts : (Formula → Type 0) → Type 0
+  PromisedByFacts P = (f : ℕ) (x : FormulaFacts) → FactsAnswered d f x → Covers x → P (formulaIn c f)
 
   pub record Claim : Type 0 where
     -- 'after the list the standing's round is r, its next row is s modulo N1 while r is below T and 0 at T, and it is settled
@@ -114,11 +111,10 @@ module _ (c : Content) (T : ℕ) (answers : List Reply) (d : Desk) where
     pub bounded-at-T : PromisedAtT BoundedBy
     pub score-by-round : PromisedByRound ScoreBounds
     pub score-at-T : PromisedAtT ScoreBounds
-    -- request 102: that the shown entries bound a formula of the case is known from the facts that value or whole answers of it. By
+    -- request 102: that the shown entries, and so the score, bound a formula of the case is known from the facts that value or whole answers of it. By
     -- `question-next` these are the same after every list with this last accepted opening, so that one answer serves for all later rounds.
-    pub covered : (f : ℕ) (x : FormulaFacts) → FactsAnswered d f x → Covers x → BoundedBy (formulaIn c f)
-    -- so of the score, by answers alone: those of score and of whole on both models
-    pub score-covered : (f e v₁ v₂ : ℕ) (x : FormulaFacts) → ScoreAnswered d f e v₁ v₂ x → Covers x → AtMost (ops c) e (imp (ops c) v₂ v₁)
+    pub covered : PromisedByFacts BoundedBy
+    pub score-covered : PromisedByFacts ScoreBounds
     -- request 104: 'S at or below F(S) everywhere. Judge shall say yes exactly then', of a table that 13 does not refuse
     pub passes-exactly : (t : List ℕ)
         → SaysYes d t ↔ (InRange (Question.Judge t) (viewAfter c T s) × PostFixedBy (ops c) (model1 c) (model2 c) (operator c) (givenTable c t))

@@ -1,117 +1,41 @@
--- Demand 3 holds. Rests on Demand3, Listed, Next, Judged, WrittenBack, Stands, RefusedLaws, formula's RoundTrip, and theory's Rounds, Preservation, Height and Sharp.
+-- Demand 3 holds. Rests on Demand3, Listed, Next, Covered, Judged, WrittenBack, Stands, RefusedLaws, and theory's Rounds, Height and Sharp.
 --   demand3: every list of calls with an accepted opening in it has the demand; listed: the claim holds for whatever last accepted opening and T
 --   claimed: the claim from the invariant; same-shown: show's answer leaves no choice
---   shown-by-round, shown-at-T, scored-by-round, scored-at-T: the bounds of the entries shown and of the score
---   facts-own, whole-own, covered-formula, scored-covered: what value and whole answer, and what follows from it; T-most-sharp: another limit of T
 --   ranges, asked-next; value-next, whole-next, score-next, share-next, judge-next: what it says of the questions one by one
+--   T-most-sharp: another limit of T
 use Prim.Native.Nat.{ℕ, suc, _+_, _-_, _≤_, _<_}
 use mathlib.Core.Path.{_≡_, refl, sym, ap, _∙_, subst}
 use mathlib.Core.Bool.{true, false}
-use mathlib.Core.Logic.{inl, ⊎-elim, _↔_}
+use mathlib.Core.Logic.{inl, _↔_}
 use mathlib.Core.List.{List, _∷_}
 use native.Mathlib.Omega.{arith}
-use borrow.Author.Tests.{not-false}
 use lib.ListN.{length, getD, take}
-use Rattle.theory.specs.Lattice.{AtMost, Laws, imp}
 use Rattle.theory.specs.Value.{valueAt, wholeValue}
-use Rattle.theory.specs.Formula.{Formula, fixpointFree, nestedAX, UniversalSentence}
 use Rattle.theory.specs.Simulation.{score, share}
 use Rattle.theory.specs.Height.{longest-chain}
 use Rattle.theory.specs.Rounds.{T-at-most, settled-greatest, below-rounds, fixed-below}
-use Rattle.theory.specs.Preservation.{bounded-by-round, bounded-at-T, score-by-round, score-at-T}
 use Rattle.theory.specs.Sharp.{T-sharp}
-use Rattle.refusal.specs.declared.Refusal.{Refusal}
 use Rattle.refusal.specs.declared.Refusal.the-variants.{ShortDesk, SpoiledDesk, ShortBuffer}
-use Rattle.formula.specs.declared.FormulaFacts.{FormulaFacts}
 use Rattle.formula.specs.Answer.{factsOf}
-use Rattle.formula.specs.RoundTrip.{formula-part}
 use Rattle.casefile.specs.Reading.{Content}
 use Rattle.casefile.specs.Accepted.{gapless-most}
 use Rattle.casefile.specs.Content.{content-sound}
 use Rattle.desk.specs.Desk.{Desk, Question, Call, Reply}
 use Rattle.desk.specs.Case.{ops, model1, model2, tableSize, modelIn, formulaIn, operator, roundIn, IsT, entryAt, tableBytes}
-use Rattle.desk.specs.Refused.{InRange, accepted, numberReply}
+use Rattle.desk.specs.Refused.{InRange, accepted}
 use Rattle.desk.specs.Moved.{opened}
 use Rattle.desk.specs.View.{View, givenTable}
 use Rattle.desk.specs.Perform.{perform, asked, showAnswer, answerTo, moved}
 use Rattle.desk.specs.Run.{run, openings, LastOpening, answersSince, roundAfter, answerAfter, viewAfter}
-use Rattle.desk.specs.RefusedLaws.{perform-accepted, OpenAccepted, open-long, open-accepted, unrefused-accepted, answered-reply}
+use Rattle.desk.specs.RefusedLaws.{perform-accepted, OpenAccepted, open-long, open-accepted, answered-reply}
 use Rattle.desk.specs.RulesLaws.{spoiled-exactly}
 use Rattle.desk.specs.Stands.{known-sound, Stands, opening-starts}
-use Rattle.desk.specs.Next.{at, stands-unspoiled, never-11-or-12, ranges-are, shows, below-shown, shown-below, show-is, answered-from}
+use Rattle.desk.specs.Next.{at, stands-unspoiled, never-11-or-12, ranges-are, shows, below-shown, show-is, answered-from}
+use Rattle.desk.specs.Covered.{shown-by-round, shown-at-T, scored-by-round, scored-at-T, promised-by-facts}
 use Rattle.desk.specs.Judged.{PostFixed, judge-yes, judge-no, passes-exactly, passed-le, passed-bounds, simulation-passes, round-passes-exactly}
 use Rattle.desk.specs.WrittenBack.{written-opens}
 use Rattle.desk.specs.Listed.{run-append, last-opening, opening-T, Since, since}
-use Rattle.desk.specs.Demand3.{FactsAnswered, by-value, by-whole, ScoreAnswered, SaysYes, BoundedBy, ScoreBounds, PromisedByRound, PromisedAtT, Covers, Claim, Demand3}
-
--- ---- the bounds, and the facts that value and whole answer
-
-formula-value-accepted : (q : Question) (d : Desk) (e : ℕ) (x : FormulaFacts) → asked q d ≡ Reply.FormulaValue e x → accepted (Call.Ask q) d ≡ true
-formula-value-accepted q d e x p = unrefused-accepted q d (Reply.FormulaValue e x) p never
-  where
-    never : (r : Refusal) → numberReply r ≡ Reply.FormulaValue e x → ⊥
-    never r h = let z : _≡_ {A = ℕ} 0 1 = cc in omega arith
-
-module _ {c : Content} {T : ℕ} (answers : List Reply) (d : Desk) (w : Stands c T (length answers) d) where
-  abbrev view-now : View
-  view-now = viewAfter c T (length answers)
-
-  laws : Laws (ops c)
-  laws = known-sound (w .known) .laws
-
-  shown-by-round : PromisedByRound c T answers d (BoundedBy c T answers d)
-  shown-by-round φ u x l = shown-below w _ (bounded-by-round laws (model1 c) (model2 c) φ u x (roundAfter c T (length answers)) l)
-
-  shown-at-T : PromisedAtT c T answers d (BoundedBy c T answers d)
-  shown-at-T z φ u = shown-below w _ (rw z (bounded-at-T laws (model1 c) (model2 c) T (w .known .isT) φ u))
-
-  score-answered : asked Question.Score d ≡ Reply.Element (score (ops c) (model1 c) (model2 c) (roundIn c (roundAfter c T (length answers))))
-  score-answered = ap (λ b. b .reply) (answered-from w Question.Score .answers tt)
-
-  scored-by-round : PromisedByRound c T answers d (ScoreBounds c T answers d)
-  scored-by-round φ u x l = (_, score-answered, score-by-round laws (model1 c) (model2 c) φ u x (roundAfter c T (length answers)) l)
-
-  scored-at-T : PromisedAtT c T answers d (ScoreBounds c T answers d)
-  scored-at-T z φ u = (_, score-answered, rw z (score-at-T laws (model1 c) (model2 c) T (w .known .isT) φ u))
-
-  -- from a question about formula f that answers an element and facts: there is such a formula, and they are its own
-  from-question : (q : Question) (f y e : ℕ) (x : FormulaFacts) → asked q d ≡ Reply.FormulaValue e x → (InRange q view-now → f < length (c .formulas))
-      → answerTo q view-now .reply ≡ Reply.FormulaValue y (factsOf (formulaIn c f)) → (f < length (c .formulas)) × (x ≡ factsOf (formulaIn c f)) × (e ≡ y)
-  from-question q f y e x p l h =
-      let n = answered-from w q in
-      let i = n .accepts .0 (formula-value-accepted q d e x p) in
-      let z : Reply.FormulaValue e x ≡ Reply.FormulaValue y (factsOf (formulaIn c f)) = sym p ∙ ap (λ b. b .reply) (n .answers i) ∙ h in
-      (l i, cc, cc)
-
-  facts-own : (f : ℕ) (x : FormulaFacts) → FactsAnswered d f x → (f < length (c .formulas)) × (x ≡ factsOf (formulaIn c f))
-  facts-own f x (by-value m q e p) = let h = from-question (Question.Value f m q) f _ e x p (λ i. i .0) refl in (h .0, h .1)
-  facts-own f x (by-whole m e p) = let h = from-question (Question.Whole f m) f _ e x p (λ i. i .0) refl in (h .0, h .1)
-
-  whole-own : (f m e : ℕ) (x : FormulaFacts) → asked (Question.Whole f m) d ≡ Reply.FormulaValue e x → e ≡ wholeValue (ops c) (modelIn c m) (formulaIn c f)
-  whole-own f m e x p = from-question (Question.Whole f m) f _ e x p (λ i. i .0) refl .2
-
-  -- a formula of the case without EX, by its facts, is a closed universal formula
-  sentence : (f : ℕ) (x : FormulaFacts) → f < length (c .formulas) → x ≡ factsOf (formulaIn c f) → x .ex ≡ false → UniversalSentence (model1 c .propositions) (formulaIn c f)
-  sentence f x l h e =
-      let p = formula-part (model1 c .propositions) _ (formulaIn c f) (known-sound (w .known) .formulas .each f l) in
-      record { isClosed = p .is-closed; isUniversal = not-false _ (ap (λ (y : FormulaFacts). y .ex) (sym h) ∙ e); isOver = p .props }
-
-  -- what is promised by round and at T holds of a formula of the case whose answered facts meet the conditions
-  covered-formula : (P : Formula → Type 0) → PromisedByRound c T answers d P → PromisedAtT c T answers d P
-      → (f : ℕ) (x : FormulaFacts) → FactsAnswered d f x → Covers c T answers d x → P (formulaIn c f)
-  covered-formula P by-round at-T f x a h =
-      let own = facts-own f x a in
-      let u = sentence f x (own .0) (own .1) (h .0) in
-      ⊎-elim (λ l. by-round (formulaIn c f) u (not-false _ (ap (λ (y : FormulaFacts). y .fixpoint) (sym (own .1)) ∙ l .0)) (rw (own .1) at (l .1))) (λ z. at-T z (formulaIn c f) u) (h .1)
-
-  scored-covered : (f e v₁ v₂ : ℕ) (x : FormulaFacts) → ScoreAnswered d f e v₁ v₂ x → Covers c T answers d x → AtMost (ops c) e (imp (ops c) v₂ v₁)
-  scored-covered f e v₁ v₂ x a h =
-      let k = covered-formula (ScoreBounds c T answers d) scored-by-round scored-at-T f x (by-whole 1 v₁ (a .on-model1)) h in
-      let same : Reply.Element e ≡ Reply.Element (k .0) = sym (a .by-score) ∙ k .1 in
-      let own₁ = whole-own f 1 v₁ x (a .on-model1) in
-      let own₂ = whole-own f 2 v₂ x (a .on-model2) in
-      let bounds = k .2 in
-      cc
+use Rattle.desk.specs.Demand3.{SaysYes, Claim, Demand3}
 
 -- show's answer leaves no choice of its bytes
 pub same-shown : (x : Reply) (a b : List ℕ) → x ≡ Reply.Shown a → x ≡ Reply.Shown b → a ≡ b
@@ -138,8 +62,8 @@ module _ {c : Content} {T : ℕ} where
         bounded-at-T = shown-at-T answers d w;
         score-by-round = scored-by-round answers d w;
         score-at-T = scored-at-T answers d w;
-        covered = covered-formula answers d w _ (shown-by-round answers d w) (shown-at-T answers d w);
-        score-covered = scored-covered answers d w;
+        covered = promised-by-facts answers d w _ (shown-by-round answers d w) (shown-at-T answers d w);
+        score-covered = promised-by-facts answers d w _ (scored-by-round answers d w) (scored-at-T answers d w);
         passes-exactly = passes-exactly v n;
         passed-le = passed-le v n sound;
         passed-bounds = passed-bounds v n sound;

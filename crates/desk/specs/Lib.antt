@@ -21,6 +21,7 @@ pub mod Stands  -- the invariant of demand 3, and that an accepted opening start
 pub mod Stepping  -- an accepted step moves it on
 pub mod Next  -- what the next call answers where it holds
 pub mod Listed  -- it holds after every list of calls with an accepted opening in it
+pub mod Covered  -- of which formulas the entries shown and the score keep the bound, and the facts by which that is known
 pub mod Judged  -- what judge's yes and no say of a table, and which tables get a yes
 pub mod WrittenBack  -- what write leaves in its buffer, and what opening that gives
 pub mod Demand3Holds  -- demand 3 is proved, and what it says of the questions one by one

@@ -1,5 +1,5 @@
--- The worked examples of document 01 that are marked as proved, with the shares of request 101, the bound of request 106 and some more, in one list, each as a statement.
--- Rests on Part, Simulation, Value, Lists.
+-- The worked examples of document 01 that are marked as proved, with the shares of request 101, what the bound of request 106 rests on, and some more, in one
+-- list, each as a statement. Rests on Part, Simulation, Value, Lists.
 --   Example, ExampleHolds: what an example says, over lattices and models given by the bytes of their parts (partOps, entries)
 --   L1, L2, L3, subsets: the lattices; middleP, loop2, still2, loop3, still3, stepP, stepNoP, laterP, loopNoP, branches, reaches, only: the
 --     models
@@ -123,6 +123,10 @@ reaches = 3 ∷ 1 ∷ 7 ∷ 0 ∷ 0 ∷ 3 ∷ 2 ∷ 6 ∷ 0 ∷ 6 ∷ 6 ∷ 0 �
 abbrev pub always : Formula
 always = nu (and (prop 0) (AX (var 0)))
 
+-- νz.¬p∧AXz
+abbrev pub neverP : Formula
+neverP = nu (and (negated 0) (AX (var 0)))
+
 -- one state over one element
 abbrev pub only : List ℕ
 only = 1 ∷ 0 ∷ 0 ∷ 0 ∷ []
@@ -175,13 +179,13 @@ table1 = valueIs subsets reaches always 0 3 ∷ valueIs subsets reaches always 1
 abbrev pub reported : List Example
 reported = scoreIs L3 middleP middleP 2 1 ∷ wholeIs L3 middleP (prop 0) 1 ∷ []
 
--- request 106: what the bound of the score rests on, each where the score would exceed it. AX of not-p, with 1 nested AX, at round 1 of example 4: fewer
--- than r are needed. νz.¬p∧AXz at round 2, where T is 4: no fixpoint. EX of top at T of example 2 exchanged: no EX. And there AX of bottom, with the models
--- exchanged in the bound, which goes from model 2 to model 1.
+-- request 106: scores that are not at most the bound, where one condition is missing. AX of not-p at round 1 of example 4: as many nested AX as r.
+-- νz.¬p∧AXz, which has 1, at round 2, T being 4: a fixpoint. EX of top at T of example 2 exchanged: EX. There too AX of bottom, with the models exchanged in
+-- the bound.
 abbrev pub wholeBound : List Example
 wholeBound =
     scoreExceeds L2 stepP stepNoP 1 (AX (negated 0)) stepNoP stepP
-    ∷ settlesAt L2 laterP loopNoP 4 ∷ scoreExceeds L2 laterP loopNoP 2 (nu (and (negated 0) (AX (var 0)))) loopNoP laterP
+    ∷ settlesAt L2 laterP loopNoP 4 ∷ nestedIs neverP 1 ∷ scoreExceeds L2 laterP loopNoP 2 neverP loopNoP laterP
     ∷ scoreExceeds L2 still2 loop2 1 (EX top) loop2 still2
     ∷ scoreExceeds L2 still2 loop2 1 (AX bottom) still2 loop2 ∷ []
 

@@ -99,8 +99,8 @@ unfolding partOps roundOf F wholeValue score eval bigMeet bigJoin imp iff
 reported-holds = (refl, (refl, tt))
 
 wholeBound-holds : All ExampleHolds wholeBound
-unfolding partOps unchangedTest roundOf F wholeValue score eval bigMeet bigJoin imp iff
-wholeBound-holds = (refl, (settles-by-test _ _ _ 4 refl refl, (refl, (refl, (refl, tt)))))
+unfolding partOps unchangedTest roundOf F wholeValue score eval nestedAX bigMeet bigJoin imp iff
+wholeBound-holds = (refl, (settles-by-test _ _ _ 4 refl refl, (refl, (refl, (refl, (refl, tt))))))
 
 -- ---- Theorem 8
 
