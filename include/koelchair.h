@@ -241,7 +241,8 @@ koelchair_answer koelchair_whole(koelchair_standing standing,
                                  const uint8_t *second, size_t second_length,
                                  uint8_t formula, uint8_t model);
 
-/* The score of the table shown: KOELCHAIR_ELEMENT, or KOELCHAIR_REFUSED with 11 or 12. */
+/* The score of the table shown: KOELCHAIR_ELEMENT, or KOELCHAIR_REFUSED with 11 or 12. Which formulas it bounds stands at
+   koelchair_value. */
 koelchair_answer koelchair_score(koelchair_standing standing,
                                  const uint8_t *store, size_t store_length,
                                  const uint8_t *first, size_t first_length,

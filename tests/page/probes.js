@@ -24,7 +24,7 @@ window.probe = {
     return { whole: this.chips("whole"), values: { 1: this.chips("values1"), 2: this.chips("values2") } };
   },
 
-  // The table of whole values as it is read: the headings, then a row for each formula.
+  // The table of values on the whole models as it is read: the headings, then a row for each formula.
   whole() {
     const rows = [...document.querySelectorAll("#whole tr")];
     return rows.map((row) => [...row.querySelectorAll("th, td")].map((cell) => cell.innerText.trim()));
@@ -50,14 +50,14 @@ window.probe = {
       cell.click();
       const element = document.querySelector("#pair-heading .chip").textContent;
       for (const row of document.querySelectorAll("#bounds tbody tr")) {
-        const [value2, value1, bound, below, covered] = [...row.querySelectorAll("td")].map((td) => td.textContent);
+        const [value1, value2, bound, below, covered] = [...row.querySelectorAll("td")].map((td) => td.textContent);
         found.push({ value1, value2, bound, element, below: below === "at or below", covered: covered.startsWith("covered") });
       }
     }
     return found;
   },
 
-  // The same of the whole values, which the score is compared with.
+  // The same of the values on the whole models, with whose bound the score is compared.
   wholeBounds() {
     const element = document.querySelector("#score .chip").textContent;
     const line = ([, value1, value2, bound, below, covered]) => ({ value1, value2, bound, element, below: below === "at or below", covered: covered === "covered" });

@@ -1,5 +1,5 @@
--- The worked examples of document 01 that are marked as proved, with the shares of request 101, what the bound of request 106 rests on, and some more, in one
--- list, each as a statement. Rests on Part, Simulation, Value, Lists.
+-- The worked examples of document 01 that are marked as proved, with the shares of request 101, what request 106 has to ask of a formula, and some more, in
+-- one list, each as a statement. Rests on Part, Simulation, Value, Lists.
 --   Example, ExampleHolds: what an example says, over lattices and models given by the bytes of their parts (partOps, entries)
 --   L1, L2, L3, subsets: the lattices; middleP, loop2, still2, loop3, still3, stepP, stepNoP, laterP, loopNoP, branches, reaches, only: the
 --     models

@@ -89,6 +89,8 @@ fn the_guide_has_a_student_s_file_and_a_table() {
 fn the_guide_says_what_follows_from_a_score() {
     let guide = text(&folder("../../docs/GUIDE.md"));
     let names = ["no", "unsure", "yes"];
+    let head = "| Score | The course's value is yes | It is unsure | It is no |";
+    assert!(guide.lines().any(|line| line == head), "{head}");
     for (score, name) in names.iter().enumerate() {
         let follows = |course: usize| {
             let kept = |student: &usize| score <= (2 - course).max(*student);

@@ -3,8 +3,9 @@
 // An error is said on the page: a page that broke must not be taken for a whole one.
 function failed(message) {
   const place = document.getElementById("errors");
+  const said = `This page is broken: ${message}. `;
   place.hidden = false;
-  place.textContent += `This page is broken: ${message}. `;
+  if (!place.textContent.includes(said)) place.textContent += said;
 }
 window.addEventListener("error", (event) => failed(event.message));
 window.addEventListener("unhandledrejection", (event) => failed(String(event.reason)));

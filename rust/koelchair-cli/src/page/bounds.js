@@ -1,7 +1,7 @@
 // What the tables of bounds have in common: the bound 'not the value of who follows, joined with the value of who is followed', and
 // whether the shown round covers a formula, so that an entry or the score has to be at or below it.
 
-// (not a) joined with b, by the tool's table.
+// (not a) joined with b, as the tool worked it out.
 function implies(a, b) {
   return lattice.implies[a * lattice.names.length + b];
 }
@@ -37,8 +37,13 @@ function bounded(formula, [value1, value2], what, element) {
   const below = atMost(element, bound);
   const [isCovered, mark, why] = covered(formula);
   if (isCovered && !below) failed(`${formula.name} is covered, and the ${what} is not at or below the bound`);
-  const said = below ? "at or below" : make("span", { class: "over" }, "not at or below");
+  const said = below ? "at or below" : make("span", { class: mark === "not yet" ? "over" : "" }, "not at or below");
   return { bound, said, isCovered, mark, why };
+}
+
+// The headings of a table of bounds, of the student's value and the course's, the element that is compared, and the shown round.
+function boundHead(value1, value2, element) {
+  return ["Formula", capital(value1), capital(value2), "Bound", element, `Covered by round ${shownRound}?`];
 }
 
 // A word in bold where the shown round covers the formula.

@@ -1,4 +1,4 @@
-// The formulas with their values on both whole models and at each state, the bound that the whole values give the score, and whether
+// The formulas with their values on both whole models and at each state, the bound that the values on the whole models give the score, and whether
 // the shown round covers them.
 
 // A formula with its name, as it is written, and below it its facts and from when on a table covers it.
@@ -19,12 +19,12 @@ function wholeLine(formula, score) {
   return [formulaText(formula), ...formula.whole.map(chip), chip(bound), said, coveredMark(isCovered, mark)];
 }
 
-// The table of whole values for the shown round and its score.
+// The table of values on the whole models for the shown round and its score.
 function showWhole() {
   if (data.formulas.length === 0) return;
   const score = data.rounds[shownRound][0];
   const scoreHead = make("span", {}, "The score ", chip(score), " is");
-  const head = ["Formula", capital(modelName(0)), capital(modelName(1)), "Bound", scoreHead, `Covered by round ${shownRound}?`];
+  const head = boundHead(modelName(0), modelName(1), scoreHead);
   const lines = data.formulas.map((formula) => wholeLine(formula, score));
   at("whole").replaceChildren(tableOf("On the whole models", [head, ...lines]));
 }
@@ -36,7 +36,7 @@ function showFormulas() {
   }
   const whole = scrolling("formulas on the whole models", "");
   whole.id = "whole";
-  at("formulas").append(make("p", {}, ...boundWords("whole value", "score")), whole);
+  at("formulas").append(make("p", {}, ...boundWords("value on the whole model", "score")), whole);
   const tables = data.models.map((model, m) => {
     const lines = data.formulas.map((formula) => [formula.name, ...formula.values[m].map(chip)]);
     const caption = `At each state of ${modelName(m)}`;

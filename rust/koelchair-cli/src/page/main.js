@@ -5,8 +5,8 @@ function showHead() {
   at("title").textContent = (data.title || "Latticed simulation") + (exchanged ? ", exchanged" : "");
   at("direction").replaceChildren(
     "How far can the ", person(1), " follow the ", person(0), `? Rows are the ${one}'s states, columns the ${other}'s. ` +
-    `What is true of all ways on in the ${other}'s model carries over to the ${one}'s: from state to state as far as the entry says, and of the whole models as far as the score says. ` +
-    "Nothing is said the other way round.",
+    `What is true of all ways on in the ${other}'s model carries over to the ${one}'s: from state to state as far as the entry says, and of the whole models as far as the score says, ` +
+    "in the settled table, and before it for the formulas that the shown round covers. Nothing is said the other way round.",
   );
   at("about").textContent = data.about;
   at("exchange").textContent = exchanged ? "Student against course" : "Exchange";

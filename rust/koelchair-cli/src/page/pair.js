@@ -79,7 +79,7 @@ function toCell() {
 function pairLine(formula, entry) {
   const values = [formula.values[0][chosen[0]], formula.values[1][chosen[1]]];
   const { bound, said, isCovered, mark, why } = bounded(formula, values, "entry", entry);
-  return [formula.name, chip(values[1]), chip(values[0]), chip(bound), said, coveredMark(isCovered, `${mark}: ${why}`)];
+  return [formula.name, ...values.map(chip), chip(bound), said, coveredMark(isCovered, `${mark}: ${why}`)];
 }
 
 // A text in which what stands between backquotes is code.
@@ -154,7 +154,7 @@ function showPair() {
 function showBounds(entry) {
   const [q1, q2] = chosen;
   const lines = data.formulas.map((formula) => pairLine(formula, entry));
-  const head = ["Formula", `${capital(data.owners[1])}, at ${columns[q2]}`, `${capital(data.owners[0])}, at ${rows[q1]}`, "Bound", "The entry is", "Covered by this round?"];
+  const head = boundHead(`${data.owners[0]}, at ${rows[q1]}`, `${data.owners[1]}, at ${columns[q2]}`, "The entry is");
   const table = tableOf("", [head, ...lines]);
   at("bounds").querySelector("div").replaceChildren(...(lines.length === 0 ? [make("p", {}, "The case has no formulas.")] : [
     make("p", {}, ...boundWords("value", "entry"), ` The pair is (${rows[q1]}, ${columns[q2]}).`),

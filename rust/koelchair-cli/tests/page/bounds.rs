@@ -1,4 +1,4 @@
-//! Covered formulas bound the entries and the score, by what the page knows of the lattice.
+//! Entries and score bound the covered formulas, by what the page knows of the lattice.
 
 use super::json::Json;
 use super::{embedded, examples, tables, Example};
@@ -42,7 +42,7 @@ impl Bounds {
 }
 
 #[test]
-fn covered_formulas_bound_every_entry() {
+fn entries_bound_covered_formulas() {
     let mut covers = 0;
     for Example { name, data, .. } in examples() {
         let (bounds, tables) = (Bounds::of(data), tables(data));
@@ -96,7 +96,7 @@ fn score_bounds(name: &str, data: &Json) -> [usize; 2] {
 }
 
 #[test]
-fn covered_formulas_bound_the_score() {
+fn scores_bound_covered_formulas() {
     let mut found = [0, 0];
     for Example {
         name, html, data, ..
