@@ -41,7 +41,8 @@ function bounded(formula, [value1, value2], what, element) {
   return { bound, said, isCovered, mark, why };
 }
 
-// The headings of a table of bounds, of the student's value and the course's, the element that is compared, and the shown round.
+// The headings of a table of bounds: of the two values, of what is compared with their bound, and of whether the shown round covers the
+// formula.
 function boundHead(value1, value2, element) {
   return ["Formula", capital(value1), capital(value2), "Bound", element, `Covered by round ${shownRound}?`];
 }

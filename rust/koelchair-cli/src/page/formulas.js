@@ -1,5 +1,5 @@
-// The formulas with their values on both whole models and at each state, the bound that the values on the whole models give the score, and whether
-// the shown round covers them.
+// The formulas with their values on both whole models and at each state, the bound that the values on the whole models give the score,
+// and whether the shown round covers them.
 
 // A formula with its name, as it is written, and below it its facts and from when on a table covers it.
 function formulaText(formula) {
