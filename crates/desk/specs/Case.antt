@@ -2,6 +2,7 @@
 --   ops, latticeSize; model1, model2, N1, N2, tableSize: the lattice, the two models, and the sizes of these and of a table
 --   modelIn, formulaIn: a model and a formula by their numbers
 --   operator, roundIn, IsT: F, its rounds, and being T; limit: N1·N2·(n − 1)
+--   differingIn, loweringsIn: in how many entries two tables differ, and the lowerings of the rounds 1 to r
 --   entryAt, tableBytes: the entries of a table in the order of its bytes
 --   caseBytes: the case without gaps
 use Prim.Native.Nat.{ℕ, _*_, _-_, _/_, _%_}
@@ -12,7 +13,7 @@ use lib.ListN.{getD}
 use Rattle.theory.specs.Lattice.{Ops}
 use Rattle.theory.specs.Model.{Model}
 use Rattle.theory.specs.Formula.{Formula, bottom}
-use Rattle.theory.specs.Simulation.{F, round, FirstUnchanged}
+use Rattle.theory.specs.Simulation.{F, round, FirstUnchanged, differing, lowerings}
 use Rattle.theory.specs.Part.{opsOf, modelOf}
 use Rattle.theory.specs.Lists.{tab}
 use Rattle.casefile.specs.Reading.{Content, contentParts}
@@ -56,6 +57,14 @@ roundIn c = round (ops c) (model1 c) (model2 c)
 
 abbrev pub IsT : Content → ℕ → Type 0
 IsT c = FirstUnchanged (ops c) (model1 c) (model2 c)
+
+-- in how many of the N1·N2 entries two tables differ (request 107)
+abbrev pub differingIn : Content → (ℕ → ℕ → ℕ) → (ℕ → ℕ → ℕ) → ℕ
+differingIn c S U = differing eqb (N1 c) (N2 c) S U
+
+-- 'the entries that differ from the round before, summed over' the rounds 1 to r
+abbrev pub loweringsIn : Content → ℕ → ℕ
+loweringsIn c r = lowerings eqb (N1 c) (N2 c) (roundIn c) r
 
 -- N1·N2·(n − 1)
 abbrev pub limit : Content → ℕ

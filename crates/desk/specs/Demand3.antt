@@ -25,7 +25,7 @@ use Rattle.desk.specs.Refused.{short, spoiled, InRange, examined, accept
 use Rattle.desk.specs.Moved.{fresh}
 use Rattle.desk.specs.View.{shownTable, givenTable}
 use Rattle.desk.specs.Perform.{perform, asked, showAnswer}
-use Rattle.desk.specs.Run.{run, LastOpening, answersSince, roundAfter, answerAfter, viewAfter, AnsweredFrom}
+use Rattle.desk.specs.Run.{run, LastOpening, answersSince, roundAfter, loweringsAfter, answerAfter, viewAfter, AnsweredFrom}
 
 -- 'Value and whole pass these three on with the element' (request 102): one of them, on the desk d, answered x of formula f
 pub data FactsAnswered (d : Desk) (f : ℕ) (x : FormulaFacts) : Type 0 where
@@ -138,8 +138,12 @@ module _ (c : Content) (T : ℕ) (answers : List Reply) (d : Desk) where
     pub h-exists : (h : ℕ) × LongestChain (ops c) h
     pub T-most : (h : ℕ) → LongestChain (ops c) h → T ≤ tableSize c * (h - 1) + 1
     -- 'The last accepted step since that opening, if there was one, answered Settled(T) when r = T, else Round(r) when s is a multiple of
-    -- N1, else Row.'
-    pub answered : 0 < s → getD answers (s - 1) Reply.Row ≡ answerAfter c T s
+    -- N1, else Row', with the lowerings of the rounds 1 to r
+    pub answered : 0 < s → getD answers (s - 1) Reply.Opened ≡ answerAfter c T s
+    -- request 107: the standing's count is 'the entries that differ from the round before, summed over the whole rounds shown', that is, over the rounds 1
+    -- to r, and 'at most N1·N2·(h − 1)'. The last accepted step answered it (`answered`); from T on it stays, as r does.
+    pub lowerings-are : d .standing .lowerings ≡ loweringsAfter c T s
+    pub lowerings-most : (h : ℕ) → LongestChain (ops c) h → d .standing .lowerings ≤ tableSize c * (h - 1)
     -- 'Neither 11 nor 12 applies to the call that comes next, whichever it is'
     pub not-short : short d ≡ false
     pub not-spoiled : spoiled d ≡ false

@@ -9,11 +9,13 @@ use mathlib.Core.Bool.{true, false}
 use mathlib.Core.Logic.{inl, _↔_}
 use mathlib.Core.List.{List, _∷_}
 use native.Mathlib.Omega.{arith}
+use borrow.Author.Tests.{eq-eqb}
+use lib.Dec.{eqb}
 use lib.ListN.{length, getD, take}
 use Rattle.theory.specs.Value.{valueAt, wholeValue}
 use Rattle.theory.specs.Simulation.{score, share}
 use Rattle.theory.specs.Height.{longest-chain}
-use Rattle.theory.specs.Rounds.{T-at-most, settled-greatest, below-rounds, fixed-below}
+use Rattle.theory.specs.Rounds.{T-at-most, lowerings-most, settled-greatest, below-rounds, fixed-below}
 use Rattle.theory.specs.Sharp.{T-sharp}
 use Rattle.refusal.specs.declared.Refusal.the-variants.{ShortDesk, SpoiledDesk, ShortBuffer}
 use Rattle.formula.specs.Answer.{factsOf}
@@ -42,7 +44,7 @@ pub same-shown : (x : Reply) (a b : List ℕ) → x ≡ Reply.Shown a → x ≡ 
 same-shown x a b p q = cc
 
 module _ {c : Content} {T : ℕ} where
-  pub claimed : (answers : List Reply) (d : Desk) → Stands c T (length answers) d → ((i : ℕ) → i < length answers → getD answers i Reply.Row ≡ answerAfter c T (suc i)) → Claim c T answers d
+  pub claimed : (answers : List Reply) (d : Desk) → Stands c T (length answers) d → ((i : ℕ) → i < length answers → getD answers i Reply.Opened ≡ answerAfter c T (suc i)) → Claim c T answers d
   claimed answers d w each =
       let sound = known-sound (w .known) in
       let L = sound .laws in
@@ -77,6 +79,8 @@ module _ {c : Content} {T : ℕ} where
         h-exists = (h .0, h .2);
         T-most = λ n l. T-at-most L (model1 c) (model2 c) n l T (w .known .isT);
         answered = λ l. let z : suc (length answers - 1) ≡ length answers = omega arith in each (length answers - 1) (omega arith) ∙ ap (answerAfter c T) z;
+        lowerings-are = p .lowerings-are;
+        lowerings-most = λ m l. rw (w .progress .lowered) (lowerings-most L (model1 c) (model2 c) eqb (λ a. eq-eqb a a refl) m l (d .standing .round));
         not-short = stands-unspoiled w .long;
         not-spoiled = spoiled-exactly d .1 (c, stands-unspoiled w .rules);
         not-11 = λ k q. never-11-or-12 w k ShortDesk q (omega arith) (omega arith);
@@ -141,7 +145,7 @@ listed ks d l T isT = subst (Claim c T (answersSince l)) (sym same) (claimed (an
     none : 0 + length (answersSince l) ≡ length (answersSince l)
     none = omega arith
 
-    each : (i : ℕ) → i < length (answersSince l) → getD (answersSince l) i Reply.Row ≡ answerAfter c T (suc i)
+    each : (i : ℕ) → i < length (answersSince l) → getD (answersSince l) i Reply.Opened ≡ answerAfter c T (suc i)
     each i m = let z : 0 + suc i ≡ suc i = omega arith in after .each i m ∙ ap (answerAfter c T) z
 
     same : run ks d ≡ run (l .after) start

@@ -10,7 +10,7 @@ use mathlib.Core.List.{List, [], _∷_, _++_, map}
 use lib.ListN.{replicate}
 use Rattle.theory.specs.Lattice.{imp, iff, bigMeet, bigJoin}
 use Rattle.theory.specs.Value.{iterate, bind, allNext, someNext, eval, valueAt, wholeValue}
-use Rattle.theory.specs.Simulation.{propositionPart, successorPart, F, roundOf, score, count, share}
+use Rattle.theory.specs.Simulation.{propositionPart, successorPart, F, roundOf, score, count, share, sum, differing}
 use Rattle.theory.specs.Part.{isMeet, isJoin, meetOf, joinOf, topOf, botOf, element}
 use Rattle.theory.specs.Formula.{closedUnder, overProps, nestedBinders, nestedAX, fixpointFree, universal}
 use Rattle.theory.specs.Test.{allBelow, firstBelow}
@@ -39,7 +39,7 @@ refused-show r = refl
 abbrev pub zeros : Desk
 zeros =
     record {
-      standing = record { states1 = 0; states2 = 0; round = 0; row = 0; changed = false; settled = false; secondWhole = false };
+      standing = record { states1 = 0; states2 = 0; round = 0; row = 0; changed = false; settled = false; secondWhole = false; lowerings = 0 };
       store = replicate 24576 0;
       first = replicate 4096 0;
       second = replicate 4096 0;
@@ -54,8 +54,8 @@ nested n = record { nesting = n; fixpoint = false; ex = false }
 abbrev pub calls1 : List (Call × Reply)
 calls1 =
     (Call.Open reportCase, Reply.Opened)
-    ∷ (Call.Step, Reply.Round 1)
-    ∷ (Call.Step, Reply.Settled 2)
+    ∷ (Call.Step, Reply.Round 1 1)
+    ∷ (Call.Step, Reply.Settled 2 1)
     ∷ (Call.Show, Reply.Shown (1 ∷ []))
     ∷ (Call.Ask Question.Score, Reply.Element 1)
     ∷ (Call.Ask (Question.Whole 0 1), Reply.FormulaValue 1 (nested 0))
@@ -72,7 +72,7 @@ abbrev pub LeavesCase : Type 0
 LeavesCase = perform (Call.Ask (Question.Write (replicate 44 7))) (run (map (λ x. x .0) calls1) zeros) .lent ≡ (reportCase ++ (7 ∷ 7 ∷ [])) ∷ []
 
 -- worked example 4 with AX of not-p: 'Round 1 is 1 0 / 0 0, round 2 all 0, T = 3. AX of not-p has value 1 at state 0 of model 2 and 0 in
--- model 1'; state 0 is initial in both
+-- model 1'; state 0 is initial in both. For request 107: round 1 lowers three entries, round 2 one, and round 3 none
 abbrev pub example4 : List ℕ
 example4 =
     gapless
@@ -91,10 +91,10 @@ calls4 =
     ∷ (Call.Step, Reply.Refused 12 255)
     ∷ (Call.Open [], Reply.Refused 1 255)
     ∷ (Call.Open example4, Reply.Opened)
-    ∷ (Call.Step, Reply.Row)
+    ∷ (Call.Step, Reply.Row 0)
     ∷ (Call.Show, Reply.Shown (1 ∷ 1 ∷ 1 ∷ 1 ∷ []))
     ∷ (Call.Open (3 ∷ []), Reply.Refused 2 255)
-    ∷ (Call.Step, Reply.Round 1)
+    ∷ (Call.Step, Reply.Round 1 3)
     ∷ (Call.Show, Reply.Shown (1 ∷ 0 ∷ 0 ∷ 0 ∷ []))
     ∷ (Call.Ask (Question.Share 1), Reply.PerCent 25)
     ∷ (Call.Ask (Question.Value 0 2 0), Reply.FormulaValue 1 (nested 1))
@@ -102,12 +102,12 @@ calls4 =
     ∷ (Call.Ask (Question.Value 1 1 0), Reply.Refused 13 255)
     ∷ (Call.Ask (Question.Value 0 0 0), Reply.Refused 13 255)
     ∷ (Call.Ask (Question.Value 0 1 2), Reply.Refused 13 255)
-    ∷ (Call.Step, Reply.Row)
-    ∷ (Call.Step, Reply.Round 2)
+    ∷ (Call.Step, Reply.Row 3)
+    ∷ (Call.Step, Reply.Round 2 4)
     ∷ (Call.Show, Reply.Shown (0 ∷ 0 ∷ 0 ∷ 0 ∷ []))
-    ∷ (Call.Step, Reply.Row)
-    ∷ (Call.Step, Reply.Settled 3)
-    ∷ (Call.Step, Reply.Settled 3)
+    ∷ (Call.Step, Reply.Row 4)
+    ∷ (Call.Step, Reply.Settled 3 4)
+    ∷ (Call.Step, Reply.Settled 3 4)
     ∷ (Call.Ask Question.Score, Reply.Element 0)
     ∷ (Call.Ask (Question.Whole 0 2), Reply.FormulaValue 1 (nested 1))
     ∷ (Call.Ask (Question.Judge (0 ∷ 0 ∷ 0 ∷ 0 ∷ [])), Reply.Says true)
@@ -121,5 +121,5 @@ abbrev pub AnswersAs : List (Call × Reply) → Type 0
 AnswersAs l = replies (map (λ x. x .0) l) zeros ≡ map (λ x. x .1) l
 
 pub examples-answer : AnswersAs calls1 × AnswersAs calls4 × LeavesCase
-unfolding imp iff bigMeet bigJoin iterate bind allNext someNext eval valueAt wholeValue propositionPart successorPart F roundOf score count share isMeet isJoin meetOf joinOf topOf botOf element closedUnder overProps nestedBinders nestedAX fixpointFree universal allBelow firstBelow isPanel latticeOf explicitForm latticeForm reflexive antisymmetric transitive partialOrder meetsAndJoins distributive complementRules require partReading latticeReading elementsOnly modelTest byCode parse formulaReading partStart partSize placed misplaced partsFrom formulasReading modelsReading caseReading pairs joined gapless tab rowSame changedBelow rowAtMost postFixedTest short rulesObeyed spoiled examined accepted opened worked stepped answer moved lentAfter perform run replies
+unfolding imp iff bigMeet bigJoin iterate bind allNext someNext eval valueAt wholeValue propositionPart successorPart F roundOf score count share sum differing isMeet isJoin meetOf joinOf topOf botOf element closedUnder overProps nestedBinders nestedAX fixpointFree universal allBelow firstBelow isPanel latticeOf explicitForm latticeForm reflexive antisymmetric transitive partialOrder meetsAndJoins distributive complementRules require partReading latticeReading elementsOnly modelTest byCode parse formulaReading partStart partSize placed misplaced partsFrom formulasReading modelsReading caseReading pairs joined gapless tab rowSame changedBelow rowAtMost postFixedTest short rulesObeyed spoiled examined accepted opened worked stepped answer moved lentAfter perform run replies
 examples-answer = (refl, refl, refl)

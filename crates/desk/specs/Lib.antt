@@ -19,6 +19,7 @@ pub mod RefusedLaws  -- which refusal a call gets, and what an accepted call kno
 pub mod Demand1Holds  -- demand 1 holds of every call on every desk
 pub mod Stands  -- the invariant of demand 3, and that an accepted opening starts it
 pub mod Stepping  -- an accepted step moves it on
+pub mod Position  -- what the standing is where it holds
 pub mod Next  -- what the next call answers where it holds
 pub mod Listed  -- it holds after every list of calls with an accepted opening in it
 pub mod Covered  -- of which formulas the entries shown and the score keep the bound, and the facts by which that is known

@@ -99,7 +99,7 @@ reading-unchanged k d o s = call-unchanged k d (ap (λ (x : Bool). x && accepted
 
 pub record Since (c : Content) (T s : ℕ) (answers : List Reply) (d : Desk) : Type 0 where
   pub stands : Stands c T (s + length answers) d
-  pub each : (i : ℕ) → i < length answers → getD answers i Reply.Row ≡ answerAfter c T (s + suc i)
+  pub each : (i : ℕ) → i < length answers → getD answers i Reply.Opened ≡ answerAfter c T (s + suc i)
 
 module _ {c : Content} {T : ℕ} where
   pub step-stands : (k : Call) (s : ℕ) (d : Desk) → Stands c T s d → (isStep k && accepted k d) ≡ true → Stands c T (s + 1) (perform k d .desk) × (perform k d .reply ≡ answerAfter c T (s + 1))
@@ -120,7 +120,7 @@ module _ {c : Content} {T : ℕ} where
       q : s + 1 + length answers ≡ s + suc (length answers)
       q = omega arith
 
-      go : (i : ℕ) → i < suc (length answers) → getD (a ∷ answers) i Reply.Row ≡ answerAfter c T (s + suc i)
+      go : (i : ℕ) → i < suc (length answers) → getD (a ∷ answers) i Reply.Opened ≡ answerAfter c T (s + suc i)
       go zero l = p
       go (suc i) l = let z : s + 1 + suc i ≡ s + suc (suc i) = omega arith in w .each i (omega arith) ∙ ap (answerAfter c T) z
 

@@ -1,22 +1,21 @@
 -- What a desk that stands after s accepted steps is: its standing, the call that comes next, and what it answers.
--- Rests on Stands, RefusedLaws, ViewLaws, Case, Refused, Moved, Perform, Run, theory's Rounds, rounds' Round.
---   Position, at: round, next row and settled after s accepted steps
+-- Rests on Stands, Position, RefusedLaws, ViewLaws, Case, Refused, Perform, Run, theory's Rounds, rounds' Round.
+--   at: round, next row, settled and lowerings after s accepted steps
 --   stands-unspoiled, never-11-or-12: neither 11 nor 12 applies to the next call
 --   ranges-are, next-answer, next-desk: it is accepted where its own conditions hold, and works on c
 --   shows, show-is: the table shown; answered-from: every question is answered from the view after s accepted steps
-use Prim.Native.Nat.{ℕ, _+_, _*_, _/_, _%_, _≤_, _<_, min}
+use Prim.Native.Nat.{ℕ, _+_, _≤_, _<_}
 use mathlib.Core.Path.{_≡_, refl, sym, ap, _∙_, subst}
 use mathlib.Core.Bool.{Bool, true, false, cond}
-use mathlib.Core.Logic.{_⊎_, inl, inr, ⊎-elim, _↔_}
+use mathlib.Core.Logic.{_⊎_, inl, inr, ⊎-elim}
 use mathlib.Core.List.{List}
 use mathlib.Core.Option.{Option, none, some}
-use native.Mathlib.Nat.{mul-add-div-right, mul-add-mod-self-right, div-eq-of-lt, mod-eq-of-lt, le-div-iff-mul-le, min-eq-left, min-eq-right}
 use native.Mathlib.Omega.{arith}
-use borrow.Author.Tests.{ltb-true, eq-eqb, ne-eqb}
+use borrow.Author.Tests.{ltb-true, eq-eqb}
 use lib.Dec.{eqb}
 use lib.ListN.{length, getD, take}
 use Rattle.theory.specs.Simulation.{SameTable, AtMostTable}
-use Rattle.theory.specs.Rounds.{T-at-most-size}
+use Rattle.theory.specs.Rounds.{T-at-most-size, lowerings-most-size}
 use Rattle.theory.specs.TestLaws.{false-true}
 use Rattle.refusal.specs.declared.Refusal.{Refusal}
 use Rattle.refusal.specs.Number.{numberOf}
@@ -26,66 +25,17 @@ use Rattle.casefile.specs.Content.{ContentSound}
 use Rattle.casefile.specs.Numbered.{CaseNumber, case-number}
 use Rattle.rounds.specs.Table.{changedBelow}
 use Rattle.rounds.specs.Round.{changed-none, shown-bytes}
-use Rattle.desk.specs.Desk.{Standing, Desk, Question, Call, Reply, Answered, wholeTable, isOpen}
+use Rattle.desk.specs.Desk.{Desk, Question, Call, Reply, Answered, wholeTable, isOpen}
 use Rattle.desk.specs.Case.{ops, latticeSize, model1, model2, N1, tableSize, operator, roundIn, limit, tableBytes}
 use Rattle.desk.specs.View.{viewOf, shownTable}
 use Rattle.desk.specs.Refused.{Rules, conditions, callConditions, firstRefusal, noRefusal, afterRules, examined, isContent, accepted}
-use Rattle.desk.specs.Moved.{stepAnswer}
 use Rattle.desk.specs.Perform.{perform, showAnswer, answer, moved, lentAfter}
-use Rattle.desk.specs.Run.{roundAfter, answerAfter, viewAfter, AnsweredFrom}
+use Rattle.desk.specs.Run.{roundAfter, viewAfter, AnsweredFrom}
 use Rattle.desk.specs.RefusedLaws.{Unspoiled, opens-or-not, open-long, in-store, perform-refused, perform-accepted}
 use Rattle.desk.specs.RulesLaws.{Long, long-not-short, range-exactly, broken-exactly, refusal-one}
 use Rattle.desk.specs.ViewLaws.{SameView, conditions-cong, answer-cong}
-use Rattle.desk.specs.Stands.{known-sound, BeforeT, AtT, Progress, DeskBeforeT, DeskAtT, Stands, sizes-most}
-
--- ---- s is round · N1 + row
-
-div-of : (n round row s : ℕ) → row < n → s ≡ round * n + row → s / n ≡ round
-div-of n round row s l q = let p : 0 < n = omega arith in rw (q, mul-add-div-right p round row, div-eq-of-lt l) (omega arith)
-
-mod-of : (n round row s : ℕ) → row < n → s ≡ round * n + row → s % n ≡ row
-mod-of n round row s l q = rw (q, mul-add-mod-self-right round n row) (mod-eq-of-lt l)
-
--- what follows of round, next row and settled, and the answer that they give
-pub record Position (c : Content) (T s : ℕ) (x : Standing) : Type 0 where
-  pub round-is : x .round ≡ roundAfter c T s
-  pub row-below-T : roundAfter c T s < T → x .row ≡ s % N1 c
-  pub row-at-T : roundAfter c T s ≡ T → x .row ≡ 0
-  pub settled-exactly : (x .settled ≡ true) ↔ (roundAfter c T s ≡ T)
-  pub settled-is : x .settled ≡ eqb (roundAfter c T s) T
-  pub answer-is : stepAnswer x ≡ answerAfter c T s
-
-module _ {c : Content} {T s : ℕ} {x : Standing} where
-  beforeT-position : {whole other : List ℕ} → BeforeT c T s x whole other → Position c T s x
-  beforeT-position g =
-      let d : s / N1 c ≡ x .round = div-of (N1 c) (x .round) (x .row) s (g .row-below) (g .count) in
-      let m : s % N1 c ≡ x .row = mod-of (N1 c) (x .round) (x .row) s (g .row-below) (g .count) in
-      let b : min (s / N1 c) T ≡ x .round = rw d (min-eq-left (omega (arith, g .below))) in
-      let p : roundAfter c T s ≡ x .round = b in
-      let n : ¬ (roundAfter c T s ≡ T) = λ z. omega (arith, p, z, g .below) in
-      record {
-        round-is = sym p;
-        row-below-T = λ l. sym m;
-        row-at-T = λ z. absurd (n z);
-        settled-exactly = (λ z. absurd (false-true (g .unsettled) z), λ z. absurd (n z));
-        settled-is = g .unsettled ∙ sym (ne-eqb _ _ n);
-        answer-is = rw (g .unsettled, ne-eqb _ _ n, p, m);
-      }
-
-  atT-position : 0 < N1 c → AtT c T s x → Position c T s x
-  atT-position states e =
-      let p : roundAfter c T s ≡ T = min-eq-right (le-div-iff-mul-le states .1 (e .enough)) in
-      record {
-        round-is = e .at-T ∙ sym p;
-        row-below-T = λ l. absurd (omega (arith, p, l));
-        row-at-T = λ z. e .row-0;
-        settled-exactly = (λ z. p, λ z. e .isSettled);
-        settled-is = e .isSettled ∙ sym (eq-eqb _ _ p);
-        answer-is = rw (e .isSettled, eq-eqb _ _ p, e .at-T);
-      }
-
-  pub position : {whole other : List ℕ} → 0 < N1 c → Progress c T s x whole other → Position c T s x
-  position states h = ⊎-elim beforeT-position (atT-position states) (h .place)
+use Rattle.desk.specs.Stands.{known-sound, DeskBeforeT, DeskAtT, Stands, sizes-most}
+use Rattle.desk.specs.Position.{Position, position}
 
 no-refusal : (x : Option Refusal) → noRefusal x ≡ true → x ≡ none
 no-refusal none e = refl
@@ -122,6 +72,9 @@ module _ {c : Content} {T s : ℕ} {d : Desk} (w : Stands c T s d) where
   T-limit : T ≤ limit c + 1
   T-limit = T-at-most-size (content-is-sound .laws) (model1 c) (model2 c) T (w .known .isT)
 
+  lowerings-limit : d .standing .lowerings ≤ limit c
+  lowerings-limit = rw (w .progress .lowered) (lowerings-most-size (content-is-sound .laws) (model1 c) (model2 c) eqb (λ a. eq-eqb a a refl) (d .standing .round))
+
   beforeT-rules : DeskBeforeT c T s d → Rules d c
   beforeT-rules g =
       record {
@@ -134,6 +87,7 @@ module _ {c : Content} {T s : ℕ} {d : Desk} (w : Stands c T s d) where
         settled-least = λ z. absurd (false-true (g .unsettled) z);
         settled-most = λ z. absurd (false-true (g .unsettled) z);
         settled-row = λ z. absurd (false-true (g .unsettled) z);
+        lowerings-most = lowerings-limit;
         first-below = below .0;
         second-below = below .1;
       }
@@ -150,6 +104,7 @@ module _ {c : Content} {T s : ℕ} {d : Desk} (w : Stands c T s d) where
         settled-least = λ z. omega (arith, x .at-T, w .known .isT .above0);
         settled-most = λ z. omega (arith, x .at-T, T-limit);
         settled-row = λ z. x .row-0;
+        lowerings-most = lowerings-limit;
         first-below = below .0;
         second-below = below .1;
       }

@@ -1,7 +1,7 @@
 -- Which refusal a call gets, or the content that it works on. Rests on Desk, Case, View, theory's Test, casefile's Reading, and refusal.
 --   short, by tooShort: 11, a buffer is too short
 --   Rules: 12, the rules of the standing, the store and the tables; spoiled, by spoiledAs, obeysFor and rulesObeyed: their test
---   sizesObey, rowObeys, settledObeys, roundObeys, standingObeys, tableObeys: the test rule by rule
+--   sizesObey, rowObeys, settledObeys, roundObeys, loweringsObey, standingObeys, tableObeys: the test rule by rule
 --   Condition: what a question asks of its arguments after 12; conditionTest, ConditionHolds: as a test and as a statement; refusalOf: its refusal
 --   conditions, callConditions: those of a question and of a call, in order; refusalsOf, OneOf: their refusals
 --   AllHold, InRange: all hold; FirstBroken: which is the first that is broken
@@ -54,8 +54,12 @@ settledObeys most s = leb 1 (s .round) && leb (s .round) (most + 1) && eqb (s .r
 abbrev pub roundObeys : ℕ → Standing → Bool
 roundObeys most s = cond (s .settled) (settledObeys most s) (leb (s .round) most)
 
+-- 'The standing's limits in refusal 12 include this bound with h replaced by n' (request 107): the lowerings are at most N1·N2·(n − 1), settled or not
+abbrev pub loweringsObey : ℕ → Standing → Bool
+loweringsObey most s = leb (s .lowerings) most
+
 abbrev pub standingObeys : ℕ → ℕ → ℕ → Standing → Bool
-standingObeys n1 n2 n s = sizesObey n1 n2 s && rowObeys n1 s && roundObeys (n1 * n2 * (n - 1)) s
+standingObeys n1 n2 n s = sizesObey n1 n2 s && rowObeys n1 s && roundObeys (n1 * n2 * (n - 1)) s && loweringsObey (n1 * n2 * (n - 1)) s
 
 -- 'The first N1·N2 bytes of both tables are below n.'
 abbrev pub tableObeys : ℕ → ℕ → List ℕ → Bool
@@ -87,6 +91,7 @@ pub record Rules (d : Desk) (c : Content) : Type 0 where
   pub settled-least : d .standing .settled ≡ true → 1 ≤ d .standing .round
   pub settled-most : d .standing .settled ≡ true → d .standing .round ≤ limit c + 1
   pub settled-row : d .standing .settled ≡ true → d .standing .row ≡ 0
+  pub lowerings-most : d .standing .lowerings ≤ limit c
   pub first-below : (i : ℕ) → i < tableSize c → getD (d .first) i 0 < latticeSize c
   pub second-below : (i : ℕ) → i < tableSize c → getD (d .second) i 0 < latticeSize c
 

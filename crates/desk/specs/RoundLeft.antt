@@ -25,7 +25,7 @@ stepsLeft d = leftIn d (examined Call.Step d)
 
 -- 'Each call (..) gets these as the call before left them': what m steps do, with the answer of the last of them
 abbrev pub stepsDone : ℕ → Desk → After
-stepsDone m d = record { reply = getD (replies (replicate m Call.Step) d) (m - 1) Reply.Row; desk = run (replicate m Call.Step) d; lent = [] }
+stepsDone m d = record { reply = getD (replies (replicate m Call.Step) d) (m - 1) Reply.Opened; desk = run (replicate m Call.Step) d; lent = [] }
 
 abbrev pub finished : Desk → After
 finished d = stepsDone (stepsLeft d) d

@@ -15,15 +15,14 @@ use Rattle.theory.specs.Rounds.{F-element}
 use Rattle.theory.specs.TestLaws.{false-true, cond-true, cond-false}
 use Rattle.casefile.specs.Reading.{Content, content}
 use Rattle.casefile.specs.Content.{ContentSound, content-sound}
-use Rattle.entries.specs.Table.{tableOf}
 use Rattle.rounds.specs.Table.{rowChanged}
 use Rattle.rounds.specs.Round.{row-elements}
 use Rattle.rounds.specs.Rest.{rowsFrom, rowsChanged, row-length}
 use Rattle.desk.specs.Desk.{Standing, Desk, Call, Reply, wholeTable, otherTable}
-use Rattle.desk.specs.Case.{ops, latticeSize, model1, model2, N1, N2, tableSize, operator}
-use Rattle.desk.specs.View.{shownTable}
+use Rattle.desk.specs.Case.{ops, latticeSize, model1, model2, N1, tableSize, operator, differingIn}
+use Rattle.desk.specs.View.{givenTable, shownTable}
 use Rattle.desk.specs.Refused.{Rules, examined}
-use Rattle.desk.specs.Moved.{rowWorked, changedNow, nextRow, nextRound, worked, stepped, stepAnswer}
+use Rattle.desk.specs.Moved.{rowWorked, changedNow, loweredNow, nextRow, nextRound, worked, stepped, stepAnswer}
 use Rattle.desk.specs.Perform.{After, perform, answer, moved, lentAfter}
 use Rattle.desk.specs.Run.{run, replies, openings}
 use Rattle.desk.specs.RefusedLaws.{Unspoiled, in-store, perform-accepted}
@@ -74,9 +73,14 @@ module _ (c : Content) where
   abbrev differ : ℕ → (ℕ → ℕ → ℕ) → ℕ → Bool
   differ m S q = rowsChanged (model1 c) (model2 c) (operator c) S m q
 
-  -- the desk after m rows, the last of the round among them
+  -- the desk d after m rows from row q on, the last of the round among them, where `before` says whether the rows before have changed anything
+  abbrev roundDone : ℕ → Desk → Bool → ℕ → List ℕ → List ℕ → Desk
+  roundDone m d before q whole other =
+      let out = rows m (givenTable c whole) q other in
+      withOther d (nextRound (before || differ m (givenTable c whole) q) (d .standing .lowerings + differingIn c (givenTable c whole) (givenTable c out)) (d .standing)) out
+
   abbrev pub endedBy : ℕ → Desk → Desk
-  endedBy m d = withOther d (nextRound (d .standing .changed || differ m (shownTable c d) (d .standing .row)) (d .standing)) (rows m (shownTable c d) (d .standing .row) (otherTable d))
+  endedBy m d = roundDone m d (d .standing .changed) (d .standing .row) (wholeTable d) (otherTable d)
 
   abbrev pub ended : Desk → Desk
   ended d = endedBy (N1 c - d .standing .row) d
@@ -88,9 +92,9 @@ module _ (c : Content) where
   unfolding answer moved lentAfter stepped
   performs d e u s p = perform-accepted Call.Step d c (in-store Call.Step d c refl u) ∙ ap afterStep (cond-false (d .standing .settled) d (worked c d) s ∙ p)
 
-  moves-to : (d : Desk) (t : Bool) → eqb (d .standing .row + 1) (N1 c) ≡ t → worked c d ≡ withOther d (cond t (nextRound (changedNow c d) (d .standing)) (nextRow (changedNow c d) (d .standing))) (rowWorked c d)
+  moves-to : (d : Desk) (t : Bool) → eqb (d .standing .row + 1) (N1 c) ≡ t → worked c d ≡ withOther d (cond t (nextRound (changedNow c d) (d .standing .lowerings + loweredNow c d) (d .standing)) (nextRow (changedNow c d) (d .standing))) (rowWorked c d)
   unfolding worked
-  moves-to d t e = ap (λ (b : Bool). withOther d (cond b (nextRound (changedNow c d) (d .standing)) (nextRow (changedNow c d) (d .standing))) (rowWorked c d)) e
+  moves-to d t e = ap (λ (b : Bool). withOther d (cond b (nextRound (changedNow c d) (d .standing .lowerings + loweredNow c d) (d .standing)) (nextRow (changedNow c d) (d .standing))) (rowWorked c d)) e
 
   module _ (d : Desk) (u : Unspoiled d c) (s : d .standing .settled ≡ false) where
     sound : ContentSound c
@@ -139,6 +143,7 @@ module _ (c : Content) where
             settled-least = λ z. absurd (false-true refl z);
             settled-most = λ z. absurd (false-true refl z);
             settled-row = λ z. absurd (false-true refl z);
+            lowerings-most = u .rules .lowerings-most;
             first-below = of-both Below w (rowWorked c d) (d .first) row-below (u .rules .first-below);
             second-below = of-both Below w (d .second) (rowWorked c d) (u .rules .second-below) row-below;
           };
@@ -158,20 +163,20 @@ module _ (c : Content) where
       ap₂ (λ (f g : List ℕ). record { standing = endedBy m e .standing; store = d .store; first = f; second = g })
       (twice-first w (d .first) (rowWorked c d) out)
       (twice-second w (d .second) (rowWorked c d) out)
-      ∙ ap₂ (λ (whole other : List ℕ). withOther d (nextRound (now || differ m (tableOf whole (N2 c)) q) (d .standing)) (rows m (tableOf whole (N2 c)) q other))
+      ∙ ap₂ (roundDone m d now q)
       (keep-whole w (d .first) (d .second) (rowWorked c d))
       (keep-other w (d .first) (d .second) (rowWorked c d))
-      ∙ ap (λ (b : Bool). withOther d (nextRound b (d .standing)) (rows m (shownTable c d) q (rowWorked c d)))
+      ∙ ap (λ (b : Bool). withOther d (nextRound b (d .standing .lowerings + differingIn c (shownTable c d) (givenTable c (rows m (shownTable c d) q (rowWorked c d)))) (d .standing)) (rows m (shownTable c d) q (rowWorked c d)))
       (or-assoc (d .standing .changed) (rowChanged (model1 c) (model2 c) (operator c) (shownTable c d) (d .standing .row)) (differ m (shownTable c d) q))
 
   -- the last row
-  ended-last : (d : Desk) → withOther d (nextRound (changedNow c d) (d .standing)) (rowWorked c d) ≡ endedBy 1 d
+  ended-last : (d : Desk) → withOther d (nextRound (changedNow c d) (d .standing .lowerings + loweredNow c d) (d .standing)) (rowWorked c d) ≡ endedBy 1 d
   unfolding rowsFrom rowsChanged
-  ended-last d = ap (λ (b : Bool). withOther d (nextRound (d .standing .changed || b) (d .standing)) (rowWorked c d)) (sym (or-false (rowChanged (model1 c) (model2 c) (operator c) (shownTable c d) (d .standing .row))))
+  ended-last d = ap (λ (b : Bool). withOther d (nextRound (d .standing .changed || b) (d .standing .lowerings + loweredNow c d) (d .standing)) (rowWorked c d)) (sym (or-false (rowChanged (model1 c) (model2 c) (operator c) (shownTable c d) (d .standing .row))))
 
   steps-end : (m : ℕ) (d : Desk) → Unspoiled d c → d .standing .settled ≡ false → d .standing .row + suc m ≡ N1 c
       → (run (replicate (suc m) Call.Step) d ≡ endedBy (suc m) d)
-      × (getD (replies (replicate (suc m) Call.Step) d) m Reply.Row ≡ stepAnswer (endedBy (suc m) d .standing))
+      × (getD (replies (replicate (suc m) Call.Step) d) m Reply.Opened ≡ stepAnswer (endedBy (suc m) d .standing))
   unfolding run replies
   steps-end zero d u s n =
       let p = performs d (endedBy 1 d) u s (moves-to d true (eq-eqb (d .standing .row + 1) (N1 c) (omega arith)) ∙ ended-last d) in
@@ -181,7 +186,7 @@ module _ (c : Content) where
       let p = performs d (rowDone d) u s (moves-to d false (ne-eqb _ _ no)) in
       let i = steps-end m (rowDone d) (step-obeys-rules d u s (omega arith)) refl (omega arith) in (
         ap (λ (a : After). run (replicate (suc m) Call.Step) (a .desk)) p ∙ i .0 ∙ ended-next (suc m) d,
-        ap (λ (a : After). getD (replies (replicate (suc m) Call.Step) (a .desk)) m Reply.Row) p ∙ i .1 ∙ ap (λ (e : Desk). stepAnswer (e .standing)) (ended-next (suc m) d),
+        ap (λ (a : After). getD (replies (replicate (suc m) Call.Step) (a .desk)) m Reply.Opened) p ∙ i .1 ∙ ap (λ (e : Desk). stepAnswer (e .standing)) (ended-next (suc m) d),
       )
 
   pub rest-finished : (d : Desk) → Unspoiled d c → d .standing .settled ≡ false → Finishes d (stepAnswer (ended d .standing)) (ended d)
@@ -194,17 +199,17 @@ module _ (c : Content) where
       let i = steps-end m d u s (omega arith) in
       let n : stepsLeft d ≡ suc m = ap (leftIn d) (in-store Call.Step d c refl u) ∙ cond-false (d .standing .settled) 1 (N1 c - d .standing .row) s ∙ k in
       ap (λ (j : ℕ). stepsDone j d) n
-      ∙ ap (λ (j : ℕ). record { reply = getD (replies (replicate (suc m) Call.Step) d) j Reply.Row; desk = run (replicate (suc m) Call.Step) d; lent = [] }) z
+      ∙ ap (λ (j : ℕ). record { reply = getD (replies (replicate (suc m) Call.Step) d) j Reply.Opened; desk = run (replicate (suc m) Call.Step) d; lent = [] }) z
       ∙ ap₂ (λ (x : Reply) (e : Desk). record { reply = x; desk = e; lent = [] }) (i .1) (i .0)
       ∙ ap (λ (j : ℕ). afterStep (endedBy j d)) (sym k)
 
   -- a settled desk has one step, which leaves it as it was
-  pub settled-finished : (d : Desk) → Unspoiled d c → d .standing .settled ≡ true → Finishes d (Reply.Settled (d .standing .round)) d
+  pub settled-finished : (d : Desk) → Unspoiled d c → d .standing .settled ≡ true → Finishes d (Reply.Settled (d .standing .round) (d .standing .lowerings)) d
   unfolding stepsLeft answer moved lentAfter stepped
   settled-finished d u s =
       let e = in-store Call.Step d c refl u in
-      let z : stepAnswer (d .standing) ≡ Reply.Settled (d .standing .round) = rw s in
-      one-finished d (Reply.Settled (d .standing .round)) d
+      let z : stepAnswer (d .standing) ≡ Reply.Settled (d .standing .round) (d .standing .lowerings) = rw s in
+      one-finished d (Reply.Settled (d .standing .round) (d .standing .lowerings)) d
       (ap (leftIn d) e ∙ cond-true (d .standing .settled) 1 (N1 c - d .standing .row) s)
       (perform-accepted Call.Step d c e ∙ ap afterStep (cond-true (d .standing .settled) d (worked c d) s) ∙ ap (λ (x : Reply). record { reply = x; desk = d; lent = [] }) z)
 

@@ -25,7 +25,7 @@ use Rattle.casefile.specs.Reading.{Content, CaseReading, refused, content, case
 use Rattle.desk.specs.Desk.{Desk, Question}
 use Rattle.desk.specs.Case.{N1, N2, latticeSize, tableSize, limit}
 use Rattle.desk.specs.View.{View}
-use Rattle.desk.specs.Refused.{short, sizesObey, rowObeys, settledObeys, roundObeys, rulesObeyed, obeysFor, spoiledAs, Rules, spoiled, isModel, Condition, conditionTest, ConditionHolds, refusalOf, conditions, AllHold, InRange, FirstBroken, refusalsOf, OneOf, firstRefusal}
+use Rattle.desk.specs.Refused.{short, sizesObey, rowObeys, settledObeys, roundObeys, loweringsObey, rulesObeyed, obeysFor, spoiledAs, Rules, spoiled, isModel, Condition, conditionTest, ConditionHolds, refusalOf, conditions, AllHold, InRange, FirstBroken, refusalsOf, OneOf, firstRefusal}
 
 -- ---- the lengths that refusal 11 asks for
 
@@ -55,7 +55,7 @@ pub rules-in : (d : Desk) (c : Content) → Rules d c → obeysFor c d ≡ true
 unfolding rulesObeyed
 rules-in d c w =
     and-in _ _
-    (and-in _ _ (and-in _ _ (and-in _ _ sizes row) (round (d .standing .settled) refl)) (all-in _ _ (λ i l. lt-ltb _ _ (w .first-below i l))))
+    (and-in _ _ (and-in _ _ (and-in _ _ (and-in _ _ sizes row) (round (d .standing .settled) refl)) (le-leb _ _ (w .lowerings-most))) (all-in _ _ (λ i l. lt-ltb _ _ (w .first-below i l))))
     (all-in _ _ (λ i l. lt-ltb _ _ (w .second-below i l)))
   where
     sizes : sizesObey (N1 c) (N2 c) (d .standing) ≡ true
@@ -81,12 +81,16 @@ rules-out d c e h =
       settled-least = λ z. let k = settled z in leb-true _ _ (search (and-l, and-r));
       settled-most = λ z. let k = settled z in leb-true _ _ (search (and-l, and-r));
       settled-row = λ z. let k = settled z in eqb-true _ _ (search (and-l, and-r));
+      lowerings-most = leb-true _ _ lowerings;
       first-below = λ i l. ltb-true _ _ (all-at (tableSize c) (λ j. ltb (getD (d .first) j 0) (latticeSize c)) (search (and-l, and-r)) i l);
       second-below = λ i l. ltb-true _ _ (all-at (tableSize c) (λ j. ltb (getD (d .second) j 0) (latticeSize c)) (search (and-l, and-r)) i l);
     }
   where
     round : roundObeys (limit c) (d .standing) ≡ true
     round = search (and-l, and-r)
+
+    lowerings : loweringsObey (limit c) (d .standing) ≡ true
+    lowerings = search (and-l, and-r)
 
     settled : d .standing .settled ≡ true → settledObeys (limit c) (d .standing) ≡ true
     settled z = sym (cond-true (d .standing .settled) (settledObeys (limit c) (d .standing)) (leb (d .standing .round) (limit c)) z) ∙ round

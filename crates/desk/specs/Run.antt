@@ -2,7 +2,7 @@
 --   run, replies: the desk after a list of calls, and what they answer
 --   openings, stepAnswers: how many openings among them are accepted, and what the accepted steps answer
 --   LastOpening, answersSince: the last accepted opening, and the answers of the accepted steps since
---   roundAfter, answerAfter: r, and the last step's answer; viewAfter: all that a question depends on
+--   roundAfter, loweringsAfter, answerAfter: r, the lowerings, and the last step's answer; viewAfter: all that a question depends on
 --   AnsweredFrom: a question on a desk is answered from a view
 use Prim.Native.Nat.{ℕ, _+_, _/_, _%_, min}
 use mathlib.Core.Path.{_≡_}
@@ -14,7 +14,7 @@ use Rattle.theory.specs.Simulation.{indicator}
 use Rattle.refusal.specs.declared.Refusal.{Refusal}
 use Rattle.casefile.specs.Reading.{Content, content}
 use Rattle.desk.specs.Desk.{Desk, Question, Call, Reply, isOpen, isStep, lentBuffers}
-use Rattle.desk.specs.Case.{N1, roundIn}
+use Rattle.desk.specs.Case.{N1, roundIn, loweringsIn}
 use Rattle.desk.specs.View.{View}
 use Rattle.desk.specs.Refused.{conditions, InRange, FirstBroken, examined, accepted, numberReply}
 use Rattle.desk.specs.Perform.{perform, answerTo}
@@ -60,10 +60,15 @@ answersSince {ks} {d} l = stepAnswers (l .after) (perform (Call.Open (l .case)) 
 abbrev pub roundAfter : Content → ℕ → ℕ → ℕ
 roundAfter c T s = min (s / N1 c) T
 
--- 'answered Settled(T) when r = T, else Round(r) when s is a multiple of N1, else Row'
+-- the count of lowerings after s accepted steps: that of the rounds 1 to r (request 107)
+abbrev pub loweringsAfter : Content → ℕ → ℕ → ℕ
+loweringsAfter c T s = loweringsIn c (roundAfter c T s)
+
+-- 'answered Settled(T) when r = T, else Round(r) when s is a multiple of N1, else Row', and each carries that count
 abbrev pub answerAfter : Content → ℕ → ℕ → Reply
 answerAfter c T s =
-    cond (eqb (roundAfter c T s) T) (Reply.Settled T) (cond (eqb (s % N1 c) 0) (Reply.Round (roundAfter c T s)) Reply.Row)
+    cond (eqb (roundAfter c T s) T) (Reply.Settled T (loweringsAfter c T s))
+    (cond (eqb (s % N1 c) 0) (Reply.Round (roundAfter c T s) (loweringsAfter c T s)) (Reply.Row (loweringsAfter c T s)))
 
 -- the view of a desk after s accepted steps: round r, settled exactly when r = T, and the table of round r shown
 abbrev pub viewAfter : Content → ℕ → ℕ → View

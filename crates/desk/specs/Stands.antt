@@ -4,14 +4,16 @@
 --   SizesAre: the standing's sizes; BeforeT, AtT, Progress: before T, at T, and what holds of both; DeskBeforeT, DeskAtT, ProgressAt: the same of a desk
 --   Stands: the invariant; opening-starts: an accepted opening starts it
 use Prim.Native.Nat.{ℕ, _+_, _*_, _≤_, _<_}
-use mathlib.Core.Path.{_≡_, refl, _∙_}
+use mathlib.Core.Path.{_≡_, refl, sym, _∙_}
 use mathlib.Core.Bool.{true, false}
 use mathlib.Core.Logic.{_⊎_, inl}
 use mathlib.Core.List.{List, _++_}
 use native.Mathlib.Omega.{arith}
+use lib.Dec.{eqb}
 use lib.ListN.{length, getD, drop, replicate, length-replicate, getD-replicate}
 use Rattle.theory.specs.Lattice.{Element}
 use Rattle.theory.specs.Simulation.{SameTable}
+use Rattle.theory.specs.Lowerings.{lowerings-none}
 use Rattle.theory.specs.Written.{written-length, written-at}
 use Rattle.casefile.specs.Reading.{Content, content, caseReading}
 use Rattle.casefile.specs.Accepted.{gapless-most}
@@ -19,7 +21,7 @@ use Rattle.casefile.specs.Content.{ContentSound, content-sound}
 use Rattle.entries.specs.Table.{tableOf}
 use Rattle.rounds.specs.Round.{RoundSoFar, round-none, top-round}
 use Rattle.desk.specs.Desk.{Standing, Desk, wholeTable, otherTable}
-use Rattle.desk.specs.Case.{ops, model1, model2, N1, N2, tableSize, operator, roundIn, IsT, caseBytes}
+use Rattle.desk.specs.Case.{ops, model1, model2, N1, N2, tableSize, operator, roundIn, loweringsIn, IsT, caseBytes}
 use Rattle.desk.specs.Refused.{short}
 use Rattle.desk.specs.RulesLaws.{long-enough}
 use Rattle.desk.specs.Moved.{opened, topped, stored}
@@ -57,13 +59,14 @@ module _ (c : Content) (T : ℕ) where
     pub unchanged : x .changed ≡ false
     pub enough : T * N1 c ≤ s
 
-  -- the whole table is the round's, both are long enough, and their entries are elements
+  -- the whole table is the round's, both are long enough, and their entries are elements; the lowerings are those of the rounds up to it
   pub record Progress (s : ℕ) (x : Standing) (whole other : List ℕ) : Type 0 where
     pub whole-long : 4096 ≤ length whole
     pub other-long : 4096 ≤ length other
     pub whole-elements : (i : ℕ) → i < tableSize c → Element (ops c) (getD whole i 0)
     pub other-elements : (i : ℕ) → i < tableSize c → Element (ops c) (getD other i 0)
     pub shown : SameTable (ops c) (model1 c) (model2 c) (tableOf whole (N2 c)) (roundIn c (x .round))
+    pub lowered : x .lowerings ≡ loweringsIn c (x .round)
     pub place : BeforeT s x whole other ⊎ AtT s x
 
   -- the same of a desk's standing and tables
@@ -132,6 +135,7 @@ module _ {c : Content} {T : ℕ} (known : Known c T) where
           whole-elements = topped-elements (d .first) (w .first-long);
           other-elements = topped-elements (d .second) (w .second-long);
           shown = top-round (ops c) (model1 c) (model2 c) (operator c) (topped c (d .first)) (topped-at (d .first) (w .first-long));
+          lowered = sym (lowerings-none eqb (N1 c) (N2 c) (roundIn c));
           place = inl (record { unsettled = refl; below = known .isT .above0; row-below = some-states; count = omega arith; before = topped c (d .second); so-far = round-none });
         };
       }

@@ -13,14 +13,15 @@ use lib.ListN.{length, getD}
 use Rattle.theory.specs.Lattice.{Element}
 use Rattle.theory.specs.Simulation.{SameTable}
 use Rattle.theory.specs.Rounds.{F-element}
+use Rattle.theory.specs.Lowerings.{differing-cong, lowerings-more}
 use Rattle.theory.specs.TestLaws.{false-true, cond-true, cond-false}
 use Rattle.casefile.specs.Reading.{Content}
 use Rattle.entries.specs.Table.{tableOf}
 use Rattle.rounds.specs.Table.{rowWritten, rowChanged}
 use Rattle.rounds.specs.Round.{RoundSoFar, RoundDone, round-none, round-more, round-reached, round-done, F-reads, row-elements}
 use Rattle.desk.specs.Desk.{Standing, Desk, wholeTable, otherTable}
-use Rattle.desk.specs.Case.{ops, model1, model2, N1, N2, tableSize, operator, roundIn}
-use Rattle.desk.specs.Moved.{rowWorked, changedNow, nextRow, nextRound, worked, stepped}
+use Rattle.desk.specs.Case.{ops, model1, model2, N1, N2, tableSize, operator, roundIn, differingIn, loweringsIn}
+use Rattle.desk.specs.Moved.{rowWorked, changedNow, loweredNow, nextRow, nextRound, worked, stepped}
 use Rattle.desk.specs.Stands.{Known, known-sound, SizesAre, BeforeT, AtT, Progress, DeskBeforeT, DeskAtT, ProgressAt, Stands, sizes-most, some-states}
 
 -- the same of equal tables
@@ -92,6 +93,7 @@ module _ {c : Content} {T : ℕ} (known : Known c T) where
           whole-elements = h .whole-elements;
           other-elements = out-elements;
           shown = h .shown;
+          lowered = h .lowered;
           place = inl (record { unsettled = refl; below = g .below; row-below = l; count = omega (arith, g .count); before = g .before; so-far = more });
         }
 
@@ -117,7 +119,16 @@ module _ {c : Content} {T : ℕ} (known : Known c T) where
           absurd (known .isT .least (suc round) (omega arith) q (subst (λ (x : ℕ). SameTable (ops c) (model1 c) (model2 c) (roundIn c (suc round)) (roundIn c x)) p (done .unchanged .0 n))))
           (eq-or-lt-of-le (g .below))
 
-      place-after : (n : Bool) → now ≡ n → BeforeT c T (s + 1) (nextRound n x) out whole ⊎ AtT c T (s + 1) (nextRound n x)
+      -- the entries in which the two tables differ are those in which the two rounds do
+      abbrev compared : ℕ
+      compared = differingIn c S (tableOf out (N2 c))
+
+      lowered-more : x .lowerings + compared ≡ loweringsIn c (suc round)
+      lowered-more =
+          ap₂ _+_ (h .lowered) (differing-cong eqb (N1 c) (N2 c) S (roundIn c round) (tableOf out (N2 c)) (roundIn c (suc round)) (h .shown) (done .holds))
+          ∙ sym (lowerings-more eqb (N1 c) (N2 c) (roundIn c) round)
+
+      place-after : (n : Bool) → now ≡ n → BeforeT c T (s + 1) (nextRound n (x .lowerings + compared) x) out whole ⊎ AtT c T (s + 1) (nextRound n (x .lowerings + compared) x)
       place-after true n =
           inl
           (record {
@@ -132,7 +143,7 @@ module _ {c : Content} {T : ℕ} (known : Known c T) where
           let q : suc round ≡ T = T-at-same n in
           inr (record { isSettled = refl; at-T = omega arith; row-0 = refl; unchanged = refl; enough = rw (← q) (omega (arith, g .count)) })
 
-      pub round-more-done : Progress c T (s + 1) (nextRound now x) out whole
+      pub round-more-done : Progress c T (s + 1) (nextRound now (x .lowerings + compared) x) out whole
       round-more-done =
           record {
             whole-long = out-long;
@@ -140,6 +151,7 @@ module _ {c : Content} {T : ℕ} (known : Known c T) where
             whole-elements = out-elements;
             other-elements = h .whole-elements;
             shown = rw add-one (done .holds);
+            lowered = rw add-one lowered-more;
             place = place-after now refl;
           }
 
@@ -178,9 +190,9 @@ module _ {c : Content} {T : ℕ} (known : Known c T) where
   unfolding worked
   worked-stands {s} {d} w g = go (eqb (d .standing .row + 1) (N1 c)) refl
     where
-      go : (t : Bool) → eqb (d .standing .row + 1) (N1 c) ≡ t → Stands c T (s + 1) (rowDone d (cond t (nextRound (changedNow c d) (d .standing)) (nextRow (changedNow c d) (d .standing))))
+      go : (t : Bool) → eqb (d .standing .row + 1) (N1 c) ≡ t → Stands c T (s + 1) (rowDone d (cond t (nextRound (changedNow c d) (d .standing .lowerings + loweredNow c d) (d .standing)) (nextRow (changedNow c d) (d .standing))))
       go true q =
-          let e = rowDone d (nextRound (changedNow c d) (d .standing)) in
+          let e = rowDone d (nextRound (changedNow c d) (d .standing .lowerings + loweredNow c d) (d .standing)) in
           let x = d .standing .secondWhole in
           let whole : wholeTable e ≡ rowWorked c d = tables-are d (not x) .0 ∙ turn-whole x (d .first) (d .second) (rowWorked c d) in
           let other : otherTable e ≡ wholeTable d = tables-are d (not x) .1 ∙ turn-other x (d .first) (d .second) (rowWorked c d) in
@@ -211,6 +223,7 @@ module _ {c : Content} {T : ℕ} (known : Known c T) where
         whole-elements = w .progress .whole-elements;
         other-elements = w .progress .other-elements;
         shown = w .progress .shown;
+        lowered = w .progress .lowered;
         place = inr (record { isSettled = x .isSettled; at-T = x .at-T; row-0 = x .row-0; unchanged = x .unchanged; enough = omega (arith, x .enough) });
       })))
       (w .progress .place)

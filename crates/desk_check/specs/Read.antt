@@ -14,6 +14,7 @@ standingOf s =
       changed = s .changed;
       settled = s .settled;
       secondWhole = s .«second_whole»;
+      lowerings = s .lowerings;
     }
 
 abbrev pub deskOf : Standing → List ℕ → List ℕ → List ℕ → Desk

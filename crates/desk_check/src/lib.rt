@@ -30,6 +30,8 @@ pub struct Standing {
     pub settled: bool,
     // The second table is the whole one; else the first is.
     pub second_whole: bool,
+    // The entries that differ from the round before, summed over the whole rounds shown.
+    pub lowerings: u32,
 }
 
 // What the examination of a desk answers.
@@ -59,7 +61,7 @@ pub fn table_size(z: Sizes) -> usize
 }
 
 // N1·N2·(n − 1).
-fn round_limit(n1: u8, n2: u8, n: u8) -> usize
+fn limit(n1: u8, n2: u8, n: u8) -> usize
     ensures { λ r. ⌜ (r ≡ n1 * n2 * (n - 1)) × (r < 16777216) ⌝ }
 {
     if n == 0 {
@@ -111,7 +113,11 @@ fn standing_obeys(s: Standing, n1: u8, n2: u8, n: u8) -> bool
     if !row_obeys(s, n1) {
         return false;
     }
-    round_obeys(s, round_limit(n1, n2, n))
+    let most = limit(n1, n2, n);
+    if !round_obeys(s, most) {
+        return false;
+    }
+    s.lowerings as usize <= most
 }
 
 // The rules of 12 beside the store's reading.

@@ -8,9 +8,9 @@ use Rattle.desk_moves.specs.declared.OpenAnswer.the-variants as opening
 
 abbrev pub stepReply : StepAnswer → Reply
 stepReply (step.Refused r) = numberReply r
-stepReply step.Row = Reply.Row
-stepReply (step.Round r) = Reply.Round r
-stepReply (step.Settled t) = Reply.Settled t
+stepReply (step.Row n) = Reply.Row n
+stepReply (step.Round r n) = Reply.Round r n
+stepReply (step.Settled t n) = Reply.Settled t n
 
 abbrev pub openReply : OpenAnswer → Reply
 openReply (opening.Refused r) = numberReply r

@@ -1,7 +1,7 @@
--- What the rest of a round does, from the rows that were worked. Rests on desk_check's Held, desk's RoundLeftLaws and rounds' Rest.
+-- What the rest of a round does, from the rows that were worked. Rests on Stepped, desk_check's Held, desk's RoundLeftLaws and rounds' Rest.
 --   refused-rest: on a desk that is refused
 --   rest-into-first, rest-into-second: the rows that are left are worked into the first table, or into the second
-use Prim.Native.Nat.{ℕ, _-_}
+use Prim.Native.Nat.{ℕ, _+_, _-_}
 use mathlib.Core.Path.{_≡_, refl, sym, ap, _∙_}
 use mathlib.Core.Bool.{Bool, true, false, _||_}
 use mathlib.Core.List.{List, []}
@@ -24,6 +24,7 @@ use Rattle.desk_check.specs.declared.Examined.{Examined}
 use Rattle.desk_check.specs.declared.Examined.the-variants.{Refused}
 use Rattle.desk_check.specs.Answer.{examinedAnswer, DeskExamined}
 use Rattle.desk_check.specs.Held.{HeldDesk, refused-call}
+use Rattle.desk_moves.specs.Stepped.{lowersTo}
 
 pub refused-rest : (d : Desk) (r : Examined) (f : Refusal) (w : List ℕ) → DeskExamined d r w → r ≡ Refused f → Finishes d (numberReply f) d
 unfolding stepsLeft
@@ -33,9 +34,9 @@ refused-rest d r f w a q = one-finished d (numberReply f) d (go (examined Call.S
     go (refused g) e = refl
     go (content c) e = absurd (let z : _≡_ {A = ℕ} 0 1 = cc in omega arith)
 
--- the standing after the last row, where one of the rows that were left differs, or none
-abbrev pub roundBy : Bool → Standing → Standing
-roundBy differs s = nextRound (s .changed || differs) s
+-- the standing after the last row, where one of the rows that were left differs, or none, and they stand in the other table
+abbrev pub roundBy : Bool → List ℕ → List ℕ → Standing → Standing
+roundBy differs whole other s = nextRound (s .changed || differs) (s .lowerings + lowersTo s whole other) s
 
 module _ {d : Desk} {z : Sizes} {w : List ℕ} (h : HeldDesk d z w) where
   -- the rows from the next one on are worked into `other`, which gives `out`; differs says whether one of them differs
@@ -55,15 +56,18 @@ module _ {d : Desk} {z : Sizes} {w : List ℕ} (h : HeldDesk d z w) where
   held-rest e u p = rest-finished (h .case .holds) d (h .unspoiled) u ∙ ap afterRest p
 
   -- the rows are worked and the standing is moved on
-  module _ (out : List ℕ) (differs : Bool) (next : Standing) (x : Reply) (u : d .standing .settled ≡ false) (n : next ≡ roundBy differs (d .standing)) (r : x ≡ stepAnswer (roundBy differs (d .standing))) where
+  module _ (out : List ℕ) (differs : Bool) (next : Standing) (x : Reply) (u : d .standing .settled ≡ false) where
+    abbrev RoundFrom : List ℕ → Type 0
+    RoundFrom whole = (next ≡ roundBy differs whole out (d .standing)) × (x ≡ stepAnswer (roundBy differs whole out (d .standing)))
+
     -- the second table is whole, and the rows are worked into the first
-    pub rest-into-first : d .standing .secondWhole ≡ true → RestWorked (d .second) (d .first) out differs → Finishes d x (record { standing = next; store = d .store; first = out; second = d .second })
-    rest-into-first v e =
+    pub rest-into-first : d .standing .secondWhole ≡ true → RestWorked (d .second) (d .first) out differs → RoundFrom (d .second) → Finishes d x (record { standing = next; store = d .store; first = out; second = d .second })
+    rest-into-first v e m =
         let o = rows-are (d .second) (d .first) out differs e in
-        rw (n, r) (held-rest (record { standing = roundBy differs (d .standing); store = d .store; first = out; second = d .second }) u (rw (o .0, o .1, v)))
+        rw (m .0, m .1) (held-rest (record { standing = roundBy differs (d .second) out (d .standing); store = d .store; first = out; second = d .second }) u (rw (h .unspoiled .rules .size1, h .unspoiled .rules .size2, o .0, o .1, v)))
 
     -- the first table is whole, and the rows are worked into the second
-    pub rest-into-second : d .standing .secondWhole ≡ false → RestWorked (d .first) (d .second) out differs → Finishes d x (record { standing = next; store = d .store; first = d .first; second = out })
-    rest-into-second v e =
+    pub rest-into-second : d .standing .secondWhole ≡ false → RestWorked (d .first) (d .second) out differs → RoundFrom (d .first) → Finishes d x (record { standing = next; store = d .store; first = d .first; second = out })
+    rest-into-second v e m =
         let o = rows-are (d .first) (d .second) out differs e in
-        rw (n, r) (held-rest (record { standing = roundBy differs (d .standing); store = d .store; first = d .first; second = out }) u (rw (o .0, o .1, v)))
+        rw (m .0, m .1) (held-rest (record { standing = roundBy differs (d .first) out (d .standing); store = d .store; first = d .first; second = out }) u (rw (h .unspoiled .rules .size1, h .unspoiled .rules .size2, o .0, o .1, v)))

@@ -50,7 +50,7 @@ pub refused-open : (b : List ℕ) (d : Desk) (f : Refusal) → short d ≡ false
 refused-open b d f s e = perform-refused (Call.Open b) d f (open-long b d s ∙ e)
 
 abbrev pub freshStanding : ℕ → ℕ → Standing
-freshStanding n1 n2 = record { states1 = n1; states2 = n2; round = 0; row = 0; changed = false; settled = false; secondWhole = false }
+freshStanding n1 n2 = record { states1 = n1; states2 = n2; round = 0; row = 0; changed = false; settled = false; secondWhole = false; lowerings = 0 }
 
 abbrev openedTo : Desk → After
 openedTo e = record { reply = Reply.Opened; desk = e; lent = [] }

@@ -1,6 +1,6 @@
 -- What step does, from the row that it worked. Rests on desk_check's Held, desk's Moved, entries' Table and rounds' Table.
---   caseRow, caseRowDiffers, Workable, movedBy: the terms of the code's contracts
---   rowOut, rowDiffers: the same from two model parts; workable, round-fits, row-within: a held desk meets what these ask
+--   caseRow, caseRowDiffers, Workable, Comparable, Movable, lowersTo, movedBy: the terms of the code's contracts
+--   rowOut, rowDiffers: the same from two model parts; workable, movable: a held desk meets what these ask
 --   settled-step: a step of a settled desk
 --   into-first, into-second: a step that works a row into the first table, or into the second
 use Prim.Native.Nat.{ℕ, _*_, _-_, _≤_, _<_}
@@ -18,11 +18,11 @@ use Rattle.casefile.specs.declared.Sizes.{Sizes}
 use Rattle.casefile.specs.Directory.{partCount, partAt}
 use Rattle.casefile.specs.Conditions.{Placed}
 use Rattle.entries.specs.Table.{tableOf, Shaped}
-use Rattle.rounds.specs.Table.{rowWritten, rowChanged}
-use Rattle.desk.specs.Desk.{Desk, Standing, Call, Reply}
+use Rattle.rounds.specs.Table.{rowWritten, rowChanged, bytesDiffering}
+use Rattle.desk.specs.Desk.{Desk, Standing, Call, Reply, wholeTable}
 use Rattle.desk.specs.Case.{latticeSize, model1, model2, N1, N2, operator, tableSize}
 use Rattle.desk.specs.View.{shownTable}
-use Rattle.desk.specs.Moved.{changedNow, movedOn, worked, stepped, stepAnswer}
+use Rattle.desk.specs.Moved.{rowWorked, changedNow, loweredNow, movedOn, worked, stepped, stepAnswer}
 use Rattle.desk.specs.Perform.{After, answer, moved, lentAfter}
 use Rattle.desk.specs.RefusedLaws.{in-store, perform-accepted}
 use Rattle.desk_check.specs.Answer.{Does}
@@ -52,11 +52,28 @@ pub record Workable (w : List ℕ) (l : Lattice) (b whole other : List ℕ) (row
   pub room : getD (partAt b 1) 0 0 * getD (partAt b 2) 0 0 ≤ length other
   pub row-below : row < getD (partAt b 1) 0 0
 
--- the standing after a row that differs from the whole table's, or does not
-abbrev pub movedBy : Bool → Standing → Standing
-movedBy differs s = movedOn (s .states1) (s .changed || differs) s
+-- what comparing two tables of the standing's sizes asks
+pub record Comparable (s : Standing) (whole other : List ℕ) : Type 0 where
+  pub few : s .states1 * s .states2 ≤ 4096
+  pub whole-room : s .states1 * s .states2 ≤ length whole
+  pub other-room : s .states1 * s .states2 ≤ length other
 
-settled-answer : (s : Standing) → s .settled ≡ true → stepAnswer s ≡ Reply.Settled (s .round)
+-- what moving the standing on asks: the numbers fit that it counts up, and the tables can be compared
+pub record Movable (s : Standing) (whole other : List ℕ) : Type 0 where
+  pub row-below : s .row < s .states1
+  pub round-below : s .round < 16777216
+  pub lowerings-below : s .lowerings < 16777216
+  pub comparable : Comparable s whole other
+
+-- in how many entries the whole table and the other one differ
+abbrev pub lowersTo : Standing → List ℕ → List ℕ → ℕ
+lowersTo s whole other = bytesDiffering whole other (s .states1) (s .states2)
+
+-- the standing after a row that differs from the whole table's, or does not, and stands in the other table
+abbrev pub movedBy : Bool → List ℕ → List ℕ → Standing → Standing
+movedBy differs whole other s = movedOn (s .states1) (s .changed || differs) (lowersTo s whole other) s
+
+settled-answer : (s : Standing) → s .settled ≡ true → stepAnswer s ≡ Reply.Settled (s .round) (s .lowerings)
 settled-answer s u = rw u
 
 module _ {d : Desk} {z : Sizes} {w : List ℕ} (h : HeldDesk d z w) where
@@ -77,19 +94,18 @@ module _ {d : Desk} {z : Sizes} {w : List ℕ} (h : HeldDesk d z w) where
         row-below = rw (h .case .parts .model1) (h .unspoiled .rules .row-below);
       }
 
-  -- an unsettled desk's next round fits
-  pub round-fits : d .standing .settled ≡ false → d .standing .round < 16777216
-  round-fits u =
-      omega (
-        arith,
-        h .unspoiled .rules .unsettled-most u,
-        prod-le (tableSize (h .case .holds)) (latticeSize (h .case .holds) - 1) 4096 64
-            (h .case .sound .entries-most)
-            (omega (arith, h .case .sound .elements-most)),
-      )
-
-  pub row-within : d .standing .row < d .standing .states1
-  row-within = rw (h .unspoiled .rules .size1) (h .unspoiled .rules .row-below)
+  -- an unsettled desk's next round and its lowerings fit, and two tables of 4,096 bytes can be compared
+  pub movable : (whole other : List ℕ) → d .standing .settled ≡ false → 4096 ≤ length whole → 4096 ≤ length other → Movable (d .standing) whole other
+  movable whole other u p q =
+      let rules = h .unspoiled .rules in
+      let few : d .standing .states1 * d .standing .states2 ≤ 4096 = rw (rules .size1, rules .size2) (h .case .sound .entries-most) in
+      let most = prod-le (tableSize (h .case .holds)) (latticeSize (h .case .holds) - 1) 4096 64 (h .case .sound .entries-most) (omega (arith, h .case .sound .elements-most)) in
+      record {
+        row-below = rw (rules .size1) (rules .row-below);
+        round-below = omega (arith, rules .unsettled-most u, most);
+        lowerings-below = omega (arith, rules .lowerings-most, most);
+        comparable = record { few = few; whole-room = omega arith; other-room = omega arith };
+      }
 
   abbrev afterStep : Desk → After
   afterStep e = record { reply = stepAnswer (e .standing); desk = e; lent = [] }
@@ -101,12 +117,9 @@ module _ {d : Desk} {z : Sizes} {w : List ℕ} (h : HeldDesk d z w) where
   unfolding answer moved lentAfter
   held-step e p = perform-accepted Call.Step d (h .case .holds) (in-store Call.Step d (h .case .holds) refl (h .unspoiled)) ∙ ap afterStep p
 
-  pub settled-step : d .standing .settled ≡ true → Does Call.Step d (Reply.Settled (d .standing .round)) d
+  pub settled-step : d .standing .settled ≡ true → Does Call.Step d (Reply.Settled (d .standing .round) (d .standing .lowerings)) d
   unfolding stepped
   settled-step u = held-step d (ap (λ (b : Bool). cond b d (worked (h .case .holds) d)) u) ∙ ap unmoved (settled-answer (d .standing) u)
-
-  standing-moved : (differs : Bool) → differs ≡ rowChanged (model1 (h .case .holds)) (model2 (h .case .holds)) (operator (h .case .holds)) (shownTable (h .case .holds) d) (d .standing .row) → movedOn (N1 (h .case .holds)) (changedNow (h .case .holds) d) (d .standing) ≡ movedBy differs (d .standing)
-  standing-moved differs e = rw (e, h .unspoiled .rules .size1)
 
   -- the row, in the desk's terms
   out-is : (out whole other : List ℕ) → out ≡ caseRow w (z .lattice) bytes whole (d .standing .row) other → out ≡ rowWritten (model1 (h .case .holds)) (model2 (h .case .holds)) (operator (h .case .holds)) (tableOf whole (N2 (h .case .holds))) (d .standing .row) other
@@ -115,20 +128,31 @@ module _ {d : Desk} {z : Sizes} {w : List ℕ} (h : HeldDesk d z w) where
   differs-is : (differs : Bool) (whole : List ℕ) → differs ≡ caseRowDiffers w (z .lattice) bytes whole (d .standing .row) → differs ≡ rowChanged (model1 (h .case .holds)) (model2 (h .case .holds)) (operator (h .case .holds)) (tableOf whole (N2 (h .case .holds))) (d .standing .row)
   differs-is differs whole e = rw (h .case .parts .model1, h .case .parts .model2, h .case .ops) at e
 
-  -- the row is worked and the standing moved on
-  module _ (out : List ℕ) (differs : Bool) (next : Standing) (x : Reply) (u : d .standing .settled ≡ false) (n : next ≡ movedBy differs (d .standing)) (r : x ≡ stepAnswer (movedBy differs (d .standing))) where
+  -- the standing that a step leaves, from the row that was worked into the table that is not whole
+  standing-moved : (differs : Bool) (whole out : List ℕ) → whole ≡ wholeTable d → out ≡ rowWorked (h .case .holds) d → differs ≡ rowChanged (model1 (h .case .holds)) (model2 (h .case .holds)) (operator (h .case .holds)) (shownTable (h .case .holds) d) (d .standing .row)
+      → movedOn (N1 (h .case .holds)) (changedNow (h .case .holds) d) (loweredNow (h .case .holds) d) (d .standing) ≡ movedBy differs whole out (d .standing)
+  standing-moved differs whole out p o e = rw (p, o, e, h .unspoiled .rules .size1, h .unspoiled .rules .size2)
+
+  -- a row was worked into `other`, which gives `out`, and the standing moved on: `differs`, `next` and x are what was said, left and answered
+  module _ (out : List ℕ) (differs : Bool) (next : Standing) (x : Reply) (u : d .standing .settled ≡ false) where
+    abbrev RowWorked : List ℕ → List ℕ → Type 0
+    RowWorked whole other = (out ≡ caseRow w (z .lattice) bytes whole (d .standing .row) other) × (differs ≡ caseRowDiffers w (z .lattice) bytes whole (d .standing .row))
+
+    abbrev MovedFrom : List ℕ → Type 0
+    MovedFrom whole = (next ≡ movedBy differs whole out (d .standing)) × (x ≡ stepAnswer (movedBy differs whole out (d .standing)))
+
     -- the second table is whole, and the row is worked into the first
-    pub into-first : d .standing .secondWhole ≡ true → out ≡ caseRow w (z .lattice) bytes (d .second) (d .standing .row) (d .first) → differs ≡ caseRowDiffers w (z .lattice) bytes (d .second) (d .standing .row) → Does Call.Step d x (record { standing = next; store = d .store; first = out; second = d .second })
+    pub into-first : d .standing .secondWhole ≡ true → RowWorked (d .second) (d .first) → MovedFrom (d .second) → Does Call.Step d x (record { standing = next; store = d .store; first = out; second = d .second })
     unfolding stepped worked
-    into-first v e f =
-        let s = standing-moved differs (rw v (differs-is differs (d .second) f)) in
-        let o = out-is out (d .second) (d .first) e in
-        rw (n, r) (held-step (record { standing = movedBy differs (d .standing); store = d .store; first = out; second = d .second }) (rw (u, s, o, v)))
+    into-first v e m =
+        let o = out-is out (d .second) (d .first) (e .0) in
+        let s = standing-moved differs (d .second) out (rw v) (rw v o) (rw v (differs-is differs (d .second) (e .1))) in
+        rw (m .0, m .1) (held-step (record { standing = movedBy differs (d .second) out (d .standing); store = d .store; first = out; second = d .second }) (rw (u, s, o, v)))
 
     -- the first table is whole, and the row is worked into the second
-    pub into-second : d .standing .secondWhole ≡ false → out ≡ caseRow w (z .lattice) bytes (d .first) (d .standing .row) (d .second) → differs ≡ caseRowDiffers w (z .lattice) bytes (d .first) (d .standing .row) → Does Call.Step d x (record { standing = next; store = d .store; first = d .first; second = out })
+    pub into-second : d .standing .secondWhole ≡ false → RowWorked (d .first) (d .second) → MovedFrom (d .first) → Does Call.Step d x (record { standing = next; store = d .store; first = d .first; second = out })
     unfolding stepped worked
-    into-second v e f =
-        let s = standing-moved differs (rw v (differs-is differs (d .first) f)) in
-        let o = out-is out (d .first) (d .second) e in
-        rw (n, r) (held-step (record { standing = movedBy differs (d .standing); store = d .store; first = d .first; second = out }) (rw (u, s, o, v)))
+    into-second v e m =
+        let o = out-is out (d .first) (d .second) (e .0) in
+        let s = standing-moved differs (d .first) out (rw v) (rw v o) (rw v (differs-is differs (d .first) (e .1))) in
+        rw (m .0, m .1) (held-step (record { standing = movedBy differs (d .first) out (d .standing); store = d .store; first = d .first; second = out }) (rw (u, s, o, v)))

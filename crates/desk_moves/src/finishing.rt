@@ -3,6 +3,7 @@ use crate::StepAnswer;
 use crate::Stepped;
 use crate::stepping::answer_of;
 use crate::stepping::either;
+use crate::stepping::lowered;
 use crate::stepping::next_round;
 use desk_check::Examined;
 use desk_check::STORE_LENGTH;
@@ -13,18 +14,18 @@ use elements::Lattice;
 use model::State;
 ghost use mathlib.Core.Path.{_≡_};
 ghost use Prim.Native.Nat.{_<_};
-ghost use mathlib.Core.Bool.{_||_};
 ghost use lib.ListN.{getD};
 ghost use Rattle.elements.specs.Words.{Coded};
 ghost use Rattle.casefile.specs.Directory.{partAt};
 ghost use Rattle.entries.specs.Table.{Shaped};
 ghost use Rattle.rounds.specs.Table.{Room};
 ghost use Rattle.rounds.specs.Rest.{RestIn};
-ghost use Rattle.desk.specs.Moved.{nextRound, stepAnswer};
+ghost use Rattle.desk.specs.Moved.{stepAnswer};
 ghost use Rattle.desk.specs.RoundLeft.{Finishes};
 ghost use Rattle.desk_check.specs.Read.{standingOf, deskOf};
 ghost use Rattle.desk_moves.specs.Answer.{stepReply};
-ghost use Rattle.desk_moves.specs.Stepped.{Workable};
+ghost use Rattle.desk_moves.specs.Stepped.{Workable, Movable};
+ghost use Rattle.desk_moves.specs.Finished.{roundBy};
 
 // Works the rows of F of the whole table from row `from` to the last into the other; says whether one of them differs from the whole table's.
 fn work_rows(
@@ -71,14 +72,14 @@ fn work_rest(
     work_rows(w, l, m1, m2, whole, other, from)
 }
 
-// What is given after the last row, where the rows that were left differed, or did not.
-fn round_done(s: Standing, differs: bool) -> Stepped
-    requires { ⌜ s .round < 16777216 ⌝ }
-    ensures { λ r. ⌜ (standingOf (r .standing) ≡ nextRound (s .changed || differs) (standingOf s))
-        × (stepReply (r .answer) ≡ stepAnswer (nextRound (s .changed || differs) (standingOf s))) ⌝ }
+// What is given after the last row, where the rows that were left differed, or did not, and stand in the other table.
+fn round_done(s: Standing, differs: bool, whole: &[u8], other: &[u8]) -> Stepped
+    requires { ⌜ Movable (standingOf s) (now whole) (now other) ⌝ }
+    ensures { λ r. ⌜ (standingOf (r .standing) ≡ roundBy differs (now (whole .entry)) (now (other .entry)) (standingOf s))
+        × (stepReply (r .answer) ≡ stepAnswer (roundBy differs (now (whole .entry)) (now (other .entry)) (standingOf s))) ⌝ }
 {
     let changed = either(s.changed, differs);
-    let next = next_round(s, changed);
+    let next = next_round(s, changed, s.lowerings + lowered(true, s, whole, other));
     Stepped {
         standing: next,
         answer: answer_of(next),
@@ -100,15 +101,17 @@ pub fn finish_round(s: Standing, store: &[u8], first: &mut [u8], second: &mut [u
             if s.settled {
                 return Stepped {
                     standing: s,
-                    answer: StepAnswer::Settled(s.round),
+                    answer: StepAnswer::Settled(s.round, s.lowerings),
                 };
             }
             let l = z.lattice;
             let bytes = &store[..STORE_LENGTH];
             if s.second_whole {
-                return round_done(s, work_rest(&w, l, bytes, second, first, State(s.row)));
+                let differs = work_rest(&w, l, bytes, second, first, State(s.row));
+                return round_done(s, differs, second, first);
             }
-            round_done(s, work_rest(&w, l, bytes, first, second, State(s.row)))
+            let differs = work_rest(&w, l, bytes, first, second, State(s.row));
+            round_done(s, differs, first, second)
         }
     }
 }

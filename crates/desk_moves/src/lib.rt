@@ -25,12 +25,14 @@ pub struct Opened {
     pub answer: OpenAnswer,
 }
 
-// What step answers, and the last step of a round that is finished.
+// What step answers, and the last step of a round that is finished: each with the count of lowerings after it.
 pub enum StepAnswer {
     Refused(Refusal),
-    Row,
-    Round(u32),
-    Settled(u32),
+    // The lowerings.
+    Row(u32),
+    // The round or T, and the lowerings.
+    Round(u32, u32),
+    Settled(u32, u32),
 }
 
 // What step and finish_round give: the standing after it, and its answer.

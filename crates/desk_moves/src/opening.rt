@@ -65,6 +65,7 @@ pub fn open(
                     changed: false,
                     settled: false,
                     second_whole: false,
+                    lowerings: 0,
                 },
                 answer: OpenAnswer::Opened,
             }

@@ -9,14 +9,14 @@ use elements::Codes;
 use elements::Lattice;
 use model::State;
 ghost use mathlib.Core.Path.{_≡_};
-ghost use Prim.Native.Nat.{_<_};
-ghost use mathlib.Core.Bool.{_||_};
+ghost use Prim.Native.Nat.{_≤_, _<_};
+ghost use mathlib.Core.Bool.{cond, _||_};
 ghost use Rattle.desk.specs.Desk.{Call};
 ghost use Rattle.desk.specs.Moved.{nextRound, stepAnswer};
 ghost use Rattle.desk_check.specs.Read.{standingOf, deskOf};
 ghost use Rattle.desk_check.specs.Answer.{Does};
 ghost use Rattle.desk_moves.specs.Answer.{stepReply};
-ghost use Rattle.desk_moves.specs.Stepped.{caseRow, caseRowDiffers, Workable, movedBy};
+ghost use Rattle.desk_moves.specs.Stepped.{caseRow, caseRowDiffers, Workable, Comparable, Movable, lowersTo, movedBy};
 
 // Works a row of F of the whole table into the other; says whether it differs from the whole table's.
 fn work_row(w: &Codes, l: Lattice, bytes: &[u8], whole: &[u8], other: &mut [u8], row: State) -> bool
@@ -38,10 +38,26 @@ pub fn either(a: bool, b: bool) -> bool
     b
 }
 
-// The standing after the last row of a round that has changed something, or has not.
-pub fn next_round(s: Standing, changed: bool) -> Standing
+// How many entries a round has lowered: after its last row those in which the two tables differ, before that none.
+pub fn lowered(last: bool, s: Standing, whole: &[u8], other: &[u8]) -> u32
+    requires { ⌜ Comparable (standingOf s) (now whole) (now other) ⌝ }
+    ensures { λ r. ⌜ (r ≡ cond last (lowersTo (standingOf s) (now (whole .entry)) (now (other .entry))) 0) × (r ≤ 4096) ⌝ }
+{
+    if last {
+        return rounds::differing(
+            whole,
+            other,
+            elements::index(s.states1),
+            elements::index(s.states2),
+        );
+    }
+    0
+}
+
+// The standing after the last row of a round that has changed something, or has not, with the count of lowerings by then.
+pub fn next_round(s: Standing, changed: bool, lowerings: u32) -> Standing
     requires { ⌜ s .round < 16777216 ⌝ }
-    ensures { λ r. ⌜ standingOf r ≡ nextRound changed (standingOf s) ⌝ }
+    ensures { λ r. ⌜ standingOf r ≡ nextRound changed lowerings (standingOf s) ⌝ }
 {
     Standing {
         states1: s.states1,
@@ -51,17 +67,20 @@ pub fn next_round(s: Standing, changed: bool) -> Standing
         changed: false,
         settled: !changed,
         second_whole: !s.second_whole,
+        lowerings: lowerings,
     }
 }
 
-// The standing after a row that differed, or did not.
-fn moved_on(s: Standing, differs: bool) -> Standing
-    requires { ⌜ (s .row < s .states1) × (s .round < 16777216) ⌝ }
-    ensures { λ r. ⌜ standingOf r ≡ movedBy differs (standingOf s) ⌝ }
+// The standing after a row that differed, or did not, and that stands in the other table.
+fn moved_on(s: Standing, differs: bool, whole: &[u8], other: &[u8]) -> Standing
+    requires { ⌜ Movable (standingOf s) (now whole) (now other) ⌝ }
+    ensures { λ r. ⌜ standingOf r ≡ movedBy differs (now (whole .entry)) (now (other .entry)) (standingOf s) ⌝ }
 {
     let changed = either(s.changed, differs);
-    if s.row + 1 == s.states1 {
-        return next_round(s, changed);
+    let last = s.row + 1 == s.states1;
+    let count = s.lowerings + lowered(last, s, whole, other);
+    if last {
+        return next_round(s, changed, count);
     }
     Standing {
         states1: s.states1,
@@ -71,28 +90,29 @@ fn moved_on(s: Standing, differs: bool) -> Standing
         changed: changed,
         settled: false,
         second_whole: s.second_whole,
+        lowerings: count,
     }
 }
 
-// Row, Round(r) or Settled(T), by the standing that the step leaves.
+// Row, Round(r) or Settled(T), by the standing that the step leaves, and its lowerings.
 pub fn answer_of(s: Standing) -> StepAnswer
     ensures { λ r. ⌜ stepReply r ≡ stepAnswer (standingOf s) ⌝ }
 {
     if s.settled {
-        return StepAnswer::Settled(s.round);
+        return StepAnswer::Settled(s.round, s.lowerings);
     }
     if s.row == 0 {
-        return StepAnswer::Round(s.round);
+        return StepAnswer::Round(s.round, s.lowerings);
     }
-    StepAnswer::Row
+    StepAnswer::Row(s.lowerings)
 }
 
-fn answered(s: Standing, differs: bool) -> Stepped
-    requires { ⌜ (s .row < s .states1) × (s .round < 16777216) ⌝ }
-    ensures { λ r. ⌜ (standingOf (r .standing) ≡ movedBy differs (standingOf s))
-        × (stepReply (r .answer) ≡ stepAnswer (movedBy differs (standingOf s))) ⌝ }
+fn answered(s: Standing, differs: bool, whole: &[u8], other: &[u8]) -> Stepped
+    requires { ⌜ Movable (standingOf s) (now whole) (now other) ⌝ }
+    ensures { λ r. ⌜ (standingOf (r .standing) ≡ movedBy differs (now (whole .entry)) (now (other .entry)) (standingOf s))
+        × (stepReply (r .answer) ≡ stepAnswer (movedBy differs (now (whole .entry)) (now (other .entry)) (standingOf s))) ⌝ }
 {
-    let next = moved_on(s, differs);
+    let next = moved_on(s, differs, whole, other);
     Stepped {
         standing: next,
         answer: answer_of(next),
@@ -114,15 +134,17 @@ pub fn step(s: Standing, store: &[u8], first: &mut [u8], second: &mut [u8]) -> S
             if s.settled {
                 return Stepped {
                     standing: s,
-                    answer: StepAnswer::Settled(s.round),
+                    answer: StepAnswer::Settled(s.round, s.lowerings),
                 };
             }
             let l = z.lattice;
             let bytes = &store[..STORE_LENGTH];
             if s.second_whole {
-                return answered(s, work_row(&w, l, bytes, second, first, State(s.row)));
+                let differs = work_row(&w, l, bytes, second, first, State(s.row));
+                return answered(s, differs, second, first);
             }
-            answered(s, work_row(&w, l, bytes, first, second, State(s.row)))
+            let differs = work_row(&w, l, bytes, first, second, State(s.row));
+            answered(s, differs, first, second)
         }
     }
 }

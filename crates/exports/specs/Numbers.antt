@@ -27,7 +27,7 @@ use Rattle.exports.specs.declared.DeskSizes.{DeskSizes}
 abbrev pub yesNo : Bool → ℕ
 yesNo b = cond b 1 0
 
--- an answer of this kind, refusal and value; byte, second and the flags are 0 and false, as in every kind but 9
+-- an answer of this kind, refusal and value; byte, second and the flags are 0 and false
 abbrev pub answered : ℕ → ℕ → ℕ → ℕ → Answer
 answered kind number part value =
     record { kind = kind; number = number; part = part; byte = 0; value = value; second = 0; flag1 = false; flag2 = false }
@@ -36,26 +36,30 @@ answered kind number part value =
 abbrev pub given : ℕ → ℕ → Answer
 given kind value = answered kind 0 0 value
 
--- | reply            | kind | number | part | byte       | value        | flag1       | flag2 |
--- |------------------|------|--------|------|------------|--------------|-------------|-------|
--- | Refused n p      | 0    | n      | p    | 0          | 0            | false       | false |
--- | Opened           | 1    | 0      | 0    | 0          | 0            | false       | false |
--- | Row              | 2    | 0      | 0    | 0          | 0            | false       | false |
--- | Round r          | 3    | 0      | 0    | 0          | r            | false       | false |
--- | Settled T        | 4    | 0      | 0    | 0          | T            | false       | false |
--- | Element e        | 5    | 0      | 0    | 0          | e            | false       | false |
--- | PerCent p        | 6    | 0      | 0    | 0          | p            | false       | false |
--- | Says b           | 7    | 0      | 0    | 0          | 1 yes, 0 no  | false       | false |
--- | FormulaValue e x | 9    | 0      | 0    | x .nesting | e            | x .fixpoint | x .ex |
--- | Length n         | 10   | 0      | 0    | 0          | n            | false       | false |
--- second is 0 in each of them.
+-- one that carries the count of lowerings (request 107)
+abbrev pub carrying : ℕ → ℕ → ℕ → Answer
+carrying kind value lowerings =
+    record { kind = kind; number = 0; part = 0; byte = 0; value = value; second = lowerings; flag1 = false; flag2 = false }
+
+-- | reply            | kind | number | part | byte       | value        | second | flag1       | flag2 |
+-- |------------------|------|--------|------|------------|--------------|--------|-------------|-------|
+-- | Refused n p      | 0    | n      | p    | 0          | 0            | 0      | false       | false |
+-- | Opened           | 1    | 0      | 0    | 0          | 0            | 0      | false       | false |
+-- | Row n            | 2    | 0      | 0    | 0          | 0            | n      | false       | false |
+-- | Round r n        | 3    | 0      | 0    | 0          | r            | n      | false       | false |
+-- | Settled T n      | 4    | 0      | 0    | 0          | T            | n      | false       | false |
+-- | Element e        | 5    | 0      | 0    | 0          | e            | 0      | false       | false |
+-- | PerCent p        | 6    | 0      | 0    | 0          | p            | 0      | false       | false |
+-- | Says b           | 7    | 0      | 0    | 0          | 1 yes, 0 no  | 0      | false       | false |
+-- | FormulaValue e x | 9    | 0      | 0    | x .nesting | e            | 0      | x .fixpoint | x .ex |
+-- | Length n         | 10   | 0      | 0    | 0          | n            | 0      | false       | false |
 -- Shown has kind 8, which no export answers: what show gives is told by `named`.
 abbrev pub numbers : Reply → Answer
 numbers (Reply.Refused n p) = answered 0 n p 0
 numbers Reply.Opened = given 1 0
-numbers Reply.Row = given 2 0
-numbers (Reply.Round r) = given 3 r
-numbers (Reply.Settled t) = given 4 t
+numbers (Reply.Row n) = carrying 2 0 n
+numbers (Reply.Round r n) = carrying 3 r n
+numbers (Reply.Settled t n) = carrying 4 t n
 numbers (Reply.Element e) = given 5 e
 numbers (Reply.FormulaValue e x) =
     record { kind = 9; number = 0; part = 0; byte = x .nesting; value = e; second = 0; flag1 = x .fixpoint; flag2 = x .ex }

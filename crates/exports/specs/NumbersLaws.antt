@@ -36,9 +36,9 @@ use Rattle.exports.specs.Numbers.{numbers, DoneInNumbersWith, named, Sho
 abbrev pub isShown : Reply → Bool
 isShown (Reply.Refused n p) = false
 isShown Reply.Opened = false
-isShown Reply.Row = false
-isShown (Reply.Round r) = false
-isShown (Reply.Settled t) = false
+isShown (Reply.Row n) = false
+isShown (Reply.Round r n) = false
+isShown (Reply.Settled t n) = false
 isShown (Reply.Shown b) = true
 isShown (Reply.Element e) = false
 isShown (Reply.FormulaValue e x) = false
@@ -50,9 +50,9 @@ isShown (Reply.Length n) = false
 abbrev pub replyOf : Answer → Reply
 replyOf a =
     cond (eqb (a .kind) 1) Reply.Opened
-    (cond (eqb (a .kind) 2) Reply.Row
-    (cond (eqb (a .kind) 3) (Reply.Round (a .value))
-    (cond (eqb (a .kind) 4) (Reply.Settled (a .value))
+    (cond (eqb (a .kind) 2) (Reply.Row (a .second))
+    (cond (eqb (a .kind) 3) (Reply.Round (a .value) (a .second))
+    (cond (eqb (a .kind) 4) (Reply.Settled (a .value) (a .second))
     (cond (eqb (a .kind) 5) (Reply.Element (a .value))
     (cond (eqb (a .kind) 6) (Reply.PerCent (a .value))
     (cond (eqb (a .kind) 7) (Reply.Says (eqb (a .value) 1))
@@ -62,9 +62,9 @@ replyOf a =
 pub numbers-back : (x : Reply) → isShown x ≡ false → replyOf (numbers x) ≡ x
 numbers-back (Reply.Refused n p) e = refl
 numbers-back Reply.Opened e = refl
-numbers-back Reply.Row e = refl
-numbers-back (Reply.Round r) e = refl
-numbers-back (Reply.Settled t) e = refl
+numbers-back (Reply.Row n) e = refl
+numbers-back (Reply.Round r n) e = refl
+numbers-back (Reply.Settled t n) e = refl
 numbers-back (Reply.Shown b) e = absurd (let z : _≡_ {A = ℕ} 0 1 = cc in omega arith)
 numbers-back (Reply.Element x) e = refl
 numbers-back (Reply.FormulaValue x y) e = refl

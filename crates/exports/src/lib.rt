@@ -32,7 +32,7 @@ pub struct Answer {
     pub byte: u8,
     // The round, T, the element, the per cent, 1 for yes, or the length.
     pub value: u32,
-    // No kind uses it yet.
+    // The lowerings, of kinds 2, 3 and 4.
     pub second: u32,
     // A fixpoint occurs; EX occurs; of kind 9.
     pub flag1: bool,

@@ -12,7 +12,7 @@ ghost use mathlib.Core.Path.{_≡_};
 ghost use Rattle.desk.specs.Refused.{numberReply};
 ghost use Rattle.desk_moves.specs.Answer.{stepReply, openReply};
 ghost use Rattle.desk_questions.specs.Answer.{elementReply, valueReply, shareReply, judgeReply, lengthReply};
-ghost use Rattle.exports.specs.Numbers.{given, numbers};
+ghost use Rattle.exports.specs.Numbers.{given, carrying, numbers};
 
 pub fn refused(f: Refusal) -> Answer
     ensures { λ r. ⌜ r ≡ numbers (numberReply f) ⌝ }
@@ -44,6 +44,22 @@ pub fn plain(kind: u8, value: u32) -> Answer
     }
 }
 
+// An answer of step, with the count of lowerings.
+fn counted(kind: u8, value: u32, lowerings: u32) -> Answer
+    ensures { λ r. ⌜ r ≡ carrying kind value lowerings ⌝ }
+{
+    Answer {
+        kind: kind,
+        number: 0,
+        part: 0,
+        byte: 0,
+        value: value,
+        second: lowerings,
+        flag1: false,
+        flag2: false,
+    }
+}
+
 fn wide(x: u8) -> u32
     ensures { λ r. ⌜ r ≡ x ⌝ }
 {
@@ -64,9 +80,9 @@ pub fn stepped(a: StepAnswer) -> Answer
 {
     match a {
         StepAnswer::Refused(f) => refused(f),
-        StepAnswer::Row => plain(2, 0),
-        StepAnswer::Round(r) => plain(3, r),
-        StepAnswer::Settled(t) => plain(4, t),
+        StepAnswer::Row(n) => counted(2, 0, n),
+        StepAnswer::Round(r, n) => counted(3, r, n),
+        StepAnswer::Settled(t, n) => counted(4, t, n),
     }
 }
 

@@ -4,6 +4,7 @@
 --   Room: what the functions ask of a table to write into
 --   rowWritten, entrySame, rowSame, rowChanged, changedBelow, simulationTest: a row in its place, what it changes, S = G(S)
 --   entryAtMost, rowAtMost, postFixedTest: S at or below G(S)
+--   bytesDiffering: in how many entries two tables differ
 --   scoreIn: score
 --   RowIn, postFixedIn: what working a row does, the test on bytes
 use Prim.Native.Nat.{ℕ, _*_, _≤_}
@@ -15,7 +16,7 @@ use lib.ListN.{length, getD}
 use Rattle.theory.specs.Lattice.{Ops}
 use Rattle.theory.specs.Model.{Model}
 use Rattle.theory.specs.Part.{modelOf}
-use Rattle.theory.specs.Simulation.{score}
+use Rattle.theory.specs.Simulation.{score, differing}
 use Rattle.theory.specs.Test.{allBelow}
 use Rattle.theory.specs.Lists.{tab, written}
 use Rattle.elements.specs.declared.Lattice.{Lattice}
@@ -61,6 +62,10 @@ module _ (O : Ops ℕ) (M₁ M₂ : Model ℕ) (G : (ℕ → ℕ → ℕ) → �
   -- S at or below G(S), as a test; with F for G it is request 104's 'S at or below F(S) everywhere'
   unfoldable pub postFixedTest : (ℕ → ℕ → ℕ) → Bool
   postFixedTest S = allBelow (M₁ .states) (rowAtMost S)
+
+-- in how many entries two tables of bytes with n₁ rows of n₂ entries differ (request 107)
+abbrev pub bytesDiffering : List ℕ → List ℕ → ℕ → ℕ → ℕ
+bytesDiffering a b n₁ n₂ = differing eqb n₁ n₂ (tableOf a n₂) (tableOf b n₂)
 
 -- ---- the terms of the contracts, with the codes w and the numbers l of a lattice
 

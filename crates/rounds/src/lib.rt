@@ -1,6 +1,6 @@
-// The simulation operator on tables that are held as bytes: a row, a round, whether a table is at or below F of it, and score. Everything is worked on
-// the codes of elements (crate `elements`), and an entry that is written is turned back into its element once. A row alone is worked entry by entry (crate
-// `entries`), a round by the inner joins that its rows share.
+// The simulation operator on tables that are held as bytes: a row, a round, whether a table is at or below F of it, and score; in how many entries two tables
+// differ. All but the last is worked on the codes of elements (crate `elements`), and an entry that is written is turned back into its element once. A row
+// alone is worked entry by entry (crate `entries`), a round by the inner joins that its rows share.
 //   columns: the codes of all rows of a round
 mod columns;
 
@@ -20,7 +20,7 @@ ghost use Rattle.theory.specs.Part.{ModelShape};
 ghost use Rattle.elements.specs.Words.{Coded};
 ghost use Rattle.entries.specs.Table.{Shaped};
 ghost use Rattle.entries.specs.Words.{rowWords};
-ghost use Rattle.rounds.specs.Table.{Room, RowIn, scoreIn, postFixedIn};
+ghost use Rattle.rounds.specs.Table.{Room, RowIn, scoreIn, postFixedIn, bytesDiffering};
 ghost use Rattle.rounds.specs.Round.{RoundIn};
 ghost use Rattle.rounds.specs.Row.{RowOut};
 ghost use Rattle.rounds.specs.Codes.{initialCode, joinOf, JoinsOf};
@@ -148,6 +148,21 @@ pub fn is_post_fixed(w: &Codes, l: Lattice, m1: &[u8], m2: &[u8], s: &[u8]) -> b
         }
     }
     true
+}
+
+// ---- lowerings
+
+// In how many entries two tables with n1 rows of n2 entries differ.
+pub fn differing(a: &[u8], b: &[u8], n1: usize, n2: usize) -> u32
+    requires { ⌜ (n1 * n2 ≤ 4096) × (n1 * n2 ≤ length (now a)) × (n1 * n2 ≤ length (now b)) ⌝ }
+    ensures { λ r. ⌜ r ≡ bytesDiffering (now (a .entry)) (now (b .entry)) n1 n2 ⌝ }
+{
+    let n = n1 * n2;
+    let mut c: usize = 0;
+    for i in 0..n {
+        c += elements::one_if(a[i] != b[i]);
+    }
+    c as u32
 }
 
 // ---- score

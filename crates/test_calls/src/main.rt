@@ -1,4 +1,4 @@
-// The calls by value on the worked examples of document 01 and of requests 101, 102, 104 and 105. Each line of the input is a call: its word, and the bytes
+// The calls by value on the worked examples of document 01 and of requests 101, 102, 104, 105 and 107. Each line of the input is a call: its word, and the bytes
 // that it takes, in hexadecimal. The table is shown after each step. A line that begins with # is printed as it is.
 use desk_check::Standing;
 use desk_moves::OpenAnswer;
@@ -20,9 +20,9 @@ ghost use Rattle.io.specs.Counts.{Counts};
 fn say_step(a: StepAnswer) {
     match a {
         StepAnswer::Refused(r) => test_printing::refused(r),
-        StepAnswer::Row => say(b" Row"),
-        StepAnswer::Round(r) => test_printing::item(b" Round ", r as u64),
-        StepAnswer::Settled(t) => test_printing::item(b" Settled ", t as u64),
+        StepAnswer::Row(n) => test_printing::item(b" Row ", n as u64),
+        StepAnswer::Round(r, n) => test_printing::two(b" Round ", r as u64, n as u64),
+        StepAnswer::Settled(t, n) => test_printing::two(b" Settled ", t as u64, n as u64),
     }
 }
 
@@ -213,6 +213,7 @@ fn main() {
         changed: false,
         settled: false,
         second_whole: false,
+        lowerings: 0,
     };
     let mut store = [0u8; 24576];
     let mut first = [0u8; 4096];

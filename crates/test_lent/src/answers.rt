@@ -18,9 +18,9 @@ pub fn say_open(a: OpenAnswer) {
 pub fn say_step(a: StepAnswer) {
     match a {
         StepAnswer::Refused(r) => test_printing::refused(r),
-        StepAnswer::Row => say(b" Row"),
-        StepAnswer::Round(r) => test_printing::item(b" Round ", r as u64),
-        StepAnswer::Settled(t) => test_printing::item(b" Settled ", t as u64),
+        StepAnswer::Row(n) => test_printing::item(b" Row ", n as u64),
+        StepAnswer::Round(r, n) => test_printing::two(b" Round ", r as u64, n as u64),
+        StepAnswer::Settled(t, n) => test_printing::two(b" Settled ", t as u64, n as u64),
     }
 }
 

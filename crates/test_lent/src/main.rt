@@ -222,6 +222,7 @@ fn main() {
         changed: false,
         settled: false,
         second_whole: false,
+        lowerings: 0,
     };
     let mut store = [0u8; 24576];
     let mut first = [0u8; 4096];

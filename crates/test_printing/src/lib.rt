@@ -17,6 +17,12 @@ pub fn item(text: &[u8], n: u64) {
     io::print_decimal(STDOUT_FILENO, n);
 }
 
+// A label and two numbers, a blank between them.
+pub fn two(text: &[u8], a: u64, b: u64) {
+    item(text, a);
+    item(b" ", b);
+}
+
 // A byte as a number, with a blank before it.
 pub fn byte(x: u8) {
     item(b" ", x as u64);

@@ -1,9 +1,8 @@
 -- A descending sequence of finite tables over a lattice changes only so often: by the length of the longest chain.
--- The general part of theorem 4. Rests on Lattice, Simulation (count), Test, Finite.
+-- The general part of theorem 4. Rests on Lattice, Simulation (lowerings), Test, Finite, Lowerings.
 --   steps: from one element of a chain of h to the next there are h - 1 steps
 --   Preorder: a decided preorder; downwards, upwards: those of a lattice
 --   Apart: in order, and not both ways; apart-most, apart-most-up: no list of values apart is longer than a chain
---   lowered, lowerings: in how many steps an entry, and all entries together, were lowered
 --   Unlowered: a step that lowers no entry
 --   lowerings-le: a descending sequence of m by n tables lowers at most m * n * (h - 1) entries
 --   first-unlowered: so there is a first step that lowers none
@@ -16,9 +15,10 @@ use native.Mathlib.Nat.{le-refl, le-trans, mul-assoc}
 use native.Mathlib.Omega.{arith}
 use lib.ListN.{length, length-map}
 use Rattle.theory.specs.Lattice.{Ops, Laws, AtMost, Chain, All, Pairwise}
-use Rattle.theory.specs.Simulation.{indicator, count}
+use Rattle.theory.specs.Simulation.{indicator, count, lowerings}
 use Rattle.theory.specs.TestLaws.{decide, false-true}
-use Rattle.theory.specs.Finite.{sum, sum-le, sum-mono, sum-strict, scan, First, first-exists, pairwise-map, all-image, pairwise-under}
+use Rattle.theory.specs.Finite.{sum-le, scan, First, first-exists, pairwise-map, all-image, pairwise-under}
+use Rattle.theory.specs.Lowerings.{lowered, lowerings-entries, lowerings-more, differing-some}
 pub use Rattle.theory.specs.Finite.{all-map}
 
 -- ---- a chain of h elements has h − 1 steps from one of them to the next
@@ -39,14 +39,6 @@ pub record Preorder (A : Type 0) : Type 0 where
 -- in order, and not both ways
 abbrev pub Apart : {A : Type 0} → (A → A → Bool) → A → A → Type 0
 Apart test a b = ((test a b ≡ true) ⊎ (test b a ≡ true)) × (¬ ((test a b ≡ true) × (test b a ≡ true)))
-
--- in how many of its first t steps a sequence goes to a value that is not at or above the one before
-abbrev pub lowered : {A : Type 0} → (A → A → Bool) → (ℕ → A) → ℕ → ℕ
-lowered test s t = count t (λ i. not (test (s i) (s (suc i))))
-
--- the same, added up over the entries of m by n tables
-unfoldable pub lowerings : {A : Type 0} → (A → A → Bool) → (m n : ℕ) (s : ℕ → ℕ → ℕ → A) → ℕ → ℕ
-lowerings test m n s t = sum m (λ q. sum n (λ r. lowered test (λ i. s i q r) t))
 
 -- step t of a sequence of m by n tables lowers no entry
 abbrev pub Unlowered : {A : Type 0} (test : A → A → Bool) (m n : ℕ) (s : ℕ → ℕ → ℕ → A) → ℕ → Type 0
@@ -103,26 +95,10 @@ module _ {A : Type 0} (W : Preorder A) where
 
     -- all together, its tables lower at most m * n * (h - 1) entries
     pub lowerings-le : (t : ℕ) → lowerings test m n s t ≤ m * n * steps h
-    unfolding lowerings
-    lowerings-le t = rw mul-assoc (sum-le m _ _ (λ q l. sum-le n _ _ (λ r k. lowered-le t q l r k)))
+    lowerings-le t = rw (lowerings-entries test m n s t, mul-assoc) (sum-le m _ _ (λ q l. sum-le n _ _ (λ r k. lowered-le t q l r k)))
 
-    lowered-up : (q r t : ℕ) → lowered test (λ i. s i q r) t ≤ lowered test (λ i. s i q r) (suc t)
-    unfolding count
-    lowered-up q r t = omega arith
-
-    lowered-more : (q r t : ℕ) → ¬ (test (s t q r) (s (suc t) q r) ≡ true) → lowered test (λ i. s i q r) t < lowered test (λ i. s i q r) (suc t)
-    unfolding count
-    lowered-more q r t w = go (test (s t q r) (s (suc t) q r)) w
-      where
-        go : (b : Bool) → ¬ (b ≡ true) → lowered test (λ i. s i q r) t < lowered test (λ i. s i q r) t + indicator (not b)
-        go true w = absurd (w refl)
-        go false w = omega arith
-
-    lowerings-more : (t q : ℕ) → q < m → (r : ℕ) → r < n → ¬ (test (s t q r) (s (suc t) q r) ≡ true) → lowerings test m n s t < lowerings test m n s (suc t)
-    unfolding lowerings
-    lowerings-more t q l r k w =
-        sum-strict m _ _ (λ x y. sum-mono n _ _ (λ z v. lowered-up x z t)) q l
-        (sum-strict n _ _ (λ z v. lowered-up q z t) r k (lowered-more q r t w))
+    lowerings-rise : (t q : ℕ) → q < m → (r : ℕ) → r < n → ¬ (test (s t q r) (s (suc t) q r) ≡ true) → lowerings test m n s t < lowerings test m n s (suc t)
+    lowerings-rise t q l r k w = rw (lowerings-more test m n s t) (omega (arith, differing-some test m n (s t) (s (suc t)) q l r k w))
 
     -- step t lowers nothing, or it adds to the lowerings
     unlowered? : (t : ℕ) → Unlowered test m n s t ⊎ ((¬ Unlowered test m n s t) × (lowerings test m n s t < lowerings test m n s (suc t)))
@@ -130,7 +106,7 @@ module _ {A : Type 0} (W : Preorder A) where
       where
         go : Unlowered test m n s t ⊎ ((q : ℕ) × (q < m) × ((r : ℕ) × (r < n) × (¬ (test (s t q r) (s (suc t) q r) ≡ true)))) → Unlowered test m n s t ⊎ ((¬ Unlowered test m n s t) × (lowerings test m n s t < lowerings test m n s (suc t)))
         go (inl a) = inl a
-        go (inr (q, l, (r, k, w))) = inr (λ a. w (a q l r k), lowerings-more t q l r k w)
+        go (inr (q, l, (r, k, w))) = inr (λ a. w (a q l r k), lowerings-rise t q l r k w)
 
     grows : (t : ℕ) → ((j : ℕ) → j < t → ¬ Unlowered test m n s j) → t ≤ lowerings test m n s t
     grows zero w = zero-le

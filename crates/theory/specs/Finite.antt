@@ -1,22 +1,23 @@
--- Sums, searches and lists of finitely many things. Rests on Lattice and TestLaws.
---   sum: f 0 + .. + f (n - 1); its bounds: sum-le, sum-mono, sum-strict
+-- Sums, counts, searches and lists of finitely many things. Rests on Lattice, Simulation (sum, count), TestLaws and Loop.
+--   sum-le, sum-mono, sum-strict, sum-some: bounds of a sum; sum-cong: equal values, equal sums; sum-none: of zeros; sum-add, sum-swap: sums of sums; count-sum: a count is a sum
+--   count-mono: no more pass, a count no greater; count-rows: counted row by row
 --   scan: all numbers below n have P, or here is one that has Q
 --   First: t is the least number with P; first-exists: there is one, at most B
 --   all-map, pairwise-map: what holds of all, or of every two, entries of a list, weakened
 --   all-under, all-image, pairwise-under: the same, of the list with a function applied to each entry
 use Prim.Native.Nat.{ℕ, zero, suc, _+_, _*_, _≤_, _<_, zero-le}
+use mathlib.Core.Path.{_≡_, refl, sym, ap, ap₂, _∙_}
+use mathlib.Core.Bool.{Bool}
 use mathlib.Core.Logic.{_⊎_, inl, inr}
 use mathlib.Core.List.{List, [], _∷_, map}
-use native.Mathlib.Nat.{suc-mul, not-suc-le-zero, le-refl}
+use native.Mathlib.Nat.{add-zero, add-suc, zero-mul, suc-mul, not-suc-le-zero, le-refl, le-trans}
 use native.Mathlib.Omega.{arith}
 use Rattle.theory.specs.Lattice.{All, Pairwise}
+use Rattle.theory.specs.Simulation.{indicator, count, sum}
 use Rattle.theory.specs.TestLaws.{below-suc}
+use Rattle.theory.specs.Loop.{count-none}
 
 -- ---- sums of f 0, .., f (n - 1)
-
-unfoldable pub sum : ℕ → (ℕ → ℕ) → ℕ
-sum zero f = 0
-sum (suc n) f = sum n f + f n
 
 pub sum-le : (n c : ℕ) (f : ℕ → ℕ) → ((i : ℕ) → i < n → f i ≤ c) → sum n f ≤ n * c
 unfolding sum
@@ -36,6 +37,49 @@ sum-strict (suc n) f g h j l s =
     (λ i m t. omega (arith, sum-strict n f g (λ x y. h x (omega arith)) i m t, h n (le-refl _)))
     (λ t. omega (arith, sum-mono n f g (λ x y. h x (omega arith))))
     j l s
+
+pub sum-some : (n : ℕ) (f : ℕ → ℕ) (j : ℕ) → j < n → 0 < f j → 0 < sum n f
+sum-some n f j l s = le-trans (omega arith) (sum-strict n (λ i. 0) f (λ i m. zero-le) j l s)
+
+pub sum-cong : (n : ℕ) (f g : ℕ → ℕ) → ((i : ℕ) → i < n → f i ≡ g i) → sum n f ≡ sum n g
+unfolding sum
+sum-cong zero f g h = refl
+sum-cong (suc n) f g h = ap₂ _+_ (sum-cong n f g (λ i l. h i (omega arith))) (h n (le-refl _))
+
+pub sum-add : (n : ℕ) (f g : ℕ → ℕ) → sum n (λ i. f i + g i) ≡ sum n f + sum n g
+unfolding sum
+sum-add zero f g = refl
+sum-add (suc n) f g = omega (arith, sum-add n f g)
+
+pub sum-none : (n : ℕ) → sum n (λ i. 0) ≡ 0
+unfolding sum
+sum-none zero = refl
+sum-none (suc n) = omega (arith, sum-none n)
+
+-- the entries of a table, summed by columns or by rows
+pub sum-swap : (m n : ℕ) (f : ℕ → ℕ → ℕ) → sum m (λ i. sum n (f i)) ≡ sum n (λ j. sum m (λ i. f i j))
+unfolding sum
+sum-swap zero n f = sym (sum-none n)
+sum-swap (suc m) n f = omega (arith, sum-swap m n f, sum-add n (λ j. sum m (λ i. f i j)) (f m))
+
+pub count-sum : (n : ℕ) (f : ℕ → Bool) → count n f ≡ sum n (λ i. indicator (f i))
+unfolding count sum
+count-sum zero f = refl
+count-sum (suc n) f = ap (λ (k : ℕ). k + indicator (f n)) (count-sum n f)
+
+pub count-mono : (n : ℕ) (f g : ℕ → Bool) → ((i : ℕ) → i < n → indicator (f i) ≤ indicator (g i)) → count n f ≤ count n g
+count-mono n f g h = rw (count-sum n f, count-sum n g) (sum-mono n _ _ h)
+
+count-append : (m n : ℕ) (f : ℕ → Bool) → count (m + n) f ≡ count m f + count n (λ i. f (m + i))
+unfolding count
+count-append m zero f = ap (λ (k : ℕ). count k f) (add-zero m) ∙ sym (add-zero (count m f))
+count-append m (suc n) f = rw add-suc (omega (arith, count-append m n f))
+
+-- m rows of n, counted one after the other
+pub count-rows : (m n : ℕ) (f : ℕ → Bool) → count (m * n) f ≡ sum m (λ q. count n (λ r. f (q * n + r)))
+unfolding sum
+count-rows zero n f = ap (λ (k : ℕ). count k f) (zero-mul n) ∙ count-none f
+count-rows (suc m) n f = ap (λ (k : ℕ). count k f) (suc-mul m n) ∙ count-append (m * n) n f ∙ ap (λ (k : ℕ). k + count n (λ r. f (m * n + r))) (count-rows m n f)
 
 -- ---- finite searches
 

@@ -1,19 +1,19 @@
 -- The rest of theorem 4: in a lattice on the numbers below n there is a longest chain, of at most n elements.
--- Rests on Lattice, Simulation (one), Test, Finite.
+-- Rests on Lattice, Simulation (indicator, sum), Test, Finite.
 use Prim.Native.Nat.{ℕ, zero, suc, _+_, _≤_, _<_, zero-le}
 use mathlib.Core.Path.{_≡_, refl, sym, ap, _∙_}
 use mathlib.Core.Bool.{Bool, true, false}
 use mathlib.Core.Logic.{_⊎_, inl, inr, _≢_, ⊎-swap}
 use mathlib.Core.List.{List, [], _∷_}
-use native.Mathlib.Nat.{le-refl, le-trans, mul-one}
+use native.Mathlib.Nat.{le-refl, mul-one}
 use native.Mathlib.Omega.{arith}
 use borrow.Author.Tests.{ltb-true, eqb-true, eq-eqb, ne-eqb, eqb-false}
 use lib.Dec.{eqb, ltb}
 use lib.ListN.{length}
 use Rattle.theory.specs.Lattice.{Ops, AtMost, Element, All, Pairwise, Chain, LongestChain}
-use Rattle.theory.specs.Simulation.{indicator}
+use Rattle.theory.specs.Simulation.{indicator, sum}
 use Rattle.theory.specs.TestLaws.{decide}
-use Rattle.theory.specs.Finite.{sum, sum-le, sum-strict, scan, all-map}
+use Rattle.theory.specs.Finite.{sum-le, sum-some, sum-add, scan, all-map}
 
 -- ---- a list of distinct numbers below n has at most n of them
 
@@ -21,13 +21,8 @@ occurs : ℕ → List ℕ → ℕ
 occurs i [] = 0
 occurs i (a ∷ l) = indicator (eqb a i) + occurs i l
 
-sum-add : (n : ℕ) (f g : ℕ → ℕ) → sum n (λ i. f i + g i) ≡ sum n f + sum n g
-unfolding sum
-sum-add zero f g = refl
-sum-add (suc n) f g = omega (arith, sum-add n f g)
-
 sum-indicator : (n a : ℕ) → a < n → 0 < sum n (λ i. indicator (eqb a i))
-sum-indicator n a l = le-trans (omega arith) (sum-strict n (λ i. 0) (λ i. indicator (eqb a i)) (λ i m. zero-le) a l (rw (eq-eqb a a refl) (le-refl _)))
+sum-indicator n a l = sum-some n (λ i. indicator (eqb a i)) a l (rw (eq-eqb a a refl) (le-refl _))
 
 length-le : (n : ℕ) (l : List ℕ) → All (λ a. a < n) l → length l ≤ sum n (λ i. occurs i l)
 unfolding occurs

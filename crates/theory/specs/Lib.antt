@@ -5,7 +5,7 @@ pub mod Model  -- latticed Kripke structures
 pub mod Formula  -- formulas of the latticed mu-calculus, and the tests on them that the demands name
 pub mod Value  -- the value of a formula at a state and on a whole model
 pub mod Calculus  -- the latticed mu-calculus, with no count of applications
-pub mod Simulation  -- the simulation operator F, its rounds, T, score and share
+pub mod Simulation  -- the simulation operator F, its rounds, T, score, share and lowerings
 pub mod Pairs  -- how many pairs working one entry of F looks at
 pub mod Test  -- tests over the numbers below a limit
 pub mod Lists  -- lists by their rule, and bytes written at a place of a list
@@ -16,7 +16,8 @@ pub mod TestLaws  -- laws of tests
 pub mod Folds  -- theorem 1: finite meets and joins, the De Morgan laws, → and ↔
 pub mod Loop  -- invariants of loops that count up from 0
 pub mod Written  -- laws of bytes written at a place of a buffer
-pub mod Finite  -- sums, searches and lists of finitely many things
+pub mod Finite  -- sums, counts, searches and lists of finitely many things
+pub mod Lowerings  -- laws of the entries in which tables differ
 pub mod Descent  -- theorem 4, the general part: how often a descending sequence of tables changes
 pub mod Monotone  -- theorem 2, the first part: values are monotone
 pub mod Iterates  -- the iterates of a monotone map

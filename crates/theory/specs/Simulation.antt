@@ -5,9 +5,10 @@
 --     FixedBy, GreatestFixedBy
 --   PostFixedBy: S at or below G(S), for any operator G
 --   score; BoundsWhole: an element bounds the whole values of a formula; share, by indicator, count, goesUp and perCent
+--   lowerings, by sum and differing: the entries that differ from the round before, summed over rounds
 use Prim.Native.Nat.{ℕ, zero, suc, _+_, _*_, _-_, _/_, _%_, _<_}
 use mathlib.Core.Path.{_≡_}
-use mathlib.Core.Bool.{Bool, true, false, _&&_, _||_}
+use mathlib.Core.Bool.{Bool, true, false, not, _&&_, _||_}
 use lib.Dec.{ltb, eqb}
 use Rattle.theory.specs.Lattice.{Ops, AtMost, imp, iff, bigMeet, bigJoin}
 use Rattle.theory.specs.Model.{Model}
@@ -120,3 +121,20 @@ perCent c t = 100 * c / t + indicator (goesUp t (100 * c / t) (100 * c % t))
 unfoldable pub share : {A : Type 0} → Ops A → ℕ → (ℕ → A) → A → ℕ
 unfolding count perCent
 share O n S l = perCent (count n (λ i. O .atMost l (S i))) n
+
+-- ---- lowerings (request 107), of m by n tables
+
+-- f 0 + .. + f (n - 1)
+unfoldable pub sum : ℕ → (ℕ → ℕ) → ℕ
+sum zero f = 0
+sum (suc n) f = sum n f + f n
+
+-- how many entries of S do not pass a test beside those of U: where it tests for equality, in how many entries the two tables differ
+unfoldable pub differing : {A : Type 0} → (A → A → Bool) → ℕ → ℕ → (ℕ → ℕ → A) → (ℕ → ℕ → A) → ℕ
+unfolding sum count
+differing same m n S U = sum m (λ q. count n (λ r. not (same (S q r) (U q r))))
+
+-- 'the entries that differ from the round before, summed over the whole rounds': of the rounds 1 to t, where s 0, s 1, .. are the tables of the rounds
+unfoldable pub lowerings : {A : Type 0} → (A → A → Bool) → ℕ → ℕ → (ℕ → ℕ → ℕ → A) → ℕ → ℕ
+unfolding sum differing
+lowerings same m n s t = sum t (λ i. differing same m n (s i) (s (suc i)))

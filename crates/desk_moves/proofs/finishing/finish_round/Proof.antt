@@ -5,7 +5,7 @@ use Rattle.desk.specs.Desk.{Desk}
 use Rattle.desk.specs.RoundLeftLaws.{settled-finished}
 use Rattle.desk_check.specs.Read.{deskOf}
 use Rattle.desk_check.specs.Held.{HeldDesk, when-held}
-use Rattle.desk_moves.specs.Stepped.{workable, round-fits}
+use Rattle.desk_moves.specs.Stepped.{workable, movable}
 use Rattle.desk_moves.specs.Finished.{refused-rest, rest-into-first, rest-into-second}
 use borrow.Author.Needs.{needs}
 use Rattle.desk_moves.proofs.finishing.finish_round.Statement.{statement}
@@ -36,16 +36,15 @@ work-rest-requires c κs =
 
 round-done-requires : tie.Need-round-done-requires
 round-done-requires c κs =
-    let b = c .before .before .before .before .before .before .before in
+    let b = c .before .before .before .before .before .before .before .before .before in
     let z = b .before .before .before .before in
-    round-fits (held z) (b .before .before .if1 .left)
+    movable (held z) _ _ (b .before .before .if1 .left) (held z .lengths .second-long) (rw (c .before .before .before .before .work-rest .kept .1 .1 .1 .1 .0) (held z .lengths .first-long))
 
 returns-2 : tie.Need-returns-2
 returns-2 c =
-    let b = c .before .before .before .before .before .before .before .before in
+    let b = c .before .before .before .before .before .before .before .before .before .before in
     let z = b .before .before .before .before in
-    let w = c .before .before .before .work-rest .ensures in
-    rest-into-first (held z) _ _ _ _ (b .before .before .if1 .left) (c .round-done .ensures .0) (c .round-done .ensures .1) (c .before .before .before .before .before .before .before .if2 .taken) w
+    rest-into-first (held z) _ _ _ _ (b .before .before .if1 .left) (c .before .before .before .before .before .before .before .before .before .if2 .taken) (c .before .before .before .before .before .work-rest .ensures) (c .round-done .ensures)
 
 work-rest-requires-2 : tie.Need-work-rest-requires-2
 work-rest-requires-2 c κs =
@@ -55,19 +54,18 @@ work-rest-requires-2 c κs =
 
 round-done-requires-2 : tie.Need-round-done-requires-2
 round-done-requires-2 c κs =
-    let b = c .before .before .before .before .before .before .before in
+    let b = c .before .before .before .before .before .before .before .before .before in
     let z = b .before .before .before .before in
-    round-fits (held z) (b .before .before .if1 .left)
+    movable (held z) _ _ (b .before .before .if1 .left) (held z .lengths .first-long) (rw (c .before .before .before .before .work-rest2 .kept .1 .1 .1 .1 .0) (held z .lengths .second-long))
 
 returns-3 : tie.Need-returns-3
 returns-3 c = refused-rest (desk (c .before .before .before)) _ _ _ (c .before .before .before .examine .ensures) (c .before .f .given .1)
 
 returns-4 : tie.Need-returns-4
 returns-4 c =
-    let b = c .before .before .before .before .before .before .before .before in
+    let b = c .before .before .before .before .before .before .before .before .before .before in
     let z = b .before .before .before .before in
-    let w = c .before .before .before .work-rest2 .ensures in
-    rest-into-second (held z) _ _ _ _ (b .before .before .if1 .left) (c .round-done2 .ensures .0) (c .round-done2 .ensures .1) (c .before .before .before .before .before .before .before .if2 .left) w
+    rest-into-second (held z) _ _ _ _ (b .before .before .if1 .left) (c .before .before .before .before .before .before .before .before .before .if2 .left) (c .before .before .before .before .before .work-rest2 .ensures) (c .round-done2 .ensures)
 
 pub finish-round-spec : {M : Type 1} → statement M
 finish-round-spec =

@@ -4,7 +4,7 @@ use lib.Seq.{length-take-le}
 use Rattle.desk.specs.Desk.{Desk, Call}
 use Rattle.desk_check.specs.Read.{deskOf}
 use Rattle.desk_check.specs.Held.{HeldDesk, when-held, refused-call}
-use Rattle.desk_moves.specs.Stepped.{workable, round-fits, row-within, settled-step, into-first, into-second}
+use Rattle.desk_moves.specs.Stepped.{workable, movable, settled-step, into-first, into-second}
 use borrow.Author.Needs.{needs}
 use Rattle.desk_moves.proofs.stepping.step.Statement.{statement}
 use Rattle.desk_moves.proofs.stepping.step.Tie as tie
@@ -33,16 +33,15 @@ work-row-requires c κs =
 
 answered-requires : tie.Need-answered-requires
 answered-requires c κs =
-    let b = c .before .before .before .before .before .before .before in
+    let b = c .before .before .before .before .before .before .before .before .before in
     let z = b .before .before .before .before in
-    (row-within (held z), round-fits (held z) (b .before .before .if1 .left))
+    movable (held z) _ _ (b .before .before .if1 .left) (held z .lengths .second-long) (rw (c .before .before .before .before .work-row .kept .1 .1 .1 .1 .0) (held z .lengths .first-long))
 
 returns-2 : tie.Need-returns-2
 returns-2 c =
-    let b = c .before .before .before .before .before .before .before .before in
+    let b = c .before .before .before .before .before .before .before .before .before .before in
     let z = b .before .before .before .before in
-    let w = c .before .before .before .work-row .ensures in
-    into-first (held z) _ _ _ _ (b .before .before .if1 .left) (c .answered .ensures .0) (c .answered .ensures .1) (c .before .before .before .before .before .before .before .if2 .taken) (w .0) (w .1)
+    into-first (held z) _ _ _ _ (b .before .before .if1 .left) (c .before .before .before .before .before .before .before .before .before .if2 .taken) (c .before .before .before .before .before .work-row .ensures) (c .answered .ensures)
 
 work-row-requires-2 : tie.Need-work-row-requires-2
 work-row-requires-2 c κs =
@@ -52,19 +51,18 @@ work-row-requires-2 c κs =
 
 answered-requires-2 : tie.Need-answered-requires-2
 answered-requires-2 c κs =
-    let b = c .before .before .before .before .before .before .before in
+    let b = c .before .before .before .before .before .before .before .before .before in
     let z = b .before .before .before .before in
-    (row-within (held z), round-fits (held z) (b .before .before .if1 .left))
+    movable (held z) _ _ (b .before .before .if1 .left) (held z .lengths .first-long) (rw (c .before .before .before .before .work-row2 .kept .1 .1 .1 .1 .0) (held z .lengths .second-long))
 
 returns-3 : tie.Need-returns-3
 returns-3 c = refused-call Call.Step (desk (c .before .before .before)) _ _ _ refl (c .before .before .before .examine .ensures) (c .before .f .given .1)
 
 returns-4 : tie.Need-returns-4
 returns-4 c =
-    let b = c .before .before .before .before .before .before .before .before in
+    let b = c .before .before .before .before .before .before .before .before .before .before in
     let z = b .before .before .before .before in
-    let w = c .before .before .before .work-row2 .ensures in
-    into-second (held z) _ _ _ _ (b .before .before .if1 .left) (c .answered2 .ensures .0) (c .answered2 .ensures .1) (c .before .before .before .before .before .before .before .if2 .left) (w .0) (w .1)
+    into-second (held z) _ _ _ _ (b .before .before .if1 .left) (c .before .before .before .before .before .before .before .before .before .if2 .left) (c .before .before .before .before .before .work-row2 .ensures) (c .answered2 .ensures)
 
 pub step-spec : {M : Type 1} → statement M
 step-spec =
