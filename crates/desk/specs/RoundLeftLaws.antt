@@ -1,5 +1,5 @@
 -- What the steps that are left in a round do, and that demand 3 goes through them. Rests on RoundLeft, Stepping, Listed, Settling and rounds' Rest.
---   ended: the desk after the last row of a round
+--   ended, by endedBy and roundDone: the desk after the last row of a round
 --   one-finished: where one step is left; rest-finished, settled-finished: where an accepted desk is unsettled, and where it is settled
 --   step-obeys-rules: a row that is not the last leaves a desk to which neither 11 nor 12 applies
 --   acts-run, acts-demand3: a list with the rest of a round in it is a list of calls
@@ -74,7 +74,7 @@ module _ (c : Content) where
   differ m S q = rowsChanged (model1 c) (model2 c) (operator c) S m q
 
   -- the desk d after m rows from row q on, the last of the round among them, where `before` says whether the rows before have changed anything
-  abbrev roundDone : ℕ → Desk → Bool → ℕ → List ℕ → List ℕ → Desk
+  unfoldable pub roundDone : ℕ → Desk → Bool → ℕ → List ℕ → List ℕ → Desk
   roundDone m d before q whole other =
       let out = rows m (givenTable c whole) q other in
       withOther d (nextRound (before || differ m (givenTable c whole) q) (d .standing .lowerings + differingIn c (givenTable c whole) (givenTable c out)) (d .standing)) out
@@ -153,7 +153,7 @@ module _ (c : Content) where
 
   -- one row, then m rows: m + 1 rows
   ended-next : (m : ℕ) (d : Desk) → endedBy m (rowDone d) ≡ endedBy (suc m) d
-  unfolding rowsFrom rowsChanged
+  unfolding roundDone rowsFrom rowsChanged
   ended-next m d =
       let w = d .standing .secondWhole in
       let q = d .standing .row + 1 in
@@ -171,7 +171,7 @@ module _ (c : Content) where
 
   -- the last row
   ended-last : (d : Desk) → withOther d (nextRound (changedNow c d) (d .standing .lowerings + loweredNow c d) (d .standing)) (rowWorked c d) ≡ endedBy 1 d
-  unfolding rowsFrom rowsChanged
+  unfolding roundDone rowsFrom rowsChanged
   ended-last d = ap (λ (b : Bool). withOther d (nextRound (d .standing .changed || b) (d .standing .lowerings + loweredNow c d) (d .standing)) (rowWorked c d)) (sym (or-false (rowChanged (model1 c) (model2 c) (operator c) (shownTable c d) (d .standing .row))))
 
   steps-end : (m : ℕ) (d : Desk) → Unspoiled d c → d .standing .settled ≡ false → d .standing .row + suc m ≡ N1 c

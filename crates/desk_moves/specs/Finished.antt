@@ -19,7 +19,7 @@ use Rattle.desk.specs.Refused.{examined, numberReply}
 use Rattle.desk.specs.Moved.{nextRound, stepAnswer}
 use Rattle.desk.specs.Perform.{After}
 use Rattle.desk.specs.RoundLeft.{leftIn, stepsLeft, Finishes}
-use Rattle.desk.specs.RoundLeftLaws.{one-finished, rest-finished, ended}
+use Rattle.desk.specs.RoundLeftLaws.{one-finished, rest-finished, roundDone, ended}
 use Rattle.desk_check.specs.declared.Examined.{Examined}
 use Rattle.desk_check.specs.declared.Examined.the-variants.{Refused}
 use Rattle.desk_check.specs.Answer.{examinedAnswer, DeskExamined}
@@ -62,12 +62,14 @@ module _ {d : Desk} {z : Sizes} {w : List ℕ} (h : HeldDesk d z w) where
 
     -- the second table is whole, and the rows are worked into the first
     pub rest-into-first : d .standing .secondWhole ≡ true → RestWorked (d .second) (d .first) out differs → RoundFrom (d .second) → Finishes d x (record { standing = next; store = d .store; first = out; second = d .second })
+    unfolding roundDone
     rest-into-first v e m =
         let o = rows-are (d .second) (d .first) out differs e in
         rw (m .0, m .1) (held-rest (record { standing = roundBy differs (d .second) out (d .standing); store = d .store; first = out; second = d .second }) u (rw (h .unspoiled .rules .size1, h .unspoiled .rules .size2, o .0, o .1, v)))
 
     -- the first table is whole, and the rows are worked into the second
     pub rest-into-second : d .standing .secondWhole ≡ false → RestWorked (d .first) (d .second) out differs → RoundFrom (d .first) → Finishes d x (record { standing = next; store = d .store; first = d .first; second = out })
+    unfolding roundDone
     rest-into-second v e m =
         let o = rows-are (d .first) (d .second) out differs e in
         rw (m .0, m .1) (held-rest (record { standing = roundBy differs (d .first) out (d .standing); store = d .store; first = d .first; second = out }) u (rw (h .unspoiled .rules .size1, h .unspoiled .rules .size2, o .0, o .1, v)))
