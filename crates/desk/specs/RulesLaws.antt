@@ -1,6 +1,6 @@
 -- The tests of refusals 11, 12 and those after 12 say what their rules say. Rests on Refused and casefile's Reading.
 --   Long, long-enough, long-not-short: the lengths of a desk to which 11 does not apply
---   rules-in, rules-out, spoiled-exactly: the rules of 12, of a content and of the store
+--   rules-out, rules-in, spoiled-exactly: the rules of 12, of a content and of the store
 --   condition-exactly: the conditions after 12, one by one; holding-exactly, range-exactly: no refusal is given exactly when all of them hold
 --   broken-exactly: a refusal is given exactly when it is that of the first broken one; refusal-one: it is one of theirs, above 12
 --   same-refusal-exactly: where all give the same refusal, their order does not show
@@ -51,23 +51,6 @@ long-not-short d w = rw (le-ltb (length (d .store)) 24576 (w .store-long), le-lt
 -- ---- the rules of 12
 
 -- the tests say what Rules says
-pub rules-in : (d : Desk) (c : Content) → Rules d c → obeysFor c d ≡ true
-unfolding rulesObeyed
-rules-in d c w =
-    and-in _ _
-    (and-in _ _ (and-in _ _ (and-in _ _ (and-in _ _ sizes row) (round (d .standing .settled) refl)) (le-leb _ _ (w .lowerings-most))) (all-in _ _ (λ i l. lt-ltb _ _ (w .first-below i l))))
-    (all-in _ _ (λ i l. lt-ltb _ _ (w .second-below i l)))
-  where
-    sizes : sizesObey (N1 c) (N2 c) (d .standing) ≡ true
-    sizes = and-in _ _ (eq-eqb _ _ (w .size1)) (eq-eqb _ _ (w .size2))
-
-    row : rowObeys (N1 c) (d .standing) ≡ true
-    row = and-in _ _ (lt-ltb _ _ (w .row-below)) (⇒-in (eqb (d .standing .row) 0) (not (d .standing .changed)) (λ z. ap not (w .nothing-yet (eqb-true _ _ z))))
-
-    round : (t : Bool) → d .standing .settled ≡ t → cond t (settledObeys (limit c) (d .standing)) (leb (d .standing .round) (limit c)) ≡ true
-    round true e = and-in _ _ (and-in _ _ (le-leb _ _ (w .settled-least e)) (le-leb _ _ (w .settled-most e))) (eq-eqb _ _ (w .settled-row e))
-    round false e = le-leb _ _ (w .unsettled-most e)
-
 pub rules-out : (d : Desk) (c : Content) → storeReading (d .store) ≡ content c → obeysFor c d ≡ true → Rules d c
 unfolding rulesObeyed
 rules-out d c e h =
@@ -94,6 +77,23 @@ rules-out d c e h =
 
     settled : d .standing .settled ≡ true → settledObeys (limit c) (d .standing) ≡ true
     settled z = sym (cond-true (d .standing .settled) (settledObeys (limit c) (d .standing)) (leb (d .standing .round) (limit c)) z) ∙ round
+
+pub rules-in : (d : Desk) (c : Content) → Rules d c → obeysFor c d ≡ true
+unfolding rulesObeyed
+rules-in d c w =
+    and-in _ _
+    (and-in _ _ (and-in _ _ (and-in _ _ (and-in _ _ sizes row) (round (d .standing .settled) refl)) (le-leb _ _ (w .lowerings-most))) (all-in _ _ (λ i l. lt-ltb _ _ (w .first-below i l))))
+    (all-in _ _ (λ i l. lt-ltb _ _ (w .second-below i l)))
+  where
+    sizes : sizesObey (N1 c) (N2 c) (d .standing) ≡ true
+    sizes = and-in _ _ (eq-eqb _ _ (w .size1)) (eq-eqb _ _ (w .size2))
+
+    row : rowObeys (N1 c) (d .standing) ≡ true
+    row = and-in _ _ (lt-ltb _ _ (w .row-below)) (⇒-in (eqb (d .standing .row) 0) (not (d .standing .changed)) (λ z. ap not (w .nothing-yet (eqb-true _ _ z))))
+
+    round : (t : Bool) → d .standing .settled ≡ t → cond t (settledObeys (limit c) (d .standing)) (leb (d .standing .round) (limit c)) ≡ true
+    round true e = and-in _ _ (and-in _ _ (le-leb _ _ (w .settled-least e)) (le-leb _ _ (w .settled-most e))) (eq-eqb _ _ (w .settled-row e))
+    round false e = le-leb _ _ (w .unsettled-most e)
 
 pub spoiled-exactly : (d : Desk) → (spoiled d ≡ false) ↔ ((c : Content) × Rules d c)
 unfolding spoiled

@@ -4,6 +4,7 @@ use mathlib.Core.Path.{_≡_}
 use mathlib.Core.Bool.{Bool, true, cond}
 use mathlib.Core.List.{List}
 use native.Mathlib.Nat.{le-trans}
+use native.Mathlib.Omega.{arith}
 use lib.Dec.{eqb}
 use Rattle.theory.specs.Lowerings.{differing-most}
 use Rattle.rounds.specs.Table.{bytesDiffering}
@@ -22,7 +23,7 @@ compared s whole other last n1 n2 r k t p q e = (rw (t, ← p, ← q) e, rw (e, 
 differing-requires : tie.Need-differing-requires
 differing-requires c κs =
     let p = c .before .before .before .before .before .pre in
-    rw (c .before .index .ensures .0, c .index2 .ensures .0) (p .few, p .whole-room, p .other-room)
+    rw (c .before .index .ensures .0, c .index2 .ensures .0) (p .few, omega (arith, p .whole-room, p .other-room), omega (arith, p .whole-room, p .other-room))
 
 returns : tie.Need-returns
 returns c =

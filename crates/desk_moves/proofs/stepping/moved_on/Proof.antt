@@ -25,15 +25,15 @@ module _ (s : Standing) (differs now : Bool) (whole other : List ℕ) (n : ℕ) 
   other-row : eqb (s .row + 1) (s .states1) ≡ false → counted (s .lowerings + n) ≡ movedBy differs whole other s
   other-row q = rw (c, e, q, add-zero)
 
-returns : tie.Need-returns
-returns c =
-    let a = c .before .before .before .before .before .before .before .before .before .args in
-    c .next-round .ensures ∙ last-row (standingOf (a .s)) (a .differs) _ (a .whole .now) (a .other .now) _ (c .before .before .before .before .before .before .either .ensures) (c .before .before .before .lowered .ensures .0) (c .before .if1 .taken)
-
 returns-2 : tie.Need-returns-2
 returns-2 c =
     let a = c .before .before .before .before .before .before .before .before .before .args in
     other-row (standingOf (a .s)) (a .differs) _ (a .whole .now) (a .other .now) _ (c .before .before .before .before .before .before .either .ensures) (c .before .before .before .lowered .ensures .0) (c .before .if1 .left)
+
+returns : tie.Need-returns
+returns c =
+    let a = c .before .before .before .before .before .before .before .before .before .args in
+    c .next-round .ensures ∙ last-row (standingOf (a .s)) (a .differs) _ (a .whole .now) (a .other .now) _ (c .before .before .before .before .before .before .either .ensures) (c .before .before .before .lowered .ensures .0) (c .before .if1 .taken)
 
 pub moved-on-spec : {M : Type 1} → statement M
 moved-on-spec =
