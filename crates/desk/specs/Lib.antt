@@ -30,4 +30,3 @@ pub mod Settling  -- T·N1 accepted steps settle a desk
 pub mod RoundLeftLaws  -- what the steps left in a round do; demand 3 goes through them
 pub mod RoundLeftRounds  -- after an opening, n such calls give round n, and T of them settle the desk
 pub mod Unwritten  -- table bytes past N1·N2 and store bytes past 24,576 are never written
-pub mod Examples  -- two examples of document 01 by computation

@@ -1,7 +1,10 @@
--- Two examples of document 01 by computation: calls from a desk of zeros, and their answers. Rests on Run and casefile's Examples.
+-- Two examples of document 01 by computation, calls from a desk of zeros and their answers; and lowerings on desks altered from outside. Rests on desk's Run and
+-- casefile's Examples.
 --   zeros, AnswersAs: the desk, and that the calls of a list answer as it says; nested: the facts of their formulas
 --   calls1, LeavesCase; example4, calls4: the calls of worked examples 1 and 4, what the last of the former leaves in its buffer, and the case of the
---     latter; examples-answer: they answer so
+--     latter
+--   twoRows, twoRowsAt: a case, and a desk that holds it; atLimit, unsaid, skipped: three such desks, altered; AnswersFrom, AlteredAnswer: what they answer
+--   examples-answer: all of these answer so
 --   refused-show: what a refused show answers
 use Prim.Native.Nat.{ℕ}
 use mathlib.Core.Path.{_≡_, refl}
@@ -116,10 +119,49 @@ calls4 =
     ∷ (Call.Ask (Question.Share 2), Reply.Refused 13 255)
     ∷ []
 
--- the calls of a list, from a desk of zeros, answer as the list says
-abbrev pub AnswersAs : List (Call × Reply) → Type 0
-AnswersAs l = replies (map (λ x. x .0) l) zeros ≡ map (λ x. x .1) l
+-- the calls of a list, from a desk, answer as the list says; from a desk of zeros
+abbrev pub AnswersFrom : Desk → List (Call × Reply) → Type 0
+AnswersFrom d l = replies (map (λ x. x .0) l) d ≡ map (λ x. x .1) l
 
-pub examples-answer : AnswersAs calls1 × AnswersAs calls4 × LeavesCase
+abbrev pub AnswersAs : List (Call × Reply) → Type 0
+AnswersAs = AnswersFrom zeros
+
+-- ---- lowerings on desks altered from outside, within the rules of 12 (request 107)
+
+-- L2, no propositions; model 1: 0 to 1; model 2: one state, no transition. Round 1 is 0 / 1 and lowers one entry, in row 0; T = 2. N1·N2·(n − 1) is 2
+abbrev pub twoRows : List ℕ
+twoRows = gapless ((2 ∷ 1 ∷ 0 ∷ 1 ∷ 1 ∷ 0 ∷ 1 ∷ []) ∷ (2 ∷ 0 ∷ 1 ∷ 0 ∷ 0 ∷ 1 ∷ 0 ∷ 0 ∷ []) ∷ (1 ∷ 0 ∷ 1 ∷ 0 ∷ []) ∷ [])
+
+-- a desk that holds it at round 0, with this next row, count of lowerings, and first byte of the second table; nothing is said to have changed
+abbrev pub twoRowsAt : ℕ → ℕ → ℕ → Desk
+twoRowsAt row lowerings byte =
+    record {
+      standing = record { states1 = 2; states2 = 1; round = 0; row = row; changed = false; settled = false; secondWhole = false; lowerings = lowerings };
+      store = run (Call.Open twoRows ∷ []) zeros .store;
+      first = 1 ∷ 1 ∷ replicate 4094 0;
+      second = byte ∷ 1 ∷ replicate 4094 0;
+    }
+
+-- the count at its limit: a step that goes over it is accepted and carries the new count, and the next call gets 12
+abbrev pub atLimit : Desk
+atLimit = twoRowsAt 0 2 1
+
+-- row 0 was worked and the standing does not say that it changed something: 'the two tables are compared', and so Settled comes with a count that has risen
+abbrev pub unsaid : Desk
+unsaid = twoRowsAt 1 0 0
+
+-- row 0 was not worked: what stands in its place is compared
+abbrev pub skipped : Desk
+skipped = twoRowsAt 1 0 1
+
+abbrev pub AlteredAnswer : Type 0
+AlteredAnswer =
+    AnswersFrom atLimit ((Call.Step, Reply.Row 2) ∷ (Call.Step, Reply.Round 1 3) ∷ (Call.Step, Reply.Refused 12 255) ∷ [])
+    × AnswersFrom unsaid ((Call.Step, Reply.Settled 1 1) ∷ (Call.Step, Reply.Settled 1 1) ∷ [])
+    × AnswersFrom skipped ((Call.Step, Reply.Settled 1 0) ∷ [])
+
+-- ---- they hold
+
+pub examples-answer : AnswersAs calls1 × AnswersAs calls4 × LeavesCase × AlteredAnswer
 unfolding imp iff bigMeet bigJoin iterate bind allNext someNext eval valueAt wholeValue propositionPart successorPart F roundOf score count share sum differing isMeet isJoin meetOf joinOf topOf botOf element closedUnder overProps nestedBinders nestedAX fixpointFree universal allBelow firstBelow isPanel latticeOf explicitForm latticeForm reflexive antisymmetric transitive partialOrder meetsAndJoins distributive complementRules require partReading latticeReading elementsOnly modelTest byCode parse formulaReading partStart partSize placed misplaced partsFrom formulasReading modelsReading caseReading pairs joined gapless tab rowSame changedBelow rowAtMost postFixedTest short rulesObeyed spoiled examined accepted opened worked stepped answer moved lentAfter perform run replies
-examples-answer = (refl, refl, refl)
+examples-answer = (refl, refl, refl, (refl, refl, refl))
