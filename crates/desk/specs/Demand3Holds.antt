@@ -15,7 +15,8 @@ use lib.ListN.{length, getD, take}
 use Rattle.theory.specs.Value.{valueAt, wholeValue}
 use Rattle.theory.specs.Simulation.{score, share}
 use Rattle.theory.specs.Height.{longest-chain}
-use Rattle.theory.specs.Rounds.{T-at-most, lowerings-most, settled-greatest, below-rounds, fixed-below}
+use Rattle.theory.specs.Rounds.{T-at-most, settled-greatest, below-rounds, fixed-below}
+use Rattle.theory.specs.RoundLowerings.{lowerings-most}
 use Rattle.theory.specs.Sharp.{T-sharp}
 use Rattle.refusal.specs.declared.Refusal.the-variants.{ShortDesk, SpoiledDesk, ShortBuffer}
 use Rattle.formula.specs.Answer.{factsOf}

@@ -15,7 +15,8 @@ use borrow.Author.Tests.{ltb-true, eq-eqb}
 use lib.Dec.{eqb}
 use lib.ListN.{length, getD, take}
 use Rattle.theory.specs.Simulation.{SameTable, AtMostTable}
-use Rattle.theory.specs.Rounds.{T-at-most-size, lowerings-most-size}
+use Rattle.theory.specs.Rounds.{T-at-most-size}
+use Rattle.theory.specs.RoundLowerings.{lowerings-most-size}
 use Rattle.theory.specs.TestLaws.{false-true}
 use Rattle.refusal.specs.declared.Refusal.{Refusal}
 use Rattle.refusal.specs.Number.{numberOf}

@@ -1,16 +1,19 @@
 -- Laws of `differing` and `lowerings`, the entries of m by n tables that do not pass a test beside those of another table, and of the table before.
--- Rests on Simulation, Finite and Loop.
---   differing-cong, differing-none, differing-some, differing-most: equal tables; where all entries pass; where one does not; at most m * n
+-- Rests on Simulation, Finite, TestLaws and Loop.
+--   differing-cong, differing-none, differing-some, differing-passes, differing-most: equal tables; where all entries pass; where one does not; where none
+--     is counted all pass; at most m * n
 --   lowerings-none, lowerings-more: no round, and one more
 --   lowered: in how many steps an entry does not pass; lowerings-entries: the lowerings are these of all entries
 --   lowerings-mono: by a test that passes wherever another does there are fewer
 use Prim.Native.Nat.{ℕ, suc, _+_, _*_, _≤_, _<_}
 use mathlib.Core.Path.{_≡_, refl, sym, ap, ap₂, _∙_}
 use mathlib.Core.Bool.{Bool, true, false, not}
+use mathlib.Core.Logic.{⊎-elim}
 use native.Mathlib.Nat.{le-refl}
 use native.Mathlib.Omega.{arith}
 use Rattle.theory.specs.Simulation.{indicator, count, sum, differing, lowerings}
 use Rattle.theory.specs.Finite.{sum-le, sum-mono, sum-some, sum-cong, sum-none, sum-swap, count-sum, count-mono}
+use Rattle.theory.specs.TestLaws.{decide}
 use Rattle.theory.specs.Loop.{indicator-most, count-cong, count-most}
 
 -- in how many of its first t steps a sequence goes to a value that does not pass beside the one before
@@ -47,6 +50,9 @@ module _ {A : Type 0} (test : A → A → Bool) (m n : ℕ) where
       go : (b : Bool) → ¬ (b ≡ true) → 0 < indicator (not b)
       go true w = absurd (w refl)
       go false w = omega arith
+
+  pub differing-passes : (S U : ℕ → ℕ → A) → differing test m n S U ≡ 0 → Passes S U
+  differing-passes S U e q l r k = ⊎-elim (λ p. p) (λ w. absurd (omega (arith, e, differing-some S U q l r k w))) (decide (test (S q r) (U q r)))
 
   pub differing-most : (S U : ℕ → ℕ → A) → differing test m n S U ≤ m * n
   unfolding differing

@@ -3,7 +3,7 @@
 -- Rests on Simulation, Folds, Lowerings, Descent, Fixpoint.
 --   F-cong, F-mono, F-element, score-cong, round-next: F and score read a table only at the pairs of states; F is monotone, into elements
 --   rounds-descend, below-rounds, round-element: theorem 3
---   T-exists, T-unique, T-at-most, T-at-most-size, T-of-one-element: theorem 4; lowerings-most, lowerings-most-size, lowerings-at-T: the lowerings of its rounds
+--   T-exists, T-unique, T-at-most, T-at-most-size, T-of-one-element: theorem 4
 --   settled-greatest, settled-below, above-settled: theorem 5
 --   post-fixed-le, round-post-fixed-exactly: S at or below F(S) lies at or below every greatest simulation; which rounds are such tables
 --   stays, fixed-at-T, descend, below-every, fixed-below, rounds-element, rounds-lower, exists-T, exists-T-size, T-within, below-greatest, unlowered-exactly: the same of any
@@ -13,7 +13,7 @@ use mathlib.Core.Path.{_≡_, refl, sym, ap, _∙_, subst}
 use mathlib.Core.Bool.{Bool, true}
 use mathlib.Core.Logic.{_↔_, ⊎-elim}
 use mathlib.Core.List.{List}
-use native.Mathlib.Nat.{add-zero, le-trans, not-suc-le-zero, eq-or-lt-of-le, mul-zero}
+use native.Mathlib.Nat.{le-trans, not-suc-le-zero, eq-or-lt-of-le, mul-zero}
 use native.Mathlib.Numerals.{sub-one}
 use native.Mathlib.Decide.{le-ind}
 use native.Mathlib.Omega.{arith}
@@ -21,11 +21,11 @@ use lib.ListN.{length}
 use Rattle.theory.specs.Lattice.{Ops, Laws, AtMost, Element, Chain, LongestChain, imp}
 use Rattle.theory.specs.Model.{Model}
 use Rattle.theory.specs.Value.{someNext}
-use Rattle.theory.specs.Simulation.{successorPart, F, round, roundOf, SameTable, AtMostTable, FixedBy, PostFixedBy, GreatestFixedBy, FirstUnchangedOf, FirstUnchanged, GreatestSimulation, score, differing, lowerings}
+use Rattle.theory.specs.Simulation.{successorPart, F, round, roundOf, SameTable, AtMostTable, FixedBy, PostFixedBy, GreatestFixedBy, FirstUnchangedOf, FirstUnchanged, GreatestSimulation, score, lowerings}
 use Rattle.theory.specs.Folds.{meet-mono, bigMeet-cong, bigJoin-cong}
 use Rattle.theory.specs.Finite.{First}
 use Rattle.theory.specs.Descent.{Unlowered, first-unlowered, lowerings-le, downwards, apart-most}
-use Rattle.theory.specs.Lowerings.{lowerings-mono, lowerings-more, differing-none}
+use Rattle.theory.specs.Lowerings.{lowerings-mono}
 use Rattle.theory.specs.Monotone.{allNext-cong, someNext-cong, allNext-mono, someNext-mono, chain-size}
 
 -- ---- F and score read a table only at the pairs of states
@@ -192,21 +192,6 @@ module _ {A : Type 0} {O : Ops A} (L : Laws O) (M₁ M₂ : Model A) where
 
   pub T-at-most-size : (T : ℕ) → FirstUnchanged O M₁ M₂ T → T ≤ M₁ .states * M₂ .states * (O .size - 1) + 1
   T-at-most-size = T-within (F O M₁ M₂) (λ S U. F-mono) F-element (O .size) (chain-size L)
-
-  -- lowerings, by a test for equality (request 107): 'It is at most N1·N2·(h − 1)', and so with n for h; round T adds none
-  module _ (same : A → A → Bool) (alike : (a : A) → same a a ≡ true) where
-    pub lowerings-most : (h : ℕ) → LongestChain O h → (r : ℕ) → lowerings same (M₁ .states) (M₂ .states) (round O M₁ M₂) r ≤ M₁ .states * M₂ .states * (h - 1)
-    lowerings-most h c = rounds-lower (F O M₁ M₂) (λ S U. F-mono) F-element same alike h (c .longest)
-
-    pub lowerings-most-size : (r : ℕ) → lowerings same (M₁ .states) (M₂ .states) (round O M₁ M₂) r ≤ M₁ .states * M₂ .states * (O .size - 1)
-    lowerings-most-size = rounds-lower (F O M₁ M₂) (λ S U. F-mono) F-element same alike (O .size) (chain-size L)
-
-    pub lowerings-at-T : (T : ℕ) → FirstUnchanged O M₁ M₂ T → lowerings same (M₁ .states) (M₂ .states) (round O M₁ M₂) T ≡ lowerings same (M₁ .states) (M₂ .states) (round O M₁ M₂) (T - 1)
-    lowerings-at-T zero f = absurd (not-suc-le-zero (f .above0))
-    lowerings-at-T (suc t) f =
-        let e : suc t - 1 ≡ t = sub-one (suc t) in
-        let none : differing same (M₁ .states) (M₂ .states) (round O M₁ M₂ t) (round O M₁ M₂ (suc t)) ≡ 0 = differing-none same _ _ _ _ (λ q₁ l q₂ m. rw (rw e at (f .unchanged) q₁ l q₂ m) (alike _)) in
-        rw e (lowerings-more same _ _ (round O M₁ M₂) t ∙ rw (none, add-zero))
 
   -- worked example 6: 'One element, n = 1: T = 1', for any two models
   pub T-of-one-element : O .size ≡ 1 → FirstUnchanged O M₁ M₂ 1
