@@ -25,16 +25,28 @@ impl fmt::Display for State {
     }
 }
 
-/// What an accepted step answers.
+/// What an accepted step answers. Each carries the count of lowerings, as the standing has it after the step.
 #[derive(Clone, Copy, Debug, PartialEq, Eq, Hash)]
 pub enum StepAnswer {
     /// A row was worked, and the round has more of them.
-    Row,
-    /// The last row was worked; the new table is the whole one, and is that of this round.
-    Round(u32),
-    /// The last row was worked and this round equals the one before, or the desk was settled already. The number is T, the
-    /// least t above 0 for which round t equals round t − 1.
-    Settled(u32),
+    Row {
+        /// The lowerings of the whole rounds: as before the step, since the rows of an unfinished round do not count.
+        lowerings: u32,
+    },
+    /// The last row was worked; the new table is the whole one.
+    Round {
+        /// The round of that table.
+        round: u32,
+        /// The lowerings, with the entries in which this round differs from the one before.
+        lowerings: u32,
+    },
+    /// The last row was worked and this round equals the one before, or the desk was settled already.
+    Settled {
+        /// T, the least t above 0 for which round t equals round t − 1.
+        round: u32,
+        /// The lowerings of all rounds, at most N1·N2·(h − 1), h being the elements of the lattice's longest chain.
+        lowerings: u32,
+    },
 }
 
 /// What a desk holds.
@@ -76,11 +88,12 @@ pub(crate) fn opened(answer: raw::Answer) -> Result<(), Refusal> {
 }
 
 pub(crate) fn stepped(answer: raw::Answer) -> Result<StepAnswer, Refusal> {
+    let (round, lowerings) = (answer.value, answer.second);
     match answer.kind {
         0 => Err(Refusal::read(answer.number, answer.part)),
-        2 => Ok(StepAnswer::Row),
-        3 => Ok(StepAnswer::Round(answer.value)),
-        4 => Ok(StepAnswer::Settled(answer.value)),
+        2 => Ok(StepAnswer::Row { lowerings }),
+        3 => Ok(StepAnswer::Round { round, lowerings }),
+        4 => Ok(StepAnswer::Settled { round, lowerings }),
         _ => impossible("step", answer),
     }
 }
@@ -184,14 +197,26 @@ mod tests {
     #[test]
     fn answers_are_read() {
         assert_eq!(opened(given(1, 0)), Ok(()));
-        assert_eq!(stepped(given(2, 0)), Ok(StepAnswer::Row));
-        assert_eq!(stepped(given(3, 9)), Ok(StepAnswer::Round(9)));
-        assert_eq!(stepped(given(4, 9)), Ok(StepAnswer::Settled(9)));
         assert_eq!(element(given(5, 63)), Ok(Element(63)));
         assert_eq!(per_cent(given(6, 100)), Ok(100));
         assert_eq!(says(given(7, 0)), Ok(false));
         assert_eq!(says(given(7, 1)), Ok(true));
         assert_eq!(length(given(10, 16_618)), Ok(16_618));
+    }
+
+    /// The round and the lowerings by their fields, each with a number that the other has not.
+    #[test]
+    fn steps_are_read() {
+        let counted = |kind, value| raw::Answer {
+            second: 262_144,
+            ..given(kind, value)
+        };
+        let (round, lowerings) = (9, 262_144);
+        assert_eq!(stepped(counted(2, 0)), Ok(StepAnswer::Row { lowerings }));
+        let answered = StepAnswer::Round { round, lowerings };
+        assert_eq!(stepped(counted(3, 9)), Ok(answered));
+        let answered = StepAnswer::Settled { round, lowerings };
+        assert_eq!(stepped(counted(4, 9)), Ok(answered));
     }
 
     /// The facts by their fields: a number that is not 0, and each flag without the other.

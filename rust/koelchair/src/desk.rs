@@ -18,7 +18,7 @@ pub struct Desk {
 const KEPT: &str = "a desk that only its calls moved on keeps the rules of 11 and 12";
 
 impl Desk {
-    /// Takes a case and makes a desk of it: unsettled, at round 0 and next row 0, its table all top.
+    /// Takes a case and makes a desk of it: unsettled, at round 0 and next row 0, without lowerings, its table all top.
     ///
     /// Refused with 1 to 10.
     pub fn open(case: &[u8]) -> Result<Desk, Refusal> {
@@ -39,8 +39,9 @@ impl Desk {
         self.lent_mut().open(case)
     }
 
-    /// Works the next row of the next round in the table that is not shown; after the last row the new table is the shown one.
-    /// A settled desk answers [`StepAnswer::Settled`] again and is left unchanged.
+    /// Works the next row of the next round in the table that is not shown; after the last row the new table is the shown one, and
+    /// the entries in which it differs from the one before count as lowerings. A settled desk answers [`StepAnswer::Settled`]
+    /// again and is left unchanged.
     pub fn step(&mut self) -> StepAnswer {
         self.lent_mut().step().expect(KEPT)
     }
@@ -54,8 +55,8 @@ impl Desk {
     /// Works rounds until the desk is settled, and gives T, the least t above 0 for which round t equals round t − 1.
     pub fn settle(&mut self) -> u32 {
         loop {
-            if let StepAnswer::Settled(rounds) = self.finish_round() {
-                return rounds;
+            if let StepAnswer::Settled { round, .. } = self.finish_round() {
+                return round;
             }
         }
     }

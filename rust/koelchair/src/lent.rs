@@ -22,6 +22,8 @@ pub struct Standing {
     pub settled: bool,
     /// Whether the second table is the whole one; else the first is.
     pub second_whole: bool,
+    /// The lowerings: the entries that differ from the round before, summed over the whole rounds since open.
+    pub lowerings: u32,
 }
 
 /// A desk lent for the calls that read it: a standing, a store and two tables, each of any content and length.
@@ -173,8 +175,8 @@ pub struct DeskMut<'a> {
 }
 
 impl DeskMut<'_> {
-    /// Takes a case and makes the desk anew: unsettled, at round 0 and next row 0, the first table whole, the first N1·N2 bytes
-    /// of both tables top. The former desk, of whatever content, is replaced.
+    /// Takes a case and makes the desk anew: unsettled, at round 0 and next row 0, without lowerings, the first table whole, the
+    /// first N1·N2 bytes of both tables top. The former desk, of whatever content, is replaced.
     ///
     /// Refused with 11, or with 1 to 10 for the case; then nothing is altered.
     pub fn open(&mut self, case: &[u8]) -> Result<(), Refusal> {
@@ -184,8 +186,9 @@ impl DeskMut<'_> {
     }
 
     /// Works the next row of the next round, for all states of model 2, in the table that is not whole, and writes nothing else
-    /// in either table. After the last row the new table becomes the whole one, the round goes up by 1 and the next row is 0.
-    /// A settled desk answers [`StepAnswer::Settled`] again and is left unchanged.
+    /// in either table. After the last row the new table becomes the whole one, the round goes up by 1, the next row is 0, and the
+    /// lowerings go up by the number of the first N1·N2 bytes in which the two tables then differ. A settled desk answers
+    /// [`StepAnswer::Settled`] again and is left unchanged.
     ///
     /// Refused with 11 or 12; then nothing is altered.
     pub fn step(&mut self) -> Result<StepAnswer, Refusal> {

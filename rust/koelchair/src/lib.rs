@@ -14,13 +14,13 @@
 //!     2, 0, // formula 0
 //! ];
 //! let mut desk = Desk::open(&case)?;
-//! let rounds = loop {
-//!     if let StepAnswer::Settled(rounds) = desk.step() {
-//!         break rounds;
+//! let (rounds, lowerings) = loop {
+//!     if let StepAnswer::Settled { round, lowerings } = desk.step() {
+//!         break (round, lowerings);
 //!     }
 //! };
-//! println!("settled after {rounds} rounds");
-//! assert_eq!(rounds, 2);
+//! println!("settled after {rounds} rounds, in which {lowerings} entries were lowered");
+//! assert_eq!((rounds, lowerings), (2, 1));
 //! assert_eq!(desk.show(), [1]);
 //! assert_eq!(desk.score(), Element(1));
 //! let whole = desk.whole(0, 1)?;

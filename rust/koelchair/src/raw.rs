@@ -7,7 +7,7 @@ use crate::{DeskMut, DeskRef, Standing, LISTING_LENGTH};
 
 /// An answer in numbers: `kind` says which, and the fields that this kind does not use are 0 or false. Kind 9, that of value and whole,
 /// has in `byte` the deepest nesting of AX, in `flag1` whether a fixpoint occurs, in `flag2` whether EX occurs. Kind 10, that of write, has
-/// in `value` the length. No kind uses `second` yet.
+/// in `value` the length. Kinds 2 to 4, those of a step, have in `second` the count of lowerings.
 #[repr(C)]
 #[derive(Clone, Copy, Debug, Default)]
 pub struct Answer {

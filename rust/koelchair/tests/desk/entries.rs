@@ -83,7 +83,7 @@ fn the_next_round_has_the_entries() {
         let mut desk = Desk::open(&case).unwrap();
         loop {
             let before = entries(&desk);
-            if let StepAnswer::Row = desk.step() {
+            if let StepAnswer::Row { .. } = desk.step() {
                 assert_eq!(entries(&desk), before);
             }
             // A round of one row has ended with the step.

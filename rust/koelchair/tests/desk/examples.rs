@@ -17,7 +17,7 @@ fn steps(case: &[u8]) -> Vec<(StepAnswer, Vec<u8>)> {
         let answer = desk.step();
         assert_eq!(lent.lent_mut().step(), Ok(answer));
         seen.push((answer, desk.show().to_vec()));
-        if let StepAnswer::Settled(_) = answer {
+        if let StepAnswer::Settled { .. } = answer {
             break;
         }
     }
@@ -26,6 +26,21 @@ fn steps(case: &[u8]) -> Vec<(StepAnswer, Vec<u8>)> {
     assert_eq!(desk.step(), seen[seen.len() - 1].0);
     assert_eq!(desk.standing(), standing);
     seen
+}
+
+/// The answer of a row that ends no round.
+fn row(lowerings: u32) -> StepAnswer {
+    StepAnswer::Row { lowerings }
+}
+
+/// The answer at a round's end.
+fn round(round: u32, lowerings: u32) -> StepAnswer {
+    StepAnswer::Round { round, lowerings }
+}
+
+/// The answer of a settled desk.
+fn settled(round: u32, lowerings: u32) -> StepAnswer {
+    StepAnswer::Settled { round, lowerings }
 }
 
 /// Bytes past N1·N2 of a table and past 24,576 of the store are as they were.
@@ -53,13 +68,7 @@ fn formula_value(element: u8, nesting: u8) -> FormulaValue {
 fn example_1() {
     let case = cases::example_1();
     let seen = steps(&case);
-    assert_eq!(
-        seen,
-        [
-            (StepAnswer::Round(1), vec![1]),
-            (StepAnswer::Settled(2), vec![1])
-        ]
-    );
+    assert_eq!(seen, [(round(1, 1), vec![1]), (settled(2, 1), vec![1])]);
     let mut desk = Desk::open(&case).unwrap();
     assert_eq!(desk.show(), [2]);
     assert_eq!(desk.settle(), 2);
@@ -117,14 +126,11 @@ fn judge_of_tables_lowered_at_some_entries() {
 fn example_2() {
     assert_eq!(
         steps(&cases::example_2()),
-        [
-            (StepAnswer::Round(1), vec![0]),
-            (StepAnswer::Settled(2), vec![0])
-        ]
+        [(round(1, 1), vec![0]), (settled(2, 1), vec![0])]
     );
     assert_eq!(
         steps(&cases::example_2_exchanged()),
-        [(StepAnswer::Settled(1), vec![1])]
+        [(settled(1, 0), vec![1])]
     );
 }
 
@@ -135,12 +141,12 @@ fn example_4() {
     assert_eq!(
         steps(&case),
         [
-            (StepAnswer::Row, round_0),
-            (StepAnswer::Round(1), round_1.clone()),
-            (StepAnswer::Row, round_1),
-            (StepAnswer::Round(2), round_2.clone()),
-            (StepAnswer::Row, round_2.clone()),
-            (StepAnswer::Settled(3), round_2),
+            (row(0), round_0),
+            (round(1, 3), round_1.clone()),
+            (row(3), round_1),
+            (round(2, 4), round_2.clone()),
+            (row(4), round_2.clone()),
+            (settled(3, 4), round_2),
         ]
     );
     let desk = Desk::open(&case).unwrap();
@@ -221,7 +227,7 @@ fn the_deepest_nesting() {
 #[test]
 fn example_6() {
     let one = cases::case(&[&cases::L1, &[1, 0, 0, 0], &[1, 0, 0, 0]]);
-    assert_eq!(steps(&one), [(StepAnswer::Settled(1), vec![0])]);
+    assert_eq!(steps(&one), [(settled(1, 0), vec![0])]);
     for (ones, per_cent) in [0, 12, 25, 38, 50, 62, 75, 88, 100].into_iter().enumerate() {
         let mut desk = Desk::open(&cases::eighths(ones)).unwrap();
         desk.settle();

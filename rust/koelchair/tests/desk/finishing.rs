@@ -1,13 +1,13 @@
 //! The rest of a round in one call, against as many steps.
 
 use crate::cases::{self, case, Lent, L2};
-use koelchair::{Refusal, StepAnswer, TABLE_LENGTH};
+use koelchair::{Refusal, Standing, StepAnswer, TABLE_LENGTH};
 
 /// Finishes the round of one desk and steps another to the same end; they must answer and be the same.
 fn assert_steps(desk: &mut Lent) -> Result<StepAnswer, Refusal> {
     let mut stepped = desk.clone();
     let mut last = stepped.lent_mut().step();
-    while last == Ok(StepAnswer::Row) {
+    while matches!(last, Ok(StepAnswer::Row { .. })) {
         last = stepped.lent_mut().step();
     }
     assert_eq!(desk.lent_mut().finish_round(), last);
@@ -42,8 +42,11 @@ fn rounds_from_the_opening_on() {
             assert!(assert_steps(&mut desk).is_ok());
         }
         let settled = desk.clone();
-        let rounds = desk.standing.round;
-        assert_eq!(assert_steps(&mut desk), Ok(StepAnswer::Settled(rounds)));
+        let Standing {
+            round, lowerings, ..
+        } = desk.standing;
+        let answered = StepAnswer::Settled { round, lowerings };
+        assert_eq!(assert_steps(&mut desk), Ok(answered));
         assert_eq!(desk, settled);
     }
 }
@@ -76,7 +79,16 @@ fn a_desk_altered_within_the_rules() {
         desk.first[i] = (i % 2) as u8;
         desk.second[i] = (i % 3 % 2) as u8;
     }
-    assert_eq!(assert_steps(&mut desk), Ok(StepAnswer::Round(1)));
+    let answered = assert_steps(&mut desk);
+    let entries = desk.first.iter().zip(&desk.second).take(40 * 33);
+    let lowerings = entries.filter(|(new, old)| new != old).count() as u32;
+    assert_eq!(
+        answered,
+        Ok(StepAnswer::Round {
+            round: 1,
+            lowerings
+        })
+    );
 }
 
 #[test]
