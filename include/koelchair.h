@@ -56,9 +56,9 @@ extern "C" {
 
 #define KOELCHAIR_REFUSED 0       /* number and part say why */
 #define KOELCHAIR_OPENED 1
-#define KOELCHAIR_ROW 2
-#define KOELCHAIR_ROUND 3         /* value is the round */
-#define KOELCHAIR_SETTLED 4       /* value is T, the first round that equals the one before */
+#define KOELCHAIR_ROW 2           /* second is the count of lowerings */
+#define KOELCHAIR_ROUND 3         /* value is the round, second the count of lowerings */
+#define KOELCHAIR_SETTLED 4       /* value is T, the first round that equals the one before; second is the count of lowerings */
 #define KOELCHAIR_ELEMENT 5       /* value is the element */
 #define KOELCHAIR_PER_CENT 6      /* value is 0 to 100 */
 #define KOELCHAIR_SAYS 7          /* value is 1 for yes, 0 for no */
@@ -126,7 +126,9 @@ static inline const char *koelchair_refusal_words(uint8_t number)
 /* ---- what the calls take and give */
 
 /* Where a desk stands. states1 and states2 are the states of the models, N1 and N2; row is the next row; changed says whether this
-   round has changed anything yet; second_whole says that the second table is the whole one, else the first is. */
+   round has changed anything yet; second_whole says that the second table is the whole one, else the first is. lowerings counts the
+   entries that differ from the round before, summed over the whole rounds since the desk was opened; where nothing but the calls wrote
+   the desk it is at most N1 times N2 times h - 1, h being the elements of the lattice's longest chain. */
 typedef struct koelchair_standing {
     uint8_t states1;
     uint8_t states2;
@@ -135,12 +137,13 @@ typedef struct koelchair_standing {
     bool changed;
     bool settled;
     bool second_whole;
+    uint32_t lowerings;
 } koelchair_standing;
 
-/* number and part are those of a refusal, value is as the kind says. byte, flag1 and flag2 are used by KOELCHAIR_FORMULA_VALUE alone,
-   and are facts of the formula as it is written: byte is the deepest nesting of AX, 0 to 254, flag1 says that a fixpoint occurs, flag2
-   that EX occurs. A field that a kind does not name is 0 or false. second is 0 in every answer of today; it is there so that a kind to
-   come does not alter the layout. */
+/* number and part are those of a refusal, value is as the kind says. second is used by KOELCHAIR_ROW, KOELCHAIR_ROUND and
+   KOELCHAIR_SETTLED alone, and is the lowerings of the standing after the step. byte, flag1 and flag2 are used by
+   KOELCHAIR_FORMULA_VALUE alone, and are facts of the formula as it is written: byte is the deepest nesting of AX, 0 to 254, flag1 says
+   that a fixpoint occurs, flag2 that EX occurs. A field that a kind does not name is 0 or false. */
 typedef struct koelchair_answer {
     uint8_t kind;
     uint8_t number;
@@ -188,7 +191,8 @@ typedef struct koelchair_worked_entry {
 /* ---- the calls that move the desk on */
 
 /* Takes a case and makes the desk anew, whatever the desk was. Reads the case; writes it without gaps at the store's front and the
-   lattice's top into the first N1 times N2 bytes of both tables. Answers KOELCHAIR_OPENED, or KOELCHAIR_REFUSED with 11 or 1 to 10. */
+   lattice's top into the first N1 times N2 bytes of both tables; the standing then has no lowerings. Answers KOELCHAIR_OPENED, or
+   KOELCHAIR_REFUSED with 11 or 1 to 10. */
 koelchair_moved koelchair_open(koelchair_standing standing,
                                const uint8_t *case_bytes, size_t case_length,
                                uint8_t *store, size_t store_length,
@@ -196,8 +200,9 @@ koelchair_moved koelchair_open(koelchair_standing standing,
                                uint8_t *second, size_t second_length);
 
 /* Works the next row of the next round. Reads the store and both tables; writes that row of the table that is not whole, nothing else.
-   Answers KOELCHAIR_ROW, after the last row KOELCHAIR_ROUND or KOELCHAIR_SETTLED, or KOELCHAIR_REFUSED with 11 or 12. A settled desk
-   answers KOELCHAIR_SETTLED again and is not altered. */
+   Answers KOELCHAIR_ROW, after the last row KOELCHAIR_ROUND or KOELCHAIR_SETTLED, or KOELCHAIR_REFUSED with 11 or 12. At the last row
+   the standing's lowerings go up by the number of the first N1 times N2 bytes in which the two tables then differ; rows of an unfinished
+   round do not count. A settled desk answers KOELCHAIR_SETTLED again and is not altered. */
 koelchair_moved koelchair_step(koelchair_standing standing,
                                const uint8_t *store, size_t store_length,
                                uint8_t *first, size_t first_length,

@@ -1,5 +1,5 @@
-//! The refusals have the same names and numbers in Rattle (crates/refusal), in Rust and in C (include/koelchair.h). The header has
-//! also the words of refusals, the sizes and the version of this crate.
+//! The refusals have the same names and numbers in Rattle (crates/refusal), in Rust and in C (include/koelchair.h), and the structs that
+//! the calls take and give the same fields. The header has also the words of refusals, the sizes and the version of this crate.
 
 use koelchair::{NO_PART, REFUSALS};
 use std::collections::BTreeMap;
@@ -11,12 +11,12 @@ fn text(path: &str) -> String {
     std::fs::read_to_string(root.join(path)).unwrap_or_else(|error| panic!("{path}: {error}"))
 }
 
-/// The lines of a text from one that begins so up to one that is `}`.
+/// The lines of a text from one that begins so up to one that begins with `}`.
 fn block<'a>(text: &'a str, begins: &'a str) -> impl Iterator<Item = &'a str> {
     text.lines()
         .skip_while(move |line| !line.starts_with(begins))
         .skip(1)
-        .take_while(|line| *line != "}")
+        .take_while(|line| !line.starts_with('}'))
         .map(str::trim)
 }
 
@@ -136,4 +136,61 @@ fn the_header_has_the_version() {
     assert_eq!(defined["VERSION"], format!("{version:?}"));
     let parts = ["MAJOR", "MINOR", "PATCH"].map(|part| &*defined[&format!("VERSION_{part}")]);
     assert_eq!(parts.join("."), version);
+}
+
+/// The structs of the calls: the name here and in Rattle, the file here, the file in Rattle, and the name in the header.
+const STRUCTS: [[&str; 4]; 6] = [
+    ["Standing", "lent", "desk_check", "koelchair_standing"],
+    ["Answer", "raw", "exports", "koelchair_answer"],
+    ["Moved", "raw", "exports", "koelchair_moved"],
+    ["Shown", "raw", "exports", "koelchair_shown"],
+    ["DeskSizes", "raw", "exports", "koelchair_desk_sizes"],
+    ["WorkedEntry", "raw", "exports", "koelchair_worked_entry"],
+];
+
+/// The fields of a struct of Rust or Rattle in their order, each as `name: type`.
+fn fields(path: &str, name: &str) -> Vec<String> {
+    let text = text(path);
+    let fields = block(&text, &format!("pub struct {name} {{"))
+        .filter_map(|line| line.strip_prefix("pub "))
+        .map(|field| field.trim_end_matches(',').to_string())
+        .collect::<Vec<_>>();
+    assert!(!fields.is_empty(), "{path} has no {name}");
+    fields
+}
+
+/// The fields here, which the archive is called with.
+fn own_fields(name: &str, file: &str) -> Vec<String> {
+    fields(&format!("rust/koelchair/src/{file}.rs"), name)
+}
+
+#[test]
+fn rattle_has_the_fields_of_the_structs() {
+    for [name, file, krate, _] in STRUCTS {
+        let of_rattle = fields(&format!("crates/{krate}/src/lib.rt"), name);
+        assert_eq!(of_rattle, own_fields(name, file), "{name}");
+    }
+}
+
+/// A type of C as it is called here.
+fn own_type(of_c: &str) -> &str {
+    let named = STRUCTS.iter().find(|[_, _, _, c]| *c == of_c);
+    match of_c {
+        "uint8_t" => "u8",
+        "uint32_t" => "u32",
+        "size_t" => "usize",
+        _ => named.map_or(of_c, |[name, ..]| name),
+    }
+}
+
+#[test]
+fn the_header_has_the_fields_of_the_structs() {
+    let header = text("include/koelchair.h");
+    for [name, file, _, of_c] in STRUCTS {
+        let declared: Vec<String> = block(&header, &format!("typedef struct {of_c} {{"))
+            .filter_map(|line| line.trim_end_matches(';').split_once(' '))
+            .map(|(of_c, field)| format!("{field}: {}", own_type(of_c)))
+            .collect();
+        assert_eq!(declared, own_fields(name, file), "{of_c}");
+    }
 }

@@ -4,6 +4,7 @@ mod cases;
 mod entries;
 mod examples;
 mod finishing;
+mod lowerings;
 mod refusals;
 mod sizes;
 mod writing;

@@ -40,6 +40,7 @@ fn a_refused_case_alters_nothing() {
     for (bytes, refusal) in refused_cases() {
         assert_eq!(Desk::open(&bytes).unwrap_err(), refusal);
         let mut lent = Lent::opened(&cases::example_4());
+        lent.lent_mut().finish_round().unwrap();
         lent.lent_mut().step().unwrap();
         let before = lent.clone();
         assert_eq!(lent.lent_mut().open(&bytes), Err(refusal));
@@ -120,11 +121,14 @@ fn a_spoiled_desk() {
     altered(|desk| desk.standing.changed = true);
     altered(|desk| desk.standing.round = 5);
     altered(|desk| desk.standing.settled = true);
+    altered(|desk| desk.standing.lowerings = 5);
+    altered(|desk| desk.standing.lowerings = u32::MAX);
     altered(|desk| desk.store[0] = 2);
     altered(|desk| desk.first[3] = 2);
     altered(|desk| desk.second[3] = 2);
     let mut within = whole.clone();
     within.standing.round = 4;
+    within.standing.lowerings = 4;
     within.first[4] = 2;
     assert_eq!(within.lent().show(), [1; 4]);
 }
