@@ -1,11 +1,14 @@
-//! The calls on a desk, a standing, a store and two tables, the work on one entry, and F of a table. Rests on `case`, `formula`, `facts` and `rounds`.
+//! The calls on a desk, a standing, a store and two tables, the work on one entry, and F of a table. Rests on `case`, `formula`, `facts`, `rounds`,
+//! `reply` and `standing`.
 
 use crate::case::{self, Content, Refusal};
-use crate::facts::{self, Facts};
+use crate::facts;
 use crate::formula::{Formula, Valuer};
 use crate::lattice::Element;
 use crate::model::{Model, State};
+use crate::reply::Reply;
 use crate::rounds::{self, Entry, Table};
+use crate::standing::Standing;
 
 /// "a store of 24,576 bytes"; a longer one is accepted, and bytes past these are neither read nor written.
 pub const STORE_LENGTH: usize = 24_576;
@@ -13,76 +16,13 @@ pub const STORE_LENGTH: usize = 24_576;
 /// "two tables of 4,096"; longer ones are accepted.
 pub const TABLE_LENGTH: usize = 4_096;
 
-/// "a standing (sizes, round, next row, whether this round has changed anything yet, settled, which table is whole)".
-#[derive(Clone, Copy, Debug, Default, PartialEq, Eq)]
-pub struct Standing {
-    /// N1, the states of model 1.
-    pub states1: u8,
-    /// N2, the states of model 2.
-    pub states2: u8,
-    /// The round of the whole table.
-    pub round: u32,
-    /// The next row to work.
-    pub row: u8,
-    /// Whether the round being worked has changed anything yet.
-    pub changed: bool,
-    /// Whether the last round equalled the one before.
-    pub settled: bool,
-    /// Whether the second table is the whole one.
-    pub second_whole: bool,
-}
-
-/// The answer of a call, or of [`entry`].
-#[derive(Clone, Debug, PartialEq, Eq)]
-pub enum Reply {
-    /// The call was refused.
-    Refused {
-        /// The number, 1 to 14.
-        number: u8,
-        /// The part, or 255.
-        part: u8,
-    },
-    /// A desk was opened.
-    Opened,
-    /// A row was worked that is not the last of its round.
-    Row,
-    /// The last row of this round was worked, and the round differs from the one before.
-    Round(u32),
-    /// The desk is settled at this round.
-    Settled(u32),
-    /// The first N1·N2 bytes of the whole table; none where show is refused.
-    Shown(Vec<u8>),
-    /// The score, an element.
-    Element(u8),
-    /// A formula's value, and the facts of the formula.
-    FormulaValue {
-        /// The element.
-        element: u8,
-        /// The facts.
-        facts: Facts,
-    },
-    /// A share in per cent.
-    PerCent(u8),
-    /// Whether judge's table is sound.
-    Says(bool),
-    /// How many bytes were written.
-    Length(usize),
-    /// An entry of the next round.
-    WorkedEntry {
-        /// The element.
-        element: u8,
-        /// How many pairs were looked at.
-        pairs: u32,
-    },
-}
-
 /// The reply to a call that may have been refused.
 fn reply(result: Result<Reply, Refusal>) -> Reply {
     result.unwrap_or_else(|Refusal { number, part }| Reply::Refused { number, part })
 }
 
 /// "open takes a case, makes an unsettled desk at round 0 and next row 0, the first table whole, the first N1·N2 bytes of both tables
-/// top, and replaces the former desk. It answers Opened."
+/// top, and replaces the former desk. It answers Opened." Request 107: "Open sets 0", the count of lowerings.
 pub fn open(
     standing: &mut Standing,
     case: &[u8],
@@ -118,36 +58,67 @@ pub fn step(standing: &mut Standing, store: &[u8], first: &mut [u8], second: &mu
         Err(refusal) => return reply(Err(refusal)),
     };
     if standing.settled {
-        return Reply::Settled(standing.round);
+        return settled(standing);
     }
     let row = rounds::row(&desk.content, &desk.shown, desk.next);
     let changed = standing.changed || row != desk.shown[desk.next.place()];
-    let other = if standing.second_whole { first } else { second };
+    let other = if standing.second_whole {
+        &mut *first
+    } else {
+        &mut *second
+    };
     let start = desk.next.place() * row.len();
     for (byte, element) in other[start..].iter_mut().zip(row) {
         *byte = element.byte();
     }
-    move_on(standing, changed)
+    let entries = rounds::entries(&desk.content);
+    move_on(
+        standing,
+        changed,
+        differing(&first[..entries], &second[..entries]),
+    )
+}
+
+/// How many entries of two tables differ.
+fn differing(table: &[u8], other: &[u8]) -> u32 {
+    let both = table.iter().zip(other);
+    both.map(|(entry, other)| u32::from(entry != other)).sum()
+}
+
+/// The answer of a settled desk.
+fn settled(standing: &Standing) -> Reply {
+    Reply::Settled {
+        round: standing.round,
+        lowerings: standing.lowerings,
+    }
 }
 
 /// The standing after a row was worked, and the answer: "It answers Row; after the last row the new table becomes the whole one, the
-/// round goes up by 1, next row is 0, and the answer is Round(r), or Settled(T) when that round equals the one before".
-fn move_on(standing: &mut Standing, changed: bool) -> Reply {
+/// round goes up by 1, next row is 0, and the answer is Round(r), or Settled(T) when that round equals the one before". Request 107: "Rows
+/// of an unfinished round don't count: at a round's last row the two tables are compared", and so many of their entries differ; "Row, Round
+/// and Settled carry it."
+fn move_on(standing: &mut Standing, changed: bool, differing: u32) -> Reply {
     let row = standing.row.saturating_add(1);
     if row < standing.states1 {
         standing.row = row;
         standing.changed = changed;
-        return Reply::Row;
+        return Reply::Row {
+            lowerings: standing.lowerings,
+        };
     }
     standing.row = 0;
     standing.changed = false;
     standing.second_whole = !standing.second_whole;
     standing.round = standing.round.saturating_add(1);
     standing.settled = !changed;
+    standing.lowerings += differing;
     if changed {
-        Reply::Round(standing.round)
+        Reply::Round {
+            round: standing.round,
+            lowerings: standing.lowerings,
+        }
     } else {
-        Reply::Settled(standing.round)
+        settled(standing)
     }
 }
 
@@ -351,7 +322,7 @@ fn intact(standing: &Standing, store: &[u8], first: &[u8], second: &[u8]) -> Opt
     }
     // "Next row is below N1".
     let next = content.model1.state(standing.row)?;
-    if !counts_hold(standing, &content) {
+    if !standing.is_within_limits(&content) {
         return None;
     }
     // "The first N1·N2 bytes of both tables are below n."
@@ -364,19 +335,4 @@ fn intact(standing: &Standing, store: &[u8], first: &[u8], second: &[u8]) -> Opt
         shown,
         next,
     })
-}
-
-/// "at next row 0 nothing has changed yet. Unsettled, the round is at most N1·N2·(n − 1); settled, it is 1 to N1·N2·(n − 1) + 1 and next
-/// row is 0."
-fn counts_hold(standing: &Standing, content: &Content) -> bool {
-    let most = (rounds::entries(content) * (content.lattice.size() - 1)) as u64;
-    let round = u64::from(standing.round);
-    if standing.row == 0 && standing.changed {
-        return false;
-    }
-    if standing.settled {
-        (1..=most + 1).contains(&round) && standing.row == 0
-    } else {
-        round <= most
-    }
 }

@@ -5,8 +5,8 @@
 //! fixpoints by iteration until nothing changes. No call panics, whatever its arguments hold.
 //!
 //! Modules: `lattice`, `model`, `formula` (the parts of a case and their values), `facts` (of a formula as it is written), `case`
-//! (directory, refusals 1 to 10, layout of the store), `rounds` (F and what is read off a table), `desk` (the calls, the work
-//! on one entry, and F of a table), `report` (the listing).
+//! (directory, refusals 1 to 10, layout of the store), `rounds` (F and what is read off a table), `standing` (what it holds, and its
+//! limits), `reply` (the answers), `desk` (the calls, the work on one entry, and F of a table), `report` (the listing).
 
 #![forbid(unsafe_code)]
 #![deny(missing_docs)]
@@ -17,12 +17,16 @@ mod facts;
 mod formula;
 mod lattice;
 mod model;
+mod reply;
 mod report;
 mod rounds;
+mod standing;
 
 pub use desk::{
-    entry, f_of, judge, open, score, share, show, step, value, whole, write, Reply, Standing,
-    STORE_LENGTH, TABLE_LENGTH,
+    entry, f_of, judge, open, score, share, show, step, value, whole, write, STORE_LENGTH,
+    TABLE_LENGTH,
 };
 pub use facts::Facts;
+pub use reply::Reply;
 pub use report::report;
+pub use standing::Standing;

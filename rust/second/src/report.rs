@@ -1,6 +1,8 @@
 //! The listing that the program report prints. Rests on the calls of `desk` alone.
 
-use crate::desk::{self, Reply, Standing, STORE_LENGTH, TABLE_LENGTH};
+use crate::desk::{self, STORE_LENGTH, TABLE_LENGTH};
+use crate::reply::Reply;
+use crate::standing::Standing;
 
 /// A desk of its own, for one case.
 struct Desk {
@@ -59,8 +61,9 @@ impl Desk {
                 first,
                 second,
             } = self;
-            if let Reply::Settled(rounds) = accepted(desk::step(standing, store, first, second))? {
-                return Ok(rounds);
+            let reply = accepted(desk::step(standing, store, first, second))?;
+            if let Reply::Settled { round, .. } = reply {
+                return Ok(round);
             }
         }
     }

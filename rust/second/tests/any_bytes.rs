@@ -40,13 +40,14 @@ fn lay(desk: &mut Desk, parts: &[Vec<u8>], numbers: &mut Numbers) {
 fn alter(desk: &mut Desk, length: usize, numbers: &mut Numbers) {
     let byte = odd(numbers);
     let entry = numbers.below(10) as usize;
-    match numbers.below(10) {
+    match numbers.below(11) {
         0..=3 => desk.store[numbers.below(length as u64) as usize] = byte,
         4 => desk.first[entry] = byte,
         5 => desk.second[entry] = byte,
         6 => desk.standing.row = byte % 4,
         7 => desk.standing.round = numbers.below(1 << 32) as u32 >> numbers.below(32),
         8 => desk.standing.settled ^= true,
+        9 => desk.standing.lowerings = numbers.below(1 << 32) as u32 >> numbers.below(32),
         _ => desk.standing.changed ^= true,
     }
 }

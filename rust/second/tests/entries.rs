@@ -2,7 +2,7 @@
 
 mod common;
 
-use common::{Desk, L2, L3};
+use common::{round, row, Desk, L2, L3};
 use second::Reply;
 
 fn worked(element: u8, pairs: u32) -> Reply {
@@ -28,9 +28,9 @@ fn propositions_come_first() {
     assert_eq!(desk.entry(1, 0), worked(0, 0));
     assert_eq!(desk.entry(1, 1), worked(0, 0));
     // A row of the next round alters nothing of that, the last row does.
-    assert_eq!(desk.step(), Reply::Row);
+    assert_eq!(desk.step(), row(0));
     assert_eq!(desk.entry(0, 0), worked(1, 4));
-    assert_eq!(desk.step(), Reply::Round(1));
+    assert_eq!(desk.step(), round(1, 3));
     assert_eq!(desk.show(), [1, 0, 0, 0]);
     assert_eq!(desk.entry(0, 0), worked(0, 4));
 }

@@ -2,7 +2,8 @@
 
 mod common;
 
-use common::{case, chain, formula_value, lattice, Desk, L2, L3, LOOP, STILL};
+use common::{case, chain, formula_value, lattice, round, row, settled};
+use common::{Desk, L2, L3, LOOP, STILL};
 use second::{report, Reply, Standing};
 
 /// The bytes of the report example.
@@ -23,23 +24,23 @@ fn example_1_one_state_with_a_middle_proposition() {
     let model: &[u8] = &[1, 1, 2, 1, 0];
     let mut desk = Desk::opened(&[L3, model, model]);
     assert_eq!(desk.show(), [2]);
-    assert_eq!(desk.step(), Reply::Round(1));
+    assert_eq!(desk.step(), round(1, 1));
     assert_eq!(desk.show(), [1]);
-    assert_eq!(desk.step(), Reply::Settled(2));
+    assert_eq!(desk.step(), settled(2, 1));
     assert_eq!(desk.show(), [1]);
-    let settled = desk.clone();
-    assert_eq!(desk.step(), Reply::Settled(2));
-    assert_eq!(desk, settled);
+    let before = desk.clone();
+    assert_eq!(desk.step(), settled(2, 1));
+    assert_eq!(desk, before);
 }
 
 #[test]
 fn example_2_a_loop_and_no_transition() {
     let mut desk = Desk::opened(&[L2, LOOP, STILL]);
-    assert_eq!(desk.step(), Reply::Round(1));
-    assert_eq!(desk.step(), Reply::Settled(2));
+    assert_eq!(desk.step(), round(1, 1));
+    assert_eq!(desk.step(), settled(2, 1));
     assert_eq!(desk.show(), [0]);
     let mut exchanged = Desk::opened(&[L2, STILL, LOOP]);
-    assert_eq!(exchanged.step(), Reply::Settled(1));
+    assert_eq!(exchanged.step(), settled(1, 0));
     assert_eq!(exchanged.show(), [1]);
 }
 
@@ -55,7 +56,7 @@ fn example_4_three_rounds() {
     let model1: &[u8] = &[2, 1, 1, 0, 0, 1, 0, 1, 0, 0];
     let model2: &[u8] = &[2, 1, 1, 0, 0, 0, 0, 1, 0, 0];
     let mut desk = Desk::opened(&[L2, model1, model2, &[7, 3, 0]]);
-    assert_eq!(desk.step(), Reply::Row);
+    assert_eq!(desk.step(), row(0));
     // The rows worked so far are not shown.
     assert_eq!(desk.show(), [1, 1, 1, 1]);
     let half = Standing {
@@ -66,16 +67,16 @@ fn example_4_three_rounds() {
         ..Standing::default()
     };
     assert_eq!(desk.standing, half);
-    assert_eq!(desk.step(), Reply::Round(1));
+    assert_eq!(desk.step(), round(1, 3));
     assert_eq!(desk.show(), [1, 0, 0, 0]);
     let one_ax = (1, false, false);
     assert_eq!(desk.value(0, 2, 0), formula_value(1, one_ax));
     assert_eq!(desk.value(0, 1, 0), formula_value(0, one_ax));
-    assert_eq!(desk.step(), Reply::Row);
-    assert_eq!(desk.step(), Reply::Round(2));
+    assert_eq!(desk.step(), row(3));
+    assert_eq!(desk.step(), round(2, 4));
     assert_eq!(desk.show(), [0, 0, 0, 0]);
-    assert_eq!(desk.step(), Reply::Row);
-    assert_eq!(desk.step(), Reply::Settled(3));
+    assert_eq!(desk.step(), row(4));
+    assert_eq!(desk.step(), settled(3, 4));
     assert_eq!(desk.show(), [0, 0, 0, 0]);
 }
 
@@ -93,7 +94,7 @@ fn example_5_subsets_of_three() {
 #[test]
 fn example_6_one_element() {
     let mut desk = Desk::opened(&[&[1, 0, 1], &[1, 0, 0, 0], &[1, 0, 0, 0]]);
-    assert_eq!(desk.step(), Reply::Settled(1));
+    assert_eq!(desk.step(), settled(1, 0));
     assert_eq!(desk.show(), [0]);
     assert_eq!(desk.share(0), Reply::PerCent(100));
 }
@@ -224,7 +225,7 @@ fn step_writes_one_row_of_the_table_that_is_not_whole() {
         assert_eq!(kept.0, kept.1);
         assert_eq!(worked.0[..row], worked.1[..row]);
         assert_eq!(worked.0[row + 2..], worked.1[row + 2..]);
-        if answer == Reply::Settled(3) {
+        if answer == settled(3, 4) {
             break;
         }
     }
@@ -237,12 +238,12 @@ fn a_round_with_an_early_change_does_not_settle_by_its_last_row() {
     let model1: &[u8] = &[2, 1, 1, 1, 1, 0, 0, 0, 0, 0];
     let model2: &[u8] = &[1, 1, 1, 0, 0];
     let mut desk = Desk::opened(&[L2, model1, model2]);
-    assert_eq!(desk.step(), Reply::Row);
+    assert_eq!(desk.step(), row(0));
     assert!(desk.standing.changed);
-    assert_eq!(desk.step(), Reply::Round(1));
-    assert_eq!(desk.step(), Reply::Row);
+    assert_eq!(desk.step(), round(1, 1));
+    assert_eq!(desk.step(), row(1));
     assert!(!desk.standing.changed);
-    assert_eq!(desk.step(), Reply::Settled(2));
+    assert_eq!(desk.step(), settled(2, 1));
     assert_eq!(desk.show(), [0, 1]);
 }
 

@@ -2,7 +2,7 @@
 
 mod common;
 
-use common::{case, formula_value, lattice, spread, Desk, L2, L3, LOOP, STILL};
+use common::{case, formula_value, lattice, round, settled, spread, Desk, L2, L3, LOOP, STILL};
 use second::{Reply, STORE_LENGTH, TABLE_LENGTH};
 
 /// The number and part with which open refuses a case, every byte and field kept.
@@ -253,15 +253,15 @@ fn number_11_short_buffers() {
     let mut exact = good.clone();
     exact.store.truncate(STORE_LENGTH);
     exact.first.truncate(TABLE_LENGTH);
-    assert_eq!(exact.step(), Reply::Settled(1));
+    assert_eq!(exact.step(), settled(1, 0));
 }
 
 #[test]
 fn number_12_every_rule_of_the_desk() {
-    // N1 = 2, N2 = 1, n = 3: unsettled the round is at most 4, settled at most 5.
+    // N1 = 2, N2 = 1, n = 3: unsettled the round is at most 4, settled at most 5; the lowerings are at most 4.
     let two: &[u8] = &[2, 0, 1, 0, 0, 1, 0, 0];
     let good = Desk::opened(&[L3, two, STILL, &[1]]);
-    let breaks: [fn(&mut Desk); 15] = [
+    let breaks: [fn(&mut Desk); 17] = [
         |desk| desk.standing.states1 = 1,
         |desk| desk.standing.states2 = 2,
         |desk| (desk.standing.states1, desk.standing.states2) = (1, 2),
@@ -282,6 +282,8 @@ fn number_12_every_rule_of_the_desk() {
         |desk| desk.store[0] = 2,
         |desk| desk.store.fill(0),
         |desk| desk.standing.round = u32::MAX,
+        |desk| desk.standing.lowerings = 5,
+        |desk| desk.standing.lowerings = u32::MAX,
         // The formula stands past the store's 24,576 bytes.
         |desk| {
             desk.store[13..15].copy_from_slice(&(STORE_LENGTH as u16).to_le_bytes());
@@ -294,12 +296,13 @@ fn number_12_every_rule_of_the_desk() {
         assert_all_refused(&desk, 12);
         assert_eq!(desk.open(&case(&[L2, LOOP, STILL])), Reply::Opened);
     }
-    let keeps: [fn(&mut Desk); 8] = [
+    let keeps: [fn(&mut Desk); 9] = [
         |desk| (desk.standing.row, desk.standing.changed) = (1, true),
         |desk| desk.standing.round = 4,
         |desk| (desk.standing.settled, desk.standing.round) = (true, 1),
         |desk| (desk.standing.settled, desk.standing.round) = (true, 5),
         |desk| desk.standing.second_whole = true,
+        |desk| desk.standing.lowerings = 4,
         |desk| desk.first[2] = 255,
         |desk| desk.store[STORE_LENGTH - 1] = 0,
         |desk| desk.store.resize(40_000, 7),
@@ -327,7 +330,7 @@ fn number_12_a_desk_of_zeros() {
 fn number_12_after_the_greatest_round() {
     let mut desk = Desk::opened(&[L2, LOOP, STILL, &[1]]);
     desk.standing.round = 1;
-    assert_eq!(desk.step(), Reply::Round(2));
+    assert_eq!(desk.step(), round(2, 1));
     assert_all_refused(&desk, 12);
 }
 

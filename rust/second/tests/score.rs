@@ -4,25 +4,9 @@
 
 mod common;
 
-use common::sets::{Sets, LATTICES};
+use common::sets::{Sets, CHAINS, LATTICES};
 use common::{element, Desk, Numbers, L2, LOOP, STILL};
 use second::{Facts, Reply, Standing};
-
-/// Chains of two, and one of three whose numbers go the other way than the order.
-const CHAINS: [Sets; 3] = [
-    Sets {
-        sets: &[0, 1],
-        complement: &[1, 0],
-    },
-    Sets {
-        sets: &[1, 0],
-        complement: &[1, 0],
-    },
-    Sets {
-        sets: &[3, 1, 0],
-        complement: &[2, 1, 0],
-    },
-];
 
 /// A formula part, and its facts as a person reads them.
 #[derive(Clone, Copy, Debug)]
@@ -83,7 +67,7 @@ fn a_difference_two_steps_on() {
     assert_eq!((wholes(1), wholes(2)), ([1, 1, 0, 0], [1, 1, 1, 1]));
     let mut scores = vec![element(desk.score())];
     while !desk.standing.settled {
-        if desk.step() != Reply::Row {
+        if !matches!(desk.step(), Reply::Row { .. }) {
             scores.push(element(desk.score()));
         }
     }
@@ -100,32 +84,6 @@ fn the_models_are_not_exchanged_and_ex_is_not_bounded() {
     assert_eq!((wholes(0), wholes(1)), ([1, 0], [0, 1]));
 }
 
-/// A model that begins at state 0 and goes from each state to the next; p is top.
-fn line(sets: &Sets, states: u8) -> Vec<u8> {
-    let (bottom, top) = (sets.bottom(), sets.top());
-    let top_where = |is: bool| if is { top } else { bottom };
-    let mut part = vec![states, 1];
-    part.extend((0..states).map(|q| top_where(q == 0)));
-    part.extend((0..states).map(|_| top));
-    part.extend((0..states).flat_map(|q| (0..states).map(move |to| top_where(to == q + 1))));
-    part
-}
-
-/// A model of one to three states: of any elements, or a line with some of its values exchanged for any elements.
-fn random_model(sets: &Sets, numbers: &mut Numbers) -> Vec<u8> {
-    let (states, n) = (1 + numbers.byte(3), u64::from(sets.size()));
-    if numbers.below(2) == 0 {
-        return numbers.model(states, 1, n);
-    }
-    let mut part = line(sets, states);
-    for value in &mut part[2..] {
-        if numbers.below(6) == 0 {
-            *value = numbers.byte(n);
-        }
-    }
-    part
-}
-
 /// A desk of two models with one proposition and some of the formulas.
 struct Case<'a> {
     sets: &'a Sets,
@@ -136,7 +94,7 @@ struct Case<'a> {
 
 impl<'a> Case<'a> {
     fn random(sets: &'a Sets, numbers: &mut Numbers) -> Case<'a> {
-        let models = [(); 2].map(|()| random_model(sets, numbers));
+        let models = [(); 2].map(|()| sets.random_model(numbers));
         let first = numbers.below(FORMULAS.len() as u64) as usize;
         let formulas = FORMULAS.iter().cycle().skip(first).take(AT_ONCE);
         let formulas: Vec<Formula> = formulas.copied().collect();

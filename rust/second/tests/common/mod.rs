@@ -37,6 +37,21 @@ pub fn spread(parts: &[&[u8]], gaps: &[usize]) -> Vec<u8> {
     [directory, rest].concat()
 }
 
+/// What step answers to a row that ends no round, with the lowerings.
+pub fn row(lowerings: u32) -> Reply {
+    Reply::Row { lowerings }
+}
+
+/// What step answers at the end of a round, with the lowerings.
+pub fn round(round: u32, lowerings: u32) -> Reply {
+    Reply::Round { round, lowerings }
+}
+
+/// What step answers where the desk is settled, with the lowerings.
+pub fn settled(round: u32, lowerings: u32) -> Reply {
+    Reply::Settled { round, lowerings }
+}
+
 /// What value and whole answer for a formula: its element, the deepest nesting of AX, whether a fixpoint and whether EX occurs.
 pub fn formula_value(element: u8, (nesting, fixpoint, ex): (u8, bool, bool)) -> Reply {
     let facts = Facts {
@@ -93,6 +108,7 @@ impl Desk {
                 changed: true,
                 settled: true,
                 second_whole: true,
+                lowerings: 3_000_000_000,
             },
             store: vec![171; STORE_LENGTH + 3],
             first: vec![172; TABLE_LENGTH + 5],
@@ -110,7 +126,7 @@ impl Desk {
     /// An opened desk stepped until settled.
     pub fn settled(parts: &[&[u8]]) -> Desk {
         let mut desk = Desk::opened(parts);
-        while !matches!(desk.step(), Reply::Settled(_)) {}
+        while !matches!(desk.step(), Reply::Settled { .. }) {}
         desk
     }
 

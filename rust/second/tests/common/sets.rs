@@ -1,6 +1,6 @@
 //! Small lattices of sets, whose operations are worked by bits and not by the second implementation.
 
-use super::lattice;
+use super::{lattice, Numbers};
 
 /// A lattice of sets: the element of each number is a set of bits, and the order is inclusion.
 #[derive(Debug)]
@@ -32,6 +32,22 @@ pub const LATTICES: [Sets; 5] = [
     Sets {
         sets: &[2, 3, 0, 1],
         complement: &[3, 2, 1, 0],
+    },
+];
+
+/// Chains of two, and one of three whose numbers go the other way than the order.
+pub const CHAINS: [Sets; 3] = [
+    Sets {
+        sets: &[0, 1],
+        complement: &[1, 0],
+    },
+    Sets {
+        sets: &[1, 0],
+        complement: &[1, 0],
+    },
+    Sets {
+        sets: &[3, 1, 0],
+        complement: &[2, 1, 0],
     },
 ];
 
@@ -88,5 +104,31 @@ impl Sets {
     pub fn part(&self) -> Vec<u8> {
         let complement = |e| self.complement[usize::from(e)];
         lattice(self.size(), complement, |i, j| self.at_most(i, j))
+    }
+
+    /// A model that begins at state 0 and goes from each state to the next; p is top.
+    fn line(&self, states: u8) -> Vec<u8> {
+        let (bottom, top) = (self.bottom(), self.top());
+        let top_where = |is: bool| if is { top } else { bottom };
+        let mut part = vec![states, 1];
+        part.extend((0..states).map(|q| top_where(q == 0)));
+        part.extend((0..states).map(|_| top));
+        part.extend((0..states).flat_map(|q| (0..states).map(move |to| top_where(to == q + 1))));
+        part
+    }
+
+    /// A model of one proposition and one to three states: of any elements, or a line with some of its values exchanged for any elements.
+    pub fn random_model(&self, numbers: &mut Numbers) -> Vec<u8> {
+        let (states, n) = (1 + numbers.byte(3), u64::from(self.size()));
+        if numbers.below(2) == 0 {
+            return numbers.model(states, 1, n);
+        }
+        let mut part = self.line(states);
+        for value in &mut part[2..] {
+            if numbers.below(6) == 0 {
+                *value = numbers.byte(n);
+            }
+        }
+        part
     }
 }
