@@ -2,6 +2,7 @@
 
 #![allow(dead_code)]
 
+pub mod by_bits;
 pub mod sets;
 
 use second::{Facts, Reply, Standing, STORE_LENGTH, TABLE_LENGTH};

@@ -100,6 +100,17 @@ impl Sets {
         elements.iter().fold(self.bottom(), join)
     }
 
+    /// The elements of the longest chain that ends in this element.
+    fn chain_up_to(&self, top: u8) -> u32 {
+        let below = (0..self.size()).filter(|&e| e != top && self.at_most(e, top));
+        1 + below.map(|e| self.chain_up_to(e)).max().unwrap_or(0)
+    }
+
+    /// h, the elements of the longest chain.
+    pub fn height(&self) -> u32 {
+        self.chain_up_to(self.top())
+    }
+
     /// The lattice part.
     pub fn part(&self) -> Vec<u8> {
         let complement = |e| self.complement[usize::from(e)];
