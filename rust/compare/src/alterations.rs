@@ -21,13 +21,14 @@ pub fn lay(random: &mut Random, desk: &mut Desk, draft: &Draft) {
     any_place(random, desk, draft.shape);
 }
 
-/// Any tables and any round, next row and flags within the rules.
+/// Any tables and any round, next row, flags and lowerings within the rules.
 pub fn any_place(random: &mut Random, desk: &mut Desk, shape: Shape) {
     set_tables(random, desk, shape);
     set_place(random, desk, shape);
 }
 
-/// Another case with the same states in the store, the standing kept. With another n the tables or the round may break a rule.
+/// Another case with the same states in the store, the standing kept. With another n the tables, the round or the lowerings may break a
+/// rule.
 pub fn exchange_store(random: &mut Random, desk: &mut Desk, scale: Scale, shape: Shape) {
     let bytes = cases::draft_of_states(random, scale, shape.states).bytes(random);
     let written = bytes.len().min(STORE_LENGTH);
@@ -36,7 +37,7 @@ pub fn exchange_store(random: &mut Random, desk: &mut Desk, scale: Scale, shape:
 
 /// Alters a desk within the rules.
 pub fn within(random: &mut Random, desk: &mut Desk, shape: Shape) {
-    match random.below(7) {
+    match random.below(9) {
         0 => set_tables(random, desk, shape),
         1 => set_place(random, desk, shape),
         2 => desk.standing.second_whole = !desk.standing.second_whole,
@@ -47,6 +48,8 @@ pub fn within(random: &mut Random, desk: &mut Desk, shape: Shape) {
             desk.second[..shape.entries()].fill(element);
         }
         5 => spread(random, desk),
+        6 => desk.standing.lowerings = lowerings(random, shape),
+        7 => skip_rows(random, &mut desk.standing),
         _ => {
             let place = random.below(shape.entries());
             let second = random.one_in(2);
@@ -62,11 +65,27 @@ fn set_tables(random: &mut Random, desk: &mut Desk, shape: Shape) {
     }
 }
 
-/// A round, a next row and flags within the rules, often at their ends.
+/// A count of lowerings within the rules, often at its limit.
+fn lowerings(random: &mut Random, shape: Shape) -> u32 {
+    let limit = shape.round_limit();
+    let any = random.below(limit as usize + 1) as u32;
+    random.pick(&[limit, limit, any, any, 0])
+}
+
+/// A next row that is further on in the same round, so that the rows between stay as they are.
+fn skip_rows(random: &mut Random, standing: &mut Standing) {
+    if !standing.settled && standing.row < standing.states1 {
+        let last = usize::from(standing.states1) - 1;
+        standing.row = random.between(standing.row.into(), last) as u8;
+    }
+}
+
+/// A round, a next row, flags and lowerings within the rules, often at their ends.
 fn set_place(random: &mut Random, desk: &mut Desk, shape: Shape) {
     let limit = shape.round_limit();
     let standing = &mut desk.standing;
     standing.second_whole = random.one_in(2);
+    standing.lowerings = lowerings(random, shape);
     if random.one_in(2) {
         settle(standing, 0, random.pick(&[1, limit + 1, 1 + limit / 2]));
     } else {
@@ -112,7 +131,7 @@ pub fn beyond(random: &mut Random, desk: &mut Desk, shape: Shape) {
 
 fn break_standing(random: &mut Random, standing: &mut Standing, shape: Shape) {
     let limit = shape.round_limit();
-    match random.below(9) {
+    match random.below(11) {
         0 => standing.states1 = standing.states1.wrapping_add(random.pick(&[1, 255])),
         1 => standing.states2 = standing.states2.wrapping_add(random.pick(&[1, 255])),
         2 => std::mem::swap(&mut standing.states1, &mut standing.states2),
@@ -121,6 +140,8 @@ fn break_standing(random: &mut Random, standing: &mut Standing, shape: Shape) {
         5 => (standing.settled, standing.round) = (false, limit + 1),
         6 => settle(standing, 0, limit + 2),
         7 => settle(standing, 0, 0),
+        8 => standing.lowerings = limit + 1,
+        9 => standing.lowerings = random.pick(&[limit + 2, 1 << 20, u32::MAX]),
         _ => settle(standing, (shape.states[0] - 1) as u8, 1),
     }
 }

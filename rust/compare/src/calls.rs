@@ -64,7 +64,7 @@ pub fn by_second(desk: &mut Desk, call: &Call) -> Reply {
         Call::Step => second::step(&mut standing, store, first, second),
         Call::FinishRound => loop {
             let reply = second::step(&mut standing, store, first, second);
-            if reply != Reply::Row {
+            if !matches!(reply, Reply::Row { .. }) {
                 break reply;
             }
         },

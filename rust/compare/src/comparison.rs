@@ -1,5 +1,5 @@
 //! Two desks with the same content, one for each implementation: every call is made of both, and all that they give and leave is
-//! compared. Rests on calls, counts, desks, judged and buffers.
+//! compared, with one another and with what demand 3 promises. Rests on calls, counts, desks, judged, buffers, promised and lowerings.
 
 use crate::buffers::Buffer;
 use crate::calls::{self, Call};
@@ -7,6 +7,8 @@ use crate::counts::Counts;
 use crate::desks::{self, Desk};
 use crate::generator::Random;
 use crate::judged::{self, Judged, Soundness};
+use crate::lowerings::Made;
+use crate::promised::Promised;
 use koelchair::Standing;
 use second::Reply;
 
@@ -16,6 +18,8 @@ pub type Difference = String;
 pub struct Pair<'a> {
     proved: Desk,
     second: Desk,
+    /// What demand 3 promises of both; nothing before the first accepted open, and after an alteration from outside.
+    promised: Option<Promised>,
     /// How many calls were made.
     place: usize,
     counts: &'a mut Counts,
@@ -28,6 +32,7 @@ impl Pair<'_> {
         Pair {
             proved: desk.clone(),
             second: desk,
+            promised: None,
             place: 0,
             counts,
             print,
@@ -43,6 +48,7 @@ impl Pair<'_> {
     pub fn put(&mut self, desk: Desk) {
         self.second = desk.clone();
         self.proved = desk;
+        self.promised = None;
         if self.print {
             println!("  the desk is altered: {:?}", self.proved.standing);
         }
@@ -59,12 +65,33 @@ impl Pair<'_> {
         if proved != second || self.proved != self.second {
             return Err(self.difference(&words(&call), &proved, &second));
         }
+        self.follow(&call, &proved)?;
         self.counts.call(&call, &proved, &before);
+        let made = Made {
+            call: &call,
+            reply: &proved,
+            before: &before,
+            after: &self.proved,
+            promised: self.promised.as_ref(),
+        };
+        self.counts.all(&made.met());
         if let (Some(formula), Reply::FormulaValue { facts, .. }) = (formula(&call), &proved) {
             self.counts.formula(self.proved.formula(formula), facts);
         }
         self.place += 1;
         Ok(proved)
+    }
+
+    /// Holds the answer and the desk against what demand 3 promises, from an accepted open on.
+    fn follow(&mut self, call: &Call, reply: &Reply) -> Result<(), Difference> {
+        if *reply == Reply::Opened {
+            self.promised = Some(Promised::opened(&self.proved));
+        }
+        let Some(promised) = &mut self.promised else {
+            return Ok(());
+        };
+        let after = promised.after(call, reply, &self.proved);
+        after.map_err(|promise| format!("call {} {}: {promise}", self.place, words(call)))
     }
 
     /// Has both judge a table that was made from the rounds of the case which the desk holds, and gives what they say. It must be what F of

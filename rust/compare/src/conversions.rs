@@ -13,6 +13,7 @@ pub fn to_second(standing: koelchair::Standing) -> second::Standing {
         changed,
         settled,
         second_whole,
+        lowerings,
     } = standing;
     second::Standing {
         states1,
@@ -22,6 +23,7 @@ pub fn to_second(standing: koelchair::Standing) -> second::Standing {
         changed,
         settled,
         second_whole,
+        lowerings,
     }
 }
 
@@ -35,6 +37,7 @@ pub fn to_proved(standing: second::Standing) -> koelchair::Standing {
         changed,
         settled,
         second_whole,
+        lowerings,
     } = standing;
     koelchair::Standing {
         states1,
@@ -44,6 +47,7 @@ pub fn to_proved(standing: second::Standing) -> koelchair::Standing {
         changed,
         settled,
         second_whole,
+        lowerings,
     }
 }
 
@@ -63,9 +67,9 @@ pub fn opened(answer: Result<(), Refusal>) -> Reply {
 
 pub fn stepped(answer: Result<StepAnswer, Refusal>) -> Reply {
     reply(answer, |step| match step {
-        StepAnswer::Row => Reply::Row,
-        StepAnswer::Round(round) => Reply::Round(round),
-        StepAnswer::Settled(rounds) => Reply::Settled(rounds),
+        StepAnswer::Row { lowerings } => Reply::Row { lowerings },
+        StepAnswer::Round { round, lowerings } => Reply::Round { round, lowerings },
+        StepAnswer::Settled { round, lowerings } => Reply::Settled { round, lowerings },
     })
 }
 

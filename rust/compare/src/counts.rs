@@ -1,9 +1,10 @@
-//! How often each refusal, each answer, each fact of a formula, each sort of judged table and each sort of writing was met. Rests on calls,
-//! judged, shapes and buffers.
+//! How often each refusal, each answer, each fact of a formula, each sort of judged table, each sort of writing and each sort of count of
+//! lowerings was met. Rests on calls, judged, shapes, buffers and lowerings.
 
 use crate::buffers;
 use crate::calls::Call;
 use crate::judged;
+use crate::lowerings;
 use crate::shapes::{self, SHAPES};
 use koelchair::Standing;
 use second::{Facts, Reply};
@@ -77,6 +78,7 @@ impl Default for Counts {
             met: names
                 .chain(judged::names())
                 .chain(buffers::NAMES)
+                .chain(lowerings::NAMES)
                 .map(|name| (name, 0))
                 .collect(),
         }
@@ -87,9 +89,9 @@ fn name(reply: &Reply) -> &'static str {
     match reply {
         Reply::Refused { number, .. } => REFUSALS[usize::from(*number) - 1],
         Reply::Opened => "Opened",
-        Reply::Row => "Row",
-        Reply::Round(_) => "Round",
-        Reply::Settled(_) => "Settled",
+        Reply::Row { .. } => "Row",
+        Reply::Round { .. } => "Round",
+        Reply::Settled { .. } => "Settled",
         Reply::Shown(bytes) if bytes.is_empty() => "Shown empty",
         Reply::Shown(_) => "Shown",
         Reply::Element(_) => "Element",
@@ -142,10 +144,11 @@ impl Counts {
     /// Counts a call, its answer, whether it settled a desk or found it settled, and the rounds finished in one call.
     pub fn call(&mut self, call: &Call, reply: &Reply, before: &Standing) {
         self.reply(reply);
-        if let (Call::Step | Call::FinishRound, &Reply::Settled(round)) = (call, reply) {
+        if let (Call::Step | Call::FinishRound, &Reply::Settled { round, .. }) = (call, reply) {
             self.add(settled(round, before.settled), 1);
         }
-        let finished = matches!(reply, Reply::Round(_) | Reply::Settled(_)) && !before.settled;
+        let ended = matches!(reply, Reply::Round { .. } | Reply::Settled { .. });
+        let finished = ended && !before.settled;
         if matches!(call, Call::FinishRound) && finished {
             let half = before.row > 0;
             self.add(if half { FINISHED_HALF } else { FINISHED }, 1);
@@ -159,7 +162,7 @@ impl Counts {
         }
     }
 
-    /// Counts what came of a judged table, or of a writing.
+    /// Counts what came of a judged table, of a writing, or of a count of lowerings.
     pub fn all(&mut self, names: &[&'static str]) {
         for name in names {
             self.add(name, 1);

@@ -59,6 +59,14 @@ impl Desk {
         lattices::of_part(self.part(0))
     }
 
+    /// n, the elements of that lattice.
+    pub fn elements(&self) -> usize {
+        match self.part(0)[0] {
+            0 => 27,
+            n => usize::from(n),
+        }
+    }
+
     /// A part of the case in the store of a desk that breaks no rule; the case has such a part.
     fn part(&self, number: usize) -> &[u8] {
         self.parts().expect("the parts of a case")[number]
@@ -104,6 +112,7 @@ fn any_standing(random: &mut Random) -> Standing {
         changed: random.one_in(2),
         settled: random.one_in(2),
         second_whole: random.one_in(2),
+        lowerings: random.pick(&[0, 1, 7, word, u32::MAX]),
     }
 }
 

@@ -161,7 +161,7 @@ impl Rounds {
         let mut tables = vec![working.show().to_vec()];
         let mut settled = false;
         while !settled && tables.len() <= MOST_ROUNDS {
-            settled = matches!(working.finish_round(), StepAnswer::Settled(_));
+            settled = matches!(working.finish_round(), StepAnswer::Settled { .. });
             tables.push(working.show().to_vec());
         }
         Some(Rounds {

@@ -62,6 +62,18 @@ impl Lattice {
             .unwrap_or(0) as u8
     }
 
+    /// h, the elements of the longest chain.
+    pub fn height(&self) -> usize {
+        let below = |e| (0..self.size).filter(move |&other| self.below(other, e));
+        let mut rising: Vec<usize> = (0..self.size).collect();
+        rising.sort_by_key(|&e| below(e).count());
+        let mut longest = vec![1; self.size];
+        for e in rising {
+            longest[e] = 1 + below(e).map(|other| longest[other]).max().unwrap_or(0);
+        }
+        longest.into_iter().max().expect("an element")
+    }
+
     /// The same with other numbers.
     pub fn renumbered(&self, random: &mut Random) -> Lattice {
         let old = random.permutation(self.size);
@@ -293,5 +305,18 @@ pub fn of_sort(random: &mut Random, number: usize) -> Lattice {
         lattice.renumbered(random)
     } else {
         lattice
+    }
+}
+
+#[cfg(test)]
+mod tests {
+    use super::*;
+
+    #[test]
+    fn longest_chains() {
+        assert_eq!([1, 2, 64].map(|size| chain(size).height()), [1, 2, 64]);
+        assert_eq!(subsets(3, &[2, 1, 0]).height(), 4);
+        let random = &mut Random::new(1);
+        assert_eq!(panel().renumbered(random).height(), 7);
     }
 }

@@ -13,6 +13,8 @@
 //! - desks, alterations: desks of any content, and desks altered from outside
 //! - conversions: standings and answers of the one implementation in the types of the other, which the benchmark takes too
 //! - calls, arguments: a call made of either implementation, and what it is made with
+//! - promised: what demand 3 says of a desk that nothing but calls wrote, worked from its sentences
+//! - lowerings: what is met of the count of lowerings
 //! - comparison, counts, lists: both made and compared, what was met, and the lists
 //!
 //! KOELCHAIR_LISTS=number makes that many lists; of some thousands or fewer the rarest shapes may be missing, which the test reports. KOELCHAIR_SEED=number makes the one list of that seed, and prints every call and its answer
@@ -34,7 +36,9 @@ pub mod generator;
 pub mod judged;
 pub mod lattices;
 pub mod lists;
+pub mod lowerings;
 pub mod models;
 pub mod non_lattices;
+pub mod promised;
 pub mod shapes;
 pub mod work;

@@ -129,7 +129,7 @@ impl List<'_> {
         let most = self.shape.states[0] * (self.shape.round_limit() as usize + 1);
         for _ in 0..most {
             let reply = self.pair.call(Call::Step)?;
-            if let Reply::Settled(_) | Reply::Refused { .. } = reply {
+            if let Reply::Settled { .. } | Reply::Refused { .. } = reply {
                 break;
             }
             if self.random.one_in(10) {
