@@ -1,7 +1,7 @@
 //! Each call and the whole report, measured on one case by the proved library and by another.
 
 use crate::cases::Setting;
-use crate::libraries::{assert_same, put_back, Given, Library, Proved};
+use crate::libraries::{assert_same_tables, compared, put_back, Given, Library, Proved};
 use crate::measure::{in_turn, Side, Times};
 use compare::calls::Call;
 use compare::desks::{self, Desk};
@@ -107,9 +107,14 @@ impl<'a> Calls<'a> {
     pub fn measure(&self, repeat: usize, call: &Call) -> Times {
         let proved = side(&Proved, &self.proved_desk, call);
         let other = side(self.other, &self.other_desk, call);
+        let counted = self.other.counts_lowerings();
         in_turn(repeat, proved, other, |ours, given, theirs, also| {
-            assert_eq!(given.reply(ours), also.reply(theirs));
-            assert_same(ours, theirs);
+            let (ours_seen, theirs_seen) = (
+                compared(given, ours, counted),
+                compared(also, theirs, counted),
+            );
+            assert_eq!(ours_seen, theirs_seen);
+            assert_same_tables(ours, theirs);
         })
     }
 
@@ -213,15 +218,12 @@ fn report_side<'a>(
 }
 
 #[cfg(test)]
-mod tests {
+pub mod tests {
     use super::*;
     use crate::cases::{Drawing, Lattice, FIXPOINTS, NESTED};
-    use crate::former::Former;
     use crate::libraries::Second;
-    use std::path::{Path, PathBuf};
-    use std::process::Command;
 
-    fn calls(other: &dyn Library) -> Calls<'_> {
+    pub fn calls(other: &dyn Library) -> Calls<'_> {
         let setting = Setting {
             lattice: Lattice::Chain(5),
             states1: 4,
@@ -233,7 +235,7 @@ mod tests {
     }
 
     /// A call that is answered differently stops the test, as it stops the benchmark.
-    fn assert_alike(other: &dyn Library) {
+    pub fn assert_alike(other: &dyn Library) {
         let calls = calls(other);
         for call in [
             calls.open(),
@@ -269,70 +271,6 @@ mod tests {
     #[test]
     fn second_answers_alike() {
         assert_alike(&Second);
-    }
-
-    /// A folder of this test's own, removed at its end.
-    struct Folder(PathBuf);
-
-    impl Folder {
-        fn new(name: &str) -> Folder {
-            let folder = std::env::temp_dir().join(format!("{name}-{}", std::process::id()));
-            std::fs::create_dir_all(&folder).expect("a folder");
-            Folder(folder)
-        }
-
-        fn file(&self, name: &str) -> String {
-            self.0.join(name).display().to_string()
-        }
-    }
-
-    impl Drop for Folder {
-        fn drop(&mut self) {
-            let _ = std::fs::remove_dir_all(&self.0);
-        }
-    }
-
-    /// The archive that is linked, made into a shared library with these options more.
-    fn shared(folder: &Folder, options: &[&str]) -> Former {
-        let shared = folder.file("former.so");
-        let own = Path::new(env!("CARGO_MANIFEST_DIR")).join("../../target/staticlib");
-        let archive = std::env::var_os("KOELCHAIR_ARCHIVE").map_or(own, PathBuf::from);
-        let made = Command::new("cc")
-            .args(["-shared", "-o", &shared, "-Wl,--whole-archive"])
-            .arg(archive.join("libexports.a"))
-            .arg("-Wl,--no-whole-archive")
-            .args(options)
-            .status();
-        assert!(made.expect("cc").success());
-        Former::load(&shared).expect("a shared library")
-    }
-
-    /// It answers as it does linked.
-    #[test]
-    fn a_shared_library_answers_alike() {
-        let folder = Folder::new("koelchair-bench-shared");
-        assert_alike(&shared(&folder, &[]));
-    }
-
-    /// A library from before there was write has its other calls measured.
-    #[test]
-    fn a_shared_library_without_write() {
-        let folder = Folder::new("koelchair-bench-without");
-        let names = folder.file("names");
-        std::fs::write(&names, "{ local: koelchair_write; };").expect("a file");
-        let former = shared(&folder, &[&format!("-Wl,--version-script={names}")]);
-        let calls = calls(&former);
-        assert!(calls.write(1).is_none());
-        assert!(calls.measure(1, &Call::Score).other > 0.0);
-    }
-
-    #[test]
-    fn what_is_no_shared_library() {
-        let folder = Folder::new("koelchair-bench-none");
-        let file = folder.file("text");
-        assert!(Former::load(&file).is_err_and(|error| error.starts_with(&file)));
-        std::fs::write(&file, "no library").expect("a file");
-        assert!(Former::load(&file).is_err_and(|error| error.contains(&file)));
     }
 
     #[test]

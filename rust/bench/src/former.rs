@@ -1,15 +1,19 @@
-//! A proved library as it was before a change, loaded from a shared library, and the only `unsafe` code of this program. The functions and
-//! structs are those of include/koelchair.h.
+//! A proved library as it was before a change, loaded from a shared library, and with `shared` the only `unsafe` code of this program. The
+//! functions and structs are those of include/koelchair.h, or as they were before request 107, when a standing had no count of lowerings.
 
 use crate::libraries::{Given, Library};
+use crate::shared::Loaded;
 use compare::calls::Call;
 use compare::desks::Desk;
 use koelchair::{Standing, LISTING_LENGTH};
 use second::{Facts, Reply};
-use std::ffi::{c_char, c_int, c_void, CStr, CString};
-use std::fs;
+use std::ptr::dangling_mut;
+
+#[cfg(test)]
+mod tests;
 
 #[repr(C)]
+#[derive(Clone, Copy)]
 struct Answer {
     kind: u8,
     number: u8,
@@ -21,10 +25,41 @@ struct Answer {
     flag2: bool,
 }
 
+/// What open, step and finish_round give.
 #[repr(C)]
-struct Moved {
+#[derive(Clone, Copy)]
+struct Counted {
     standing: Standing,
     answer: Answer,
+}
+
+/// A standing from before request 107.
+#[repr(C)]
+#[derive(Clone, Copy)]
+struct ShortStanding {
+    states1: u8,
+    states2: u8,
+    round: u32,
+    row: u8,
+    changed: bool,
+    settled: bool,
+    second_whole: bool,
+}
+
+/// What these calls gave then.
+#[repr(C)]
+#[derive(Clone, Copy)]
+struct Uncounted {
+    standing: ShortStanding,
+    answer: Answer,
+}
+
+/// The one or the other. Both are too long for registers, so that the library writes what it gives into room for the longer. A standing of
+/// either length is passed in the same two registers, and a library from before request 107 reads nothing of the count.
+#[repr(C)]
+union Moved {
+    counted: Counted,
+    uncounted: Uncounted,
 }
 
 #[repr(C)]
@@ -55,19 +90,22 @@ type Write = unsafe extern "C" fn(
     usize,
 ) -> Answer;
 
+/// Open, which takes the case too, and writes the store.
+type Open = unsafe extern "C" fn(
+    Standing,
+    *const u8,
+    usize,
+    *mut u8,
+    usize,
+    *mut u8,
+    usize,
+    *mut u8,
+    usize,
+) -> Moved;
+
 /// The functions of a library that is never unloaded.
 pub struct Former {
-    open: unsafe extern "C" fn(
-        Standing,
-        *const u8,
-        usize,
-        *mut u8,
-        usize,
-        *mut u8,
-        usize,
-        *mut u8,
-        usize,
-    ) -> Moved,
+    open: Open,
     step: function!(() -> Moved),
     finish_round: function!(() -> Moved),
     show: function!(() -> Shown),
@@ -79,6 +117,8 @@ pub struct Former {
     /// None in a library from before request 105.
     write: Option<Write>,
     listing: unsafe extern "C" fn(*const u8, usize, *mut u8) -> usize,
+    /// Whether its standings have the count of lowerings.
+    counts: bool,
 }
 
 impl Former {
@@ -87,8 +127,10 @@ impl Former {
         let library = Loaded::open(file)?;
         // SAFETY: each function is declared as the header declares the one of its name.
         unsafe {
+            let open = library.function(c"koelchair_open")?;
             Ok(Former {
-                open: library.function(c"koelchair_open")?,
+                open,
+                counts: counts_lowerings(open),
                 step: library.function(c"koelchair_step")?,
                 finish_round: library.function(c"koelchair_finish_round")?,
                 show: library.function(c"koelchair_show")?,
@@ -101,6 +143,19 @@ impl Former {
                 listing: library.function(c"koelchair_listing")?,
             })
         }
+    }
+
+    /// The answer, after the standing is put into the desk.
+    fn moved(&self, moved: Moved, desk: &mut Desk) -> Answer {
+        // SAFETY: it is known which of the two the library gives.
+        let (standing, answer) = unsafe {
+            match self.counts {
+                true => (moved.counted.standing, moved.counted.answer),
+                false => (long(moved.uncounted.standing), moved.uncounted.answer),
+            }
+        };
+        desk.standing = standing;
+        answer
     }
 
     fn open(&self, desk: &mut Desk, case: &[u8]) -> Moved {
@@ -149,11 +204,15 @@ impl Library for Former {
         "Former"
     }
 
+    fn counts_lowerings(&self) -> bool {
+        self.counts
+    }
+
     fn call(&self, desk: &mut Desk, call: &Call) -> Given {
         let answer = match call {
-            Call::Open(case) => moved(self.open(desk, case), desk),
-            Call::Step => moved(call!((self.step), desk), desk),
-            Call::FinishRound => moved(call!((self.finish_round), desk), desk),
+            Call::Open(case) => self.moved(self.open(desk, case), desk),
+            Call::Step => self.moved(call!((self.step), desk), desk),
+            Call::FinishRound => self.moved(call!((self.finish_round), desk), desk),
             Call::Show => return shown(call!((self.show), desk), desk),
             &Call::Value {
                 formula,
@@ -202,10 +261,38 @@ impl Library for Former {
     }
 }
 
-/// The answer, after the standing is put into the desk.
-fn moved(moved: Moved, desk: &mut Desk) -> Answer {
-    desk.standing = moved.standing;
-    moved.answer
+/// Whether the library with this open has the count of lowerings in its standings. A desk of no bytes is refused with 11. The refusal's
+/// number stands where a library from before request 107 has a byte of `value`, which is 0 in a refusal.
+///
+/// # Safety
+/// It is the open of such a library.
+unsafe fn counts_lowerings(open: Open) -> bool {
+    let none = dangling_mut();
+    let refused = open(Standing::default(), none, 0, none, 0, none, 0, none, 0);
+    refused.counted.answer.number == 11
+}
+
+/// A standing from before request 107 with a count of 0.
+fn long(standing: ShortStanding) -> Standing {
+    let ShortStanding {
+        states1,
+        states2,
+        round,
+        row,
+        changed,
+        settled,
+        second_whole,
+    } = standing;
+    Standing {
+        states1,
+        states2,
+        round,
+        row,
+        changed,
+        settled,
+        second_whole,
+        lowerings: 0,
+    }
 }
 
 /// The length of the table that is shown, which has to be the whole one.
@@ -222,16 +309,22 @@ fn reply(answer: Answer) -> Reply {
         part,
         byte,
         value,
+        second: lowerings,
         flag1,
         flag2,
-        ..
     } = answer;
     match kind {
         0 => Reply::Refused { number, part },
         1 => Reply::Opened,
-        2 => Reply::Row,
-        3 => Reply::Round(value),
-        4 => Reply::Settled(value),
+        2 => Reply::Row { lowerings },
+        3 => Reply::Round {
+            round: value,
+            lowerings,
+        },
+        4 => Reply::Settled {
+            round: value,
+            lowerings,
+        },
         5 => Reply::Element(value as u8),
         6 => Reply::PerCent(value as u8),
         7 => Reply::Says(value == 1),
@@ -245,61 +338,5 @@ fn reply(answer: Answer) -> Reply {
         },
         10 => Reply::Length(value as usize),
         _ => panic!("the former library answers with kind {kind}, which there is not"),
-    }
-}
-
-// ---- shared libraries
-
-/// All names are looked up at once; the names of the library are seen by no other.
-const RTLD_NOW: c_int = 2;
-
-extern "C" {
-    fn dlopen(file: *const c_char, flags: c_int) -> *mut c_void;
-    fn dlsym(library: *mut c_void, name: *const c_char) -> *mut c_void;
-    fn dlerror() -> *const c_char;
-}
-
-struct Loaded {
-    file: String,
-    library: *mut c_void,
-}
-
-impl Loaded {
-    fn open(file: &str) -> Result<Loaded, String> {
-        // A name without a folder would be looked for where the system's libraries are.
-        let path = fs::canonicalize(file).map_err(|error| format!("{file}: {error}"))?;
-        let path = CString::new(path.into_os_string().into_encoded_bytes());
-        let path = path.map_err(|error| format!("{file}: {error}"))?;
-        // SAFETY: the path ends in a zero byte. What a library does when it is loaded is the caller's choice of the file.
-        let library = unsafe { dlopen(path.as_ptr(), RTLD_NOW) };
-        if library.is_null() {
-            return Err(last_error());
-        }
-        let file = file.to_string();
-        Ok(Loaded { file, library })
-    }
-
-    /// The function of a name.
-    ///
-    /// # Safety
-    /// F is the type of a function, and that of the function of this name.
-    unsafe fn function<F: Copy>(&self, name: &CStr) -> Result<F, String> {
-        let function = dlsym(self.library, name.as_ptr());
-        if function.is_null() {
-            return Err(format!("{} has no {}", self.file, name.to_string_lossy()));
-        }
-        assert_eq!(size_of::<F>(), size_of::<*mut c_void>());
-        Ok(std::mem::transmute_copy(&function))
-    }
-}
-
-/// Why the last function of these failed.
-fn last_error() -> String {
-    // SAFETY: the text, where there is one, ends in a zero byte and is copied at once.
-    unsafe {
-        match dlerror() {
-            text if text.is_null() => "the shared library cannot be loaded".to_string(),
-            text => CStr::from_ptr(text).to_string_lossy().into_owned(),
-        }
     }
 }

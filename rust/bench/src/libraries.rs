@@ -2,12 +2,18 @@
 
 use compare::calls::{self, Call};
 use compare::desks::Desk;
+use koelchair::Standing;
 use second::Reply;
 
 /// An implementation of the calls.
 pub trait Library {
     /// Its name in the tables.
     fn name(&self) -> &'static str;
+
+    /// Whether it counts lowerings. One from before request 107 does not: its answers and standings have 0.
+    fn counts_lowerings(&self) -> bool {
+        true
+    }
 
     /// Makes a call of a desk.
     fn call(&self, desk: &mut Desk, call: &Call) -> Given;
@@ -85,9 +91,36 @@ pub fn put_back(desk: &mut Desk, start: &Desk) {
     desk.second.copy_from_slice(&start.second);
 }
 
-/// Stops unless both desks have the same standing and the same tables. The layout of a store is each implementation's own.
-pub fn assert_same(proved: &Desk, other: &Desk) {
-    assert_eq!(proved.standing, other.standing, "the standings differ");
+/// What is compared of a call beside the tables: the answer, and the standing after it. Without `counted` both are so without their counts of
+/// lowerings.
+pub fn compared(given: Given, desk: &Desk, counted: bool) -> (Reply, Standing) {
+    let (reply, standing) = (given.reply(desk), desk.standing);
+    let lowerings = 0;
+    match counted {
+        true => (reply, standing),
+        false => (
+            without_count(reply),
+            Standing {
+                lowerings,
+                ..standing
+            },
+        ),
+    }
+}
+
+/// A reply with a count of 0 where it has one.
+fn without_count(reply: Reply) -> Reply {
+    let lowerings = 0;
+    match reply {
+        Reply::Row { .. } => Reply::Row { lowerings },
+        Reply::Round { round, .. } => Reply::Round { round, lowerings },
+        Reply::Settled { round, .. } => Reply::Settled { round, lowerings },
+        reply => reply,
+    }
+}
+
+/// Stops unless both desks have the same tables. The layout of a store is each implementation's own.
+pub fn assert_same_tables(proved: &Desk, other: &Desk) {
     assert!(proved.first == other.first, "the first tables differ");
     assert!(proved.second == other.second, "the second tables differ");
 }

@@ -10,6 +10,9 @@
 //! gcc -shared -o former.so -Wl,--whole-archive libexports.a -Wl,--no-whole-archive
 //! ```
 //!
+//! It may be from before request 107, when standings and answers had no count of lowerings: how the library answers says which, and counts
+//! are then not compared.
+//!
 //! Where the linker places the code can alone move a ratio by a third. Less so where the functions of both archives begin at multiples of
 //! 64, by `objcopy --set-section-alignment '.text.*=64' libexports.a` on copies of them; that of the linked one is in a folder which
 //! KOELCHAIR_ARCHIVE names by its whole path. A shared library of the linked archive itself shows what is left of it.
@@ -20,6 +23,7 @@ mod former;
 mod libraries;
 mod measure;
 mod random;
+mod shared;
 mod tables;
 
 use former::Former;

@@ -25,6 +25,8 @@ const SIZES: [(Lattice, u8); 7] = [
 /// What is measured in a row of the calls' table.
 enum Work {
     Call(Call),
+    /// A step of the last row, at which the two tables are compared.
+    LastRow,
     Write,
     Report,
 }
@@ -33,9 +35,10 @@ enum Work {
 type Named = (&'static str, fn(&Calls) -> Work);
 
 /// The calls in the order of the table.
-const CALLS: [Named; 12] = [
+const CALLS: [Named; 13] = [
     ("open", |calls| Work::Call(calls.open())),
     ("step", |_| Work::Call(Call::Step)),
+    ("step, last row", |_| Work::LastRow),
     ("show", |_| Work::Call(Call::Show)),
     ("value, AX EX AX", |calls| Work::Call(calls.value(NESTED))),
     ("value, three fixpoints", |c| Work::Call(c.value(FIXPOINTS))),
@@ -53,12 +56,16 @@ const CALLS: [Named; 12] = [
 /// Prints all tables, or the rows of them that are asked for, with the proved library and another.
 pub fn print(options: &Options, other: &dyn Library) {
     let name = other.name();
+    let counts = match other.counts_lowerings() {
+        true => "",
+        false => " Counts of lowerings, which the other side has not, were left out of it.",
+    };
     println!(
         "Medians of up to {} samples of each side, which take turns: proved, {lower}, proved, {lower}, and so on. A sample repeats its call \
          for about 0.4 ms or makes it once, and its time is that of one call. *{name} / proved* is the other side's median as a \
          multiple of the proved one's: above 1 the proved one is the faster, so many times. Half of the ratios of two samples that \
          follow one another are within the *middle half*. After each two samples the answers, the standings, the tables and what \
-         write wrote were compared, and were equal.\n",
+         write wrote were compared, and were equal.{counts}\n",
         options.repeat,
         lower = name.to_lowercase(),
     );
@@ -120,9 +127,14 @@ fn square(lattice: Lattice, states: u8, drawing: Drawing) -> Setting {
 
 /// The calls in the middle of the second round, next row N1/2.
 fn halfway(setting: Setting, other: &dyn Library) -> Calls<'_> {
+    at_row(setting, other, setting.states1 / 2)
+}
+
+/// The calls in the second round, at this row.
+fn at_row(setting: Setting, other: &dyn Library, row: u8) -> Calls<'_> {
     let calls = Calls::new(setting, other);
     assert!(calls.rounds() > 2, "a case of too few rounds: another seed");
-    calls.at(1, setting.states1 / 2)
+    calls.at(1, row)
 }
 
 /// Prints the rows of one size; gives the times of show and step where both are among them.
@@ -138,6 +150,7 @@ fn print_size(
     for &(name, work) in wanted {
         let measured = match work(&calls) {
             Work::Call(call) => Some(calls.measure(repeat, &call)),
+            Work::LastRow => Some(at_row(setting, other, states - 1).measure(repeat, &Call::Step)),
             Work::Write => calls.write(repeat),
             Work::Report => Some(calls.report(repeat)),
         };
