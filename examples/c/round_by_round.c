@@ -1,7 +1,7 @@
-/* Reads a case from standard input, prints its listing, works its rounds to the end, and prints every answer: the table at each round,
-   which formulas it covers and what the next round changes, the score, the share, the formulas' facts and values, and how long the case
-   is that the desk writes back. Where a file is named it gets the bytes of that case. A refusal is said in words, with its number and
-   part.
+/* Reads a case from standard input, prints its listing, works its rounds to the end, and prints every answer: how many entries the rounds
+   so far have lowered, the table at each round, which formulas it covers and what the next round changes, the score, the share, the
+   formulas' facts and values, and how long the case is that the desk writes back. Where a file is named it gets the bytes of that case. A
+   refusal is said in words, with its number and part.
 
    From the repository's root, after `rt staticlib exports`:
 
@@ -117,11 +117,12 @@ static void print_step(struct desk *d)
     koelchair_moved moved = koelchair_step(LENT(d));
     unless_refused("step", moved.answer);
     d->standing = moved.standing;
+    unsigned long round = moved.answer.value, lowerings = moved.answer.second;
     if (moved.answer.kind == KOELCHAIR_ROW) {
-        printf("step: row\n");
+        printf("step: row, %lu lowerings\n", lowerings);
         return;
     }
-    printf("step: %s %lu\n", moved.answer.kind == KOELCHAIR_ROUND ? "round" : "settled", (unsigned long)moved.answer.value);
+    printf("step: %s %lu, %lu lowerings\n", moved.answer.kind == KOELCHAIR_ROUND ? "round" : "settled", round, lowerings);
     print_table(d);
 }
 

@@ -117,6 +117,14 @@ static void step(void)
     answer = moved.answer;
 }
 
+/* The last row, at which the two tables are compared. */
+static void step_last_row(void)
+{
+    standing.row = STATES - 1;
+    standing.changed = true;
+    step();
+}
+
 static void finish_round(void)
 {
     koelchair_moved moved = koelchair_finish_round(LENT);
@@ -190,6 +198,7 @@ int main(void)
     make_case();
     printf("open  %zu\n", taken(open_case));
     printf("step  %zu\n", taken(step));
+    printf("step of the last row %zu\n", taken(step_last_row));
     printf("finish_round %zu\n", taken(finish_round));
     printf("show  %zu\n", taken(show));
     for (formula = 0; formula < FORMULAS; formula++)
