@@ -4,7 +4,7 @@
 
     with open("case.bytes", "rb") as file:  # written by: koelchair encode FILE > case.bytes
         desk = koelchair.Desk(file.read())
-    print("settled after", desk.settle(), "rounds, score", desk.score())
+    print("settled after", desk.settle(), "rounds and", desk.standing.lowerings, "lowerings, score", desk.score())
     for row in desk.rows():
         print(*row)
     for formula in range(desk.sizes().formulas):
@@ -33,7 +33,8 @@ from typing import NamedTuple, Optional
 
 
 class Standing(ctypes.Structure):
-    """Where a desk stands: states of the models, round, next row, and three flags."""
+    """Where a desk stands: states of the models, round, next row, three flags, and lowerings, the entries that differ from the round
+    before, summed over the whole rounds since the case was opened."""
 
     _fields_ = [
         ("states1", c_uint8),
@@ -43,6 +44,7 @@ class Standing(ctypes.Structure):
         ("changed", c_bool),
         ("settled", c_bool),
         ("second_whole", c_bool),
+        ("lowerings", c_uint32),
     ]
 
 
@@ -156,10 +158,12 @@ class Refused(Exception):
 
 
 class Step(NamedTuple):
-    """What step answers: `kind` is "row", "round" or "settled"; `round` is the round that was ended, T where settled, else None."""
+    """What step answers: `kind` is "row", "round" or "settled"; `round` is the round that was ended, T where settled, else None;
+    `lowerings` is the standing's count after the step. The rows of an unfinished round do not count."""
 
     kind: str
     round: Optional[int]
+    lowerings: int
 
 
 class FormulaFacts(NamedTuple):
@@ -262,7 +266,7 @@ class Desk:
         value = _accepted(moved.answer)
         self._standing = moved.standing
         kind = _STEPS[moved.answer.kind]
-        return Step(kind, None if kind == "row" else value)
+        return Step(kind, None if kind == "row" else value, moved.answer.second)
 
     def settle(self):
         """Steps until the desk is settled; gives T, the first round that equals the one before."""

@@ -29,9 +29,9 @@ class Examples(unittest.TestCase):
         desk = koelchair.Desk(example(1))
         self.assertEqual(desk.rows(), [[2]])
         self.assertEqual(desk.sizes(), koelchair.Sizes(3, 1, 1, 1, 1))
-        self.assertEqual(desk.step(), koelchair.Step("round", 1))
-        self.assertEqual(desk.step(), koelchair.Step("settled", 2))
-        self.assertEqual(desk.step(), koelchair.Step("settled", 2))
+        self.assertEqual(desk.step(), koelchair.Step("round", 1, 1))
+        self.assertEqual(desk.step(), koelchair.Step("settled", 2, 1))
+        self.assertEqual(desk.step(), koelchair.Step("settled", 2, 1))
         self.assertEqual((desk.rows(), desk.score()), ([[1]], 1))
         self.assertEqual((desk.value(0, 1, 0), desk.whole(0, 2)), (formula_value(1, 0), formula_value(1, 0)))
         self.assertEqual((desk.share(1), desk.share(2)), (100, 0))
@@ -41,16 +41,28 @@ class Examples(unittest.TestCase):
 
     def test_example_4(self):
         desk = koelchair.Desk(example(4))
-        self.assertEqual(desk.step(), koelchair.Step("row", None))
-        self.assertEqual(desk.step(), koelchair.Step("round", 1))
+        self.assertEqual(desk.step(), koelchair.Step("row", None, 0))
+        self.assertEqual(desk.step(), koelchair.Step("round", 1, 3))
         self.assertEqual(desk.rows(), [[1, 0], [0, 0]])
         standing = desk.standing
-        self.assertEqual((standing.round, standing.row, standing.second_whole), (1, 0, True))
+        self.assertEqual((standing.round, standing.row, standing.second_whole, standing.lowerings), (1, 0, True, 3))
+        self.assertEqual(desk.step(), koelchair.Step("row", None, 3))
         self.assertEqual(desk.settle(), 3)
+        self.assertEqual((desk.standing.lowerings, standing.lowerings), (4, 3))
         self.assertEqual(desk.show(), bytes(4))
         self.assertEqual((desk.standing.settled, standing.settled), (True, False))
         self.assertEqual((desk.whole(0, 1), desk.whole(0, 2)), (formula_value(0, 1), formula_value(1, 1)))
         self.assertEqual((desk.judge(bytes(4)), desk.judge([1, 0, 0, 0]), desk.judge([0, 0, 0, 1])), (True, False, False))
+
+    def test_lowerings_are_those_of_the_whole_rounds(self):
+        desk = koelchair.Desk(case("covered-from"))
+        table, counted = desk.show(), 0
+        while not desk.standing.settled:
+            step = desk.step()
+            counted += sum(old != new for old, new in zip(table, desk.show()))
+            table = desk.show()
+            self.assertEqual((step.lowerings, desk.standing.lowerings), (counted, counted))
+        self.assertEqual(counted, 9)
 
     def test_facts_of_formulas(self):
         # p & !q; AX !q; p & AX (q | AX p); AG p; AX EX AX p
@@ -90,7 +102,7 @@ class Examples(unittest.TestCase):
         desk = koelchair.Desk(example(4))
         desk.settle()
         desk.open(example(1))
-        self.assertEqual((desk.standing.round, desk.settle()), (0, 2))
+        self.assertEqual((desk.standing.round, desk.standing.lowerings, desk.settle()), (0, 0, 2))
 
     def test_a_case_is_written_back(self):
         for bytes_read in [example(1), example(4), case("covered-from")]:
@@ -129,6 +141,7 @@ class Refusals(unittest.TestCase):
         said = self.refused(lambda: desk.open(example(1)[:-1]), 3, 3, words)
         self.assertEqual(said, f"refused 3 3: {words} (part 3 of the case)")
         self.assertEqual((desk.standing.round, desk.standing.settled, desk.show()), (3, True, bytes(4)))
+        self.assertEqual(desk.standing.lowerings, 4)
 
     def test_out_of_range(self):
         desk = koelchair.Desk(example(4))
