@@ -95,7 +95,7 @@ fn settled(standing: &Standing) -> Reply {
 
 /// The standing after a row was worked, and the answer: "It answers Row; after the last row the new table becomes the whole one, the
 /// round goes up by 1, next row is 0, and the answer is Round(r), or Settled(T) when that round equals the one before". Request 107: "Rows
-/// of an unfinished round don't count: at a round's last row the two tables are compared", and so many of their entries differ; "Row, Round
+/// of an unfinished round don't count: at a round's last row the two tables are compared", of which `differing` entries differ; "Row, Round
 /// and Settled carry it."
 fn move_on(standing: &mut Standing, changed: bool, differing: u32) -> Reply {
     let row = standing.row.saturating_add(1);
