@@ -44,7 +44,8 @@ pub enum StepAnswer {
     Settled {
         /// T, the least t above 0 for which round t equals round t − 1.
         round: u32,
-        /// The lowerings of all rounds, at most N1·N2·(h − 1), h being the elements of the lattice's longest chain.
+        /// The lowerings of all rounds. Where only calls wrote the desk they are at most N1·N2·(h − 1), h being the elements of the
+        /// lattice's longest chain.
         lowerings: u32,
     },
 }
