@@ -57,7 +57,7 @@ fn passes(desk: &Desk, table: &[u8]) -> bool {
 fn rounds(desk: &mut Desk) -> Vec<Vec<u8>> {
     let mut tables = vec![desk.show()];
     while !desk.standing.settled {
-        if !matches!(desk.step(), Reply::Row { .. }) {
+        if !matches!(desk.accepted_step(), Reply::Row { .. }) {
             tables.push(desk.show());
         }
     }

@@ -30,7 +30,7 @@ fn line(transition: u8, labels: [u8; 3]) -> Vec<u8> {
 fn answers(desk: &mut Desk) -> Vec<Reply> {
     let mut answers = Vec::new();
     while !desk.standing.settled {
-        answers.push(desk.step());
+        answers.push(desk.accepted_step());
     }
     answers
 }
@@ -42,7 +42,7 @@ fn an_entry_counts_in_each_round_that_lowers_it() {
     let mut tables = vec![desk.show()];
     let mut seen = Vec::new();
     while !desk.standing.settled {
-        seen.push(desk.step());
+        seen.push(desk.accepted_step());
         if desk.standing.row == 0 {
             tables.push(desk.show());
         }

@@ -67,7 +67,7 @@ fn a_difference_two_steps_on() {
     assert_eq!((wholes(1), wholes(2)), ([1, 1, 0, 0], [1, 1, 1, 1]));
     let mut scores = vec![element(desk.score())];
     while !desk.standing.settled {
-        if !matches!(desk.step(), Reply::Row { .. }) {
+        if !matches!(desk.accepted_step(), Reply::Row { .. }) {
             scores.push(element(desk.score()));
         }
     }
@@ -172,7 +172,7 @@ impl<'a> Case<'a> {
             if self.desk.standing.settled {
                 return all;
             }
-            self.desk.step();
+            self.desk.accepted_step();
         }
     }
 }

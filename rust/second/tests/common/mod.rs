@@ -127,7 +127,9 @@ impl Desk {
     /// An opened desk stepped until settled.
     pub fn settled(parts: &[&[u8]]) -> Desk {
         let mut desk = Desk::opened(parts);
-        while !matches!(desk.step(), Reply::Settled { .. }) {}
+        while !desk.standing.settled {
+            desk.accepted_step();
+        }
         desk
     }
 
@@ -148,6 +150,13 @@ impl Desk {
             &mut self.first,
             &mut self.second,
         )
+    }
+
+    /// A step that is not refused, so that a test which goes on until the desk is settled comes to an end.
+    pub fn accepted_step(&mut self) -> Reply {
+        let answer = self.step();
+        assert!(!matches!(answer, Reply::Refused { .. }), "{answer:?}");
+        answer
     }
 
     pub fn show(&self) -> Vec<u8> {
