@@ -13,9 +13,9 @@ pub fn each_round(desk: &mut Desk, mut seen: impl FnMut(&Desk)) -> u32 {
     let mut progress = Progress::new("round");
     loop {
         seen(desk);
-        if let StepAnswer::Settled(rounds) = finish_round(desk) {
+        if let StepAnswer::Settled { round, .. } = finish_round(desk) {
             seen(desk);
-            return rounds;
+            return round;
         }
         progress.at(desk.standing().round);
     }

@@ -1,5 +1,5 @@
-//! What the documents show is so: the case and the refusal in docs/TEXT-FORM.md, what follows each command, what follows from a score in
-//! docs/GUIDE.md, and the bytes and the listing in docs/SPECIFICATION.md.
+//! What the documents show is so: the case and the refusal in docs/TEXT-FORM.md, what follows each command, what follows from a score and
+//! the lowerings of a class in docs/GUIDE.md, and the bytes and the listing in docs/SPECIFICATION.md.
 
 mod common;
 
@@ -104,6 +104,50 @@ fn the_guide_says_what_follows_from_a_score() {
         let row = format!("| {name} | {cells} |");
         assert!(guide.lines().any(|line| line == row), "{row}");
     }
+}
+
+/// A drawing of the class: its score, whether it reaches the ceiling, its lowerings, and its formulas' values.
+fn marked(drawing: &str) -> [String; 4] {
+    let course = folder("../../examples/class/course.case");
+    let course = course.display().to_string();
+    let said =
+        |options: [&str; 2]| run(&[options[0], options[1], &course, "-"], drawing.as_bytes());
+    let marks = said(["mark", "--csv"]).text();
+    let row: Vec<&str> = marks.lines().last().expect("a row").split(',').collect();
+    let stepped = said(["step", "--course"]).text();
+    let (_, lowerings) = stepped.split_once("lowerings in all: ").expect("a sum");
+    [row[3], row[4], lowerings.trim_end(), &row[5..8].join(" ")].map(str::to_string)
+}
+
+/// The guide's table of lowerings: of drawings of the class, and of one of them drawn with a state less.
+#[test]
+fn the_guide_has_the_lowerings_of_a_class() {
+    let row = |name: &str, [score, ceiling, lowerings, _]: &[String; 4]| {
+        format!("| {name} | {score} | {ceiling} | {lowerings} |")
+    };
+    let students = folder("../../examples/class/students");
+    let drawing = |name: &str| {
+        let whole = text(&students.join(name).with_extension("case"));
+        whole.replace("include \"../course.case\"\n", "")
+    };
+    let names = ["anna", "kamil", "mehmet", "elif"];
+    let mut rows = names
+        .map(|name| row(name, &marked(&drawing(name))))
+        .to_vec();
+    let elif = drawing("elif");
+    assert_eq!(elif.matches("fading off").count(), 4);
+    let (larger, smaller) = (marked(&elif), marked(&elif.replace("fading off", "blank")));
+    rows.push(row(
+        "elif, with one state `blank` for `fading` and `off`",
+        &smaller,
+    ));
+    let guide = text(&folder("../../docs/GUIDE.md"));
+    let head = "| Drawing | Score | Ceiling | Lowerings |\n|---|---|---|---|\n";
+    let (_, rest) = guide.split_once(head).expect("the table");
+    let table: Vec<&str> = rest.lines().take_while(|line| !line.is_empty()).collect();
+    assert_eq!(table, rows);
+    assert_eq!((&larger[..2], &larger[3]), (&smaller[..2], &smaller[3]));
+    assert_ne!(larger[2], smaller[2]);
 }
 
 #[test]

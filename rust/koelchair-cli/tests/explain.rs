@@ -46,7 +46,7 @@ fn parts_meet_to_the_library_s_entries() {
                 );
                 assert_eq!(worked, *found, "entry {place}\n{}", print(&case));
             }
-            if matches!(answer, Some(StepAnswer::Settled(_))) {
+            if matches!(answer, Some(StepAnswer::Settled { .. })) {
                 break;
             }
         }

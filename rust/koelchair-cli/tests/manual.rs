@@ -77,6 +77,16 @@ fn a_help_has_the_options_of_its_command() {
 }
 
 #[test]
+fn the_page_and_the_help_say_what_step_counts() {
+    let on_one_line = |text: String| text.split_whitespace().collect::<Vec<_>>().join(" ");
+    for text in [page(), said(&["step", "--help"])].map(on_one_line) {
+        let counted = "how many entries the round lowered, and the score that it would give; \
+                       at the end the lowerings of all these rounds.";
+        assert!(text.contains(counted), "{text}");
+    }
+}
+
+#[test]
 fn the_page_has_the_version() {
     let version = said(&["--version"]);
     assert!(page().contains(&format!("\"{}\"", version.trim_end())));

@@ -64,7 +64,7 @@ impl Explanation {
         let mut agrees = true;
         let mut progress = Progress::new("round");
         loop {
-            let settled = matches!(finish_round(&mut opened.desk), StepAnswer::Settled(_));
+            let settled = matches!(finish_round(&mut opened.desk), StepAnswer::Settled { .. });
             let (entry, round) = (opened.desk.show()[place], opened.desk.standing().round);
             progress.at(round);
             let last = if settled { " (settled)" } else { "" };

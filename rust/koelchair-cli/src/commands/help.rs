@@ -39,8 +39,9 @@ const COMMANDS: [(&str, &str, &str); 12] = [
     (
         "step",
         "koelchair step [--rounds R] [--table | --json] FILE",
-        "Prints the table after each round with names, and the score that it would give. Rows are states of model 1, columns\n\
-         states of model 2. Only the settled table is a result.\n\
+        "Prints the table after each round with names, how many entries the round lowered, and the score that it would give; at\n\
+         the end the lowerings of all these rounds. Rows are states of model 1, columns states of model 2. Only the settled table\n\
+         is a result.\n\
          --rounds  stops after round R\n\
          --table   the last of these tables alone, as judge reads it",
     ),

@@ -1,5 +1,5 @@
-//! What the page shows, as JSON. Entries of every round, scores, T, the formulas' values and their facts come from the library. Names,
-//! transitions and the order are those of the case. Levels, covering pairs and the table of (not a) joined with b come from the
+//! What the page shows, as JSON. Entries of every round, scores, T, lowerings, the formulas' values and their facts come from the library.
+//! Names, transitions and the order are those of the case. Levels, covering pairs and the table of (not a) joined with b come from the
 //! order, by `tables` as in `explain`: the library has no call for a single operation of the lattice. Reasons are those of `why`.
 
 use super::why;
@@ -25,7 +25,7 @@ pub fn of(case: &Case, bytes: &[u8], owners: [&str; 2]) -> Result<String, Failur
         Operations::of(&case.lattice).ok_or_else(|| Failure::Other(no_lattice.to_string()))?;
     let mut desk = open(bytes)?;
     let first = numbers(desk.show());
-    let rounds = rounds(&mut desk);
+    let (rounds, lowerings) = rounds(&mut desk);
     let formula = |(f, named)| formula(case, &desk, f, named);
     let formulas: Vec<String> = case
         .formulas
@@ -51,6 +51,7 @@ pub fn of(case: &Case, bytes: &[u8], owners: [&str; 2]) -> Result<String, Failur
         ("formulas", array(formulas)),
         ("first", first),
         ("rounds", array(rounds)),
+        ("lowerings", numbers(lowerings)),
         ("why", why::of(&reasoning, desk.score().0, owners)?),
     ]))
 }
@@ -76,10 +77,12 @@ pub fn exchanged(case: &Case) -> Case {
     other
 }
 
-/// For each round from 0 to T: its score, then for each entry that differs from the round before its place and its element.
-/// The last is the round that the library calls settled. An entry never rises, so there are at most N1·N2·(n − 1) changes.
-fn rounds(desk: &mut Desk) -> Vec<String> {
+/// For each round from 0 to T: its score, then for each entry that differs from the round before its place and its element; and the
+/// library's count of lowerings, those of all rounds up to it. The last is the round that the library calls settled. An entry never
+/// rises, so there are at most N1·N2·(n − 1) changes.
+fn rounds(desk: &mut Desk) -> (Vec<String>, Vec<u32>) {
     let mut rounds = vec![numbers([desk.score().0])];
+    let mut lowerings = vec![desk.standing().lowerings];
     let mut progress = Progress::new("round");
     loop {
         let before = desk.show().to_vec();
@@ -93,8 +96,9 @@ fn rounds(desk: &mut Desk) -> Vec<String> {
         let mut round = vec![usize::from(desk.score().0)];
         round.extend(changes.flat_map(|(i, e)| [i, usize::from(*e)]));
         rounds.push(numbers(round));
-        if matches!(answer, StepAnswer::Settled(_)) {
-            return rounds;
+        lowerings.push(desk.standing().lowerings);
+        if matches!(answer, StepAnswer::Settled { .. }) {
+            return (rounds, lowerings);
         }
     }
 }

@@ -118,9 +118,9 @@ fn rounds_are_the_librarys() {
         let mut expected = vec![shown(&desk)];
         loop {
             match desk.step() {
-                StepAnswer::Row => {}
-                StepAnswer::Round(_) => expected.push(shown(&desk)),
-                StepAnswer::Settled(rounds) => {
+                StepAnswer::Row { .. } => {}
+                StepAnswer::Round { .. } => expected.push(shown(&desk)),
+                StepAnswer::Settled { round: rounds, .. } => {
                     expected.push(shown(&desk));
                     assert_eq!(expected.len(), rounds as usize + 1, "{name}");
                     break;
@@ -240,7 +240,7 @@ fn the_exchanged_case_is_worked_by_the_library() {
         .replace("model 3", "model 2");
     let mut desk = Desk::open(&bytes(&swapped)).expect("accepted");
     let mut expected = vec![shown(&desk)];
-    while !matches!(desk.finish_round(), StepAnswer::Settled(_)) {
+    while !matches!(desk.finish_round(), StepAnswer::Settled { .. }) {
         expected.push(shown(&desk));
     }
     expected.push(shown(&desk));

@@ -1,4 +1,4 @@
-//! What the tool says by itself: warnings, marks of a class, reasons, judged tables, JSON, and what happens where something goes wrong.
+//! What the tool says by itself: warnings, marks of a class, reasons, judged tables, lowerings, JSON, and what happens where something goes wrong.
 
 #[path = "../common/mod.rs"]
 mod common;
@@ -9,6 +9,7 @@ mod faults;
 mod formulas;
 mod includes;
 mod judged;
+mod lowered;
 mod marks;
 mod reasons;
 mod said;
