@@ -13,6 +13,24 @@ window.probe = {
     };
   },
 
+  // The lowerings: what stands below the round's number, the sentences further down, how many entries are marked as lower, for each bar
+  // its round and its height, up to which round the bars are full, and where the line stands, in per cent (null where there is none).
+  lowered() {
+    const box = document.getElementById("lowered-bars");
+    const [later, full] = [...box.querySelectorAll("path")].map((path) => path.getAttribute("d"));
+    const line = box.querySelector("i");
+    return {
+      beside: document.getElementById("lowered").textContent,
+      words: document.getElementById("lowered-words").textContent,
+      marked: document.querySelectorAll(".cell.lower").length,
+      bars: [...(later ?? "").matchAll(/M([\d.]+) 100v-([\d.]+)/g)].map(([, left, height]) => [Math.floor(left) + 1, Number(height)]),
+      same: later === full,
+      shown: box.checkVisibility(),
+      full: line && Number(box.querySelector("rect").getAttribute("width")) - 1,
+      line: line?.checkVisibility() ? parseFloat(line.style.left) : null,
+    };
+  },
+
   // Of a table whose rows begin with a formula's name: the elements in each row.
   chips(box) {
     const rows = [...document.querySelectorAll(`#${box} tbody tr`)];

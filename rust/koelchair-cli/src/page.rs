@@ -17,10 +17,11 @@ const STYLE: &str = include_str!("page/style.css");
 /// What stands on the page before the script has run.
 const BODY: &str = include_str!("page/body.html");
 /// The script, in the order in which its parts rest on each other.
-const SCRIPT: [&str; 10] = [
+const SCRIPT: [&str; 11] = [
     include_str!("page/base.js"),
     include_str!("page/colours.js"),
     include_str!("page/table.js"),
+    include_str!("page/lowerings.js"),
     include_str!("page/bounds.js"),
     include_str!("page/pair.js"),
     include_str!("page/layout.js"),

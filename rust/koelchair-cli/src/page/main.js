@@ -92,6 +92,7 @@ function start() {
   showModels();
   showLattice();
   showFormulas();
+  startLowerings();
   startControls();
   fitStage();
   readAddress();

@@ -123,6 +123,7 @@ function goTo(round) {
   lowered.forEach((place) => touched.add(place));
   touched.forEach(showCell);
   showStanding();
+  showLowerings();
   showOverview();
   showWhole();
   showPair();

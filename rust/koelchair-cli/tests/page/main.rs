@@ -2,6 +2,7 @@
 
 mod bounds;
 mod json;
+mod lowerings;
 
 use json::{read, Json};
 use koelchair::{Desk, State, StepAnswer};
