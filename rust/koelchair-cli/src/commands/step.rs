@@ -1,4 +1,4 @@
-//! `step`: the table after each round, or the last of them alone in the lines that `judge` reads.
+//! `step`: the table after each round with how many entries it lowered, or the last of them alone in the lines that `judge` reads.
 
 use super::{document, open, read_text, table, Arguments, Failure, Opened, Outcome, Printed};
 use crate::case::Case;

@@ -113,7 +113,7 @@ fn a_stopped_calculation_says_what_is_lowered_so_far() {
 }
 
 #[test]
-fn an_entry_that_falls_in_two_rounds_counts_twice() {
+fn an_entry_that_two_rounds_lower_counts_twice() {
     let course = example("class/course.case");
     let said = stepped(&["--course", &course, &example("class/students/paula.case")]);
     let said = said.expect("accepted");
