@@ -138,7 +138,7 @@ module _ (c : Content) (T : ℕ) (answers : List Reply) (d : Desk) where
     pub h-exists : (h : ℕ) × LongestChain (ops c) h
     pub T-most : (h : ℕ) → LongestChain (ops c) h → T ≤ tableSize c * (h - 1) + 1
     -- 'The last accepted step since that opening, if there was one, answered Settled(T) when r = T, else Round(r) when s is a multiple of
-    -- N1, else Row', with the lowerings of the rounds 1 to r
+    -- N1, else Row', with the lowerings of the rounds 1 to r. (The list is not empty: Opened, which no step answers, stands for no answer.)
     pub answered : 0 < s → getD answers (s - 1) Reply.Opened ≡ answerAfter c T s
     -- request 107: the standing's count is 'the entries that differ from the round before, summed over the whole rounds shown', that is, over the rounds 1
     -- to r, and 'at most N1·N2·(h − 1)'. The last accepted step answered it (`answered`); from T on it stays, as r does.

@@ -1,4 +1,4 @@
--- Demand 3 holds. Rests on Demand3, Listed, Next, Covered, Judged, WrittenBack, Stands, RefusedLaws, and theory's Rounds, Height and Sharp.
+-- Demand 3 holds. Rests on Demand3, Listed, Next, Covered, Judged, WrittenBack, Stands, RefusedLaws, and theory's Rounds, RoundLowerings, Height and Sharp.
 --   demand3: every list of calls with an accepted opening in it has the demand; listed: the claim holds for whatever last accepted opening and T
 --   claimed: the claim from the invariant; same-shown: show's answer leaves no choice
 --   ranges, asked-next; value-next, whole-next, score-next, share-next, judge-next: what it says of the questions one by one
@@ -9,7 +9,6 @@ use mathlib.Core.Bool.{true, false}
 use mathlib.Core.Logic.{inl, _↔_}
 use mathlib.Core.List.{List, _∷_}
 use native.Mathlib.Omega.{arith}
-use borrow.Author.Tests.{eq-eqb}
 use lib.Dec.{eqb}
 use lib.ListN.{length, getD, take}
 use Rattle.theory.specs.Value.{valueAt, wholeValue}
@@ -33,7 +32,7 @@ use Rattle.desk.specs.Run.{run, openings, LastOpening, answersSince, rou
 use Rattle.desk.specs.RefusedLaws.{perform-accepted, OpenAccepted, open-long, open-accepted, answered-reply}
 use Rattle.desk.specs.RulesLaws.{spoiled-exactly}
 use Rattle.desk.specs.Stands.{known-sound, Stands, opening-starts}
-use Rattle.desk.specs.Next.{at, stands-unspoiled, never-11-or-12, ranges-are, shows, below-shown, show-is, answered-from}
+use Rattle.desk.specs.Next.{same-number, at, stands-unspoiled, never-11-or-12, ranges-are, shows, below-shown, show-is, answered-from}
 use Rattle.desk.specs.Covered.{shown-by-round, shown-at-T, scored-by-round, scored-at-T, promised-by-facts}
 use Rattle.desk.specs.Judged.{PostFixed, judge-yes, judge-no, passes-exactly, passed-le, passed-bounds, simulation-passes, round-passes-exactly}
 use Rattle.desk.specs.WrittenBack.{written-opens}
@@ -81,7 +80,7 @@ module _ {c : Content} {T : ℕ} where
         T-most = λ n l. T-at-most L (model1 c) (model2 c) n l T (w .known .isT);
         answered = λ l. let z : suc (length answers - 1) ≡ length answers = omega arith in each (length answers - 1) (omega arith) ∙ ap (answerAfter c T) z;
         lowerings-are = p .lowerings-are;
-        lowerings-most = λ m l. rw (w .progress .lowered) (lowerings-most L (model1 c) (model2 c) eqb (λ a. eq-eqb a a refl) m l (d .standing .round));
+        lowerings-most = λ m l. rw (w .progress .lowerings-are) (lowerings-most L (model1 c) (model2 c) eqb same-number m l (d .standing .round));
         not-short = stands-unspoiled w .long;
         not-spoiled = spoiled-exactly d .1 (c, stands-unspoiled w .rules);
         not-11 = λ k q. never-11-or-12 w k ShortDesk q (omega arith) (omega arith);

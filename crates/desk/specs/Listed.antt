@@ -99,6 +99,7 @@ reading-unchanged k d o s = call-unchanged k d (ap (λ (x : Bool). x && accepted
 
 pub record Since (c : Content) (T s : ℕ) (answers : List Reply) (d : Desk) : Type 0 where
   pub stands : Stands c T (s + length answers) d
+  -- no answer is missing, for which Opened would stand
   pub each : (i : ℕ) → i < length answers → getD answers i Reply.Opened ≡ answerAfter c T (s + suc i)
 
 module _ {c : Content} {T : ℕ} where

@@ -1,5 +1,5 @@
 -- What a desk that stands after s accepted steps is: its standing, the call that comes next, and what it answers.
--- Rests on Stands, Position, RefusedLaws, ViewLaws, Case, Refused, Perform, Run, theory's Rounds, rounds' Round.
+-- Rests on Stands, Position, RefusedLaws, ViewLaws, Case, Refused, Perform, Run, theory's Rounds and RoundLowerings, rounds' Round.
 --   at: round, next row, settled and lowerings after s accepted steps
 --   stands-unspoiled, never-11-or-12: neither 11 nor 12 applies to the next call
 --   ranges-are, next-answer, next-desk: it is accepted where its own conditions hold, and works on c
@@ -27,7 +27,7 @@ use Rattle.casefile.specs.Numbered.{CaseNumber, case-number}
 use Rattle.rounds.specs.Table.{changedBelow}
 use Rattle.rounds.specs.Round.{changed-none, shown-bytes}
 use Rattle.desk.specs.Desk.{Desk, Question, Call, Reply, Answered, wholeTable, isOpen}
-use Rattle.desk.specs.Case.{ops, latticeSize, model1, model2, N1, tableSize, operator, roundIn, limit, tableBytes}
+use Rattle.desk.specs.Case.{ops, latticeSize, model1, model2, tableSize, operator, roundIn, limit, tableBytes}
 use Rattle.desk.specs.View.{viewOf, shownTable}
 use Rattle.desk.specs.Refused.{Rules, conditions, callConditions, firstRefusal, noRefusal, afterRules, examined, isContent, accepted}
 use Rattle.desk.specs.Perform.{perform, showAnswer, answer, moved, lentAfter}
@@ -37,6 +37,10 @@ use Rattle.desk.specs.RulesLaws.{Long, long-not-short, range-exactly, br
 use Rattle.desk.specs.ViewLaws.{SameView, conditions-cong, answer-cong}
 use Rattle.desk.specs.Stands.{known-sound, DeskBeforeT, DeskAtT, Stands, sizes-most}
 use Rattle.desk.specs.Position.{Position, position}
+
+-- a number equals itself, as a test
+pub same-number : (a : ℕ) → eqb a a ≡ true
+same-number a = eq-eqb a a refl
 
 no-refusal : (x : Option Refusal) → noRefusal x ≡ true → x ≡ none
 no-refusal none e = refl
@@ -74,7 +78,7 @@ module _ {c : Content} {T s : ℕ} {d : Desk} (w : Stands c T s d) where
   T-limit = T-at-most-size (content-is-sound .laws) (model1 c) (model2 c) T (w .known .isT)
 
   lowerings-limit : d .standing .lowerings ≤ limit c
-  lowerings-limit = rw (w .progress .lowered) (lowerings-most-size (content-is-sound .laws) (model1 c) (model2 c) eqb (λ a. eq-eqb a a refl) (d .standing .round))
+  lowerings-limit = rw (w .progress .lowerings-are) (lowerings-most-size (content-is-sound .laws) (model1 c) (model2 c) eqb same-number (d .standing .round))
 
   beforeT-rules : DeskBeforeT c T s d → Rules d c
   beforeT-rules g =

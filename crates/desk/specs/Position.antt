@@ -36,7 +36,7 @@ pub record Position (c : Content) (T s : ℕ) (x : Standing) : Type 0 where
   pub answer-is : stepAnswer x ≡ answerAfter c T s
 
 -- where the lowerings are those of the rounds up to the standing's
-module _ {c : Content} {T s : ℕ} {x : Standing} (lowered : x .lowerings ≡ loweringsIn c (x .round)) where
+module _ {c : Content} {T s : ℕ} {x : Standing} (total : x .lowerings ≡ loweringsIn c (x .round)) where
   beforeT-position : {whole other : List ℕ} → BeforeT c T s x whole other → Position c T s x
   beforeT-position g =
       let d : s / N1 c ≡ x .round = div-of (N1 c) (x .round) (x .row) s (g .row-below) (g .count) in
@@ -50,8 +50,8 @@ module _ {c : Content} {T s : ℕ} {x : Standing} (lowered : x .lowerings ≡ lo
         row-at-T = λ z. absurd (n z);
         settled-exactly = (λ z. absurd (false-true (g .unsettled) z), λ z. absurd (n z));
         settled-is = g .unsettled ∙ sym (ne-eqb _ _ n);
-        lowerings-are = lowered ∙ ap (loweringsIn c) (sym p);
-        answer-is = rw (g .unsettled, ne-eqb _ _ n, p, m, lowered);
+        lowerings-are = total ∙ ap (loweringsIn c) (sym p);
+        answer-is = rw (g .unsettled, ne-eqb _ _ n, p, m, total);
       }
 
   atT-position : 0 < N1 c → AtT c T s x → Position c T s x
@@ -63,9 +63,9 @@ module _ {c : Content} {T s : ℕ} {x : Standing} (lowered : x .lowerings ≡ lo
         row-at-T = λ z. e .row-0;
         settled-exactly = (λ z. p, λ z. e .isSettled);
         settled-is = e .isSettled ∙ sym (eq-eqb _ _ p);
-        lowerings-are = lowered ∙ ap (loweringsIn c) (e .at-T ∙ sym p);
-        answer-is = rw (e .isSettled, eq-eqb _ _ p, lowered, e .at-T, p);
+        lowerings-are = total ∙ ap (loweringsIn c) (e .at-T ∙ sym p);
+        answer-is = rw (e .isSettled, eq-eqb _ _ p, total, e .at-T, p);
       }
 
 pub position : {c : Content} {T s : ℕ} {x : Standing} {whole other : List ℕ} → 0 < N1 c → Progress c T s x whole other → Position c T s x
-position states h = ⊎-elim (beforeT-position (h .lowered)) (atT-position (h .lowered) states) (h .place)
+position states h = ⊎-elim (beforeT-position (h .lowerings-are)) (atT-position (h .lowerings-are) states) (h .place)

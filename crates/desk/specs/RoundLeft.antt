@@ -23,7 +23,7 @@ leftIn d (content c) = cond (d .standing .settled) 1 (N1 c - d .standing .row)
 unfoldable pub stepsLeft : Desk → ℕ
 stepsLeft d = leftIn d (examined Call.Step d)
 
--- 'Each call (..) gets these as the call before left them': what m steps do, with the answer of the last of them
+-- 'Each call (..) gets these as the call before left them': what m steps do, with the answer of the last of them; Opened, which no step answers, where m is 0
 abbrev pub stepsDone : ℕ → Desk → After
 stepsDone m d = record { reply = getD (replies (replicate m Call.Step) d) (m - 1) Reply.Opened; desk = run (replicate m Call.Step) d; lent = [] }
 

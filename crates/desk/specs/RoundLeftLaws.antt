@@ -1,11 +1,11 @@
--- What the steps that are left in a round do, and that demand 3 goes through them. Rests on RoundLeft, Stepping, Listed, Settling and rounds' Rest.
---   ended, by endedBy and roundDone: the desk after the last row of a round
+-- What the steps that are left in a round do, and that demand 3 goes through them. Rests on RoundLeft, Stepping, Listed and rounds' Rest.
+--   ended, by endedBy and endedFrom: the desk after the last row of a round
 --   one-finished: where one step is left; rest-finished, settled-finished: where an accepted desk is unsettled, and where it is settled
 --   step-obeys-rules: a row that is not the last leaves a desk to which neither 11 nor 12 applies
 --   acts-run, acts-demand3: a list with the rest of a round in it is a list of calls
-use Prim.Native.Nat.{ℕ, zero, suc, _+_, _*_, _-_, _≤_, _<_}
+use Prim.Native.Nat.{ℕ, zero, suc, _+_, _-_, _≤_, _<_}
 use mathlib.Core.Path.{_≡_, refl, sym, ap, ap₂, _∙_}
-use mathlib.Core.Bool.{Bool, true, false, cond, not, _||_, or-false, or-assoc}
+use mathlib.Core.Bool.{Bool, true, false, cond, _||_, or-false, or-assoc}
 use mathlib.Core.List.{List, [], _∷_}
 use native.Mathlib.Omega.{arith}
 use borrow.Author.Tests.{eq-eqb, ne-eqb, lt-ltb, ltb-true}
@@ -13,7 +13,7 @@ use lib.Dec.{eqb}
 use lib.ListN.{length, getD, take, replicate}
 use Rattle.theory.specs.Rounds.{F-element}
 use Rattle.theory.specs.TestLaws.{false-true, cond-true, cond-false}
-use Rattle.casefile.specs.Reading.{Content, content}
+use Rattle.casefile.specs.Reading.{Content}
 use Rattle.casefile.specs.Content.{ContentSound, content-sound}
 use Rattle.rounds.specs.Table.{rowChanged}
 use Rattle.rounds.specs.Round.{row-elements}
@@ -21,7 +21,6 @@ use Rattle.rounds.specs.Rest.{rowsFrom, rowsChanged, row-length}
 use Rattle.desk.specs.Desk.{Standing, Desk, Call, Reply, wholeTable, otherTable}
 use Rattle.desk.specs.Case.{ops, latticeSize, model1, model2, N1, tableSize, operator, differingIn}
 use Rattle.desk.specs.View.{givenTable, shownTable}
-use Rattle.desk.specs.Refused.{Rules, examined}
 use Rattle.desk.specs.Moved.{rowWorked, changedNow, loweredNow, nextRow, nextRound, worked, stepped, stepAnswer}
 use Rattle.desk.specs.Perform.{After, perform, answer, moved, lentAfter}
 use Rattle.desk.specs.Run.{run, replies, openings}
@@ -73,14 +72,15 @@ module _ (c : Content) where
   abbrev differ : ℕ → (ℕ → ℕ → ℕ) → ℕ → Bool
   differ m S q = rowsChanged (model1 c) (model2 c) (operator c) S m q
 
-  -- the desk d after m rows from row q on, the last of the round among them, where `before` says whether the rows before have changed anything
-  unfoldable pub roundDone : ℕ → Desk → Bool → ℕ → List ℕ → List ℕ → Desk
-  roundDone m d before q whole other =
+  -- the desk d after m rows from row q on are worked from the table `whole` into `other`, the last of the round among them, where `before` says whether the
+  -- rows before have changed anything
+  unfoldable pub endedFrom : ℕ → Desk → Bool → ℕ → List ℕ → List ℕ → Desk
+  endedFrom m d before q whole other =
       let out = rows m (givenTable c whole) q other in
       withOther d (nextRound (before || differ m (givenTable c whole) q) (d .standing .lowerings + differingIn c (givenTable c whole) (givenTable c out)) (d .standing)) out
 
   abbrev pub endedBy : ℕ → Desk → Desk
-  endedBy m d = roundDone m d (d .standing .changed) (d .standing .row) (wholeTable d) (otherTable d)
+  endedBy m d = endedFrom m d (d .standing .changed) (d .standing .row) (wholeTable d) (otherTable d)
 
   abbrev pub ended : Desk → Desk
   ended d = endedBy (N1 c - d .standing .row) d
@@ -153,7 +153,7 @@ module _ (c : Content) where
 
   -- one row, then m rows: m + 1 rows
   ended-next : (m : ℕ) (d : Desk) → endedBy m (rowDone d) ≡ endedBy (suc m) d
-  unfolding roundDone rowsFrom rowsChanged
+  unfolding endedFrom rowsFrom rowsChanged
   ended-next m d =
       let w = d .standing .secondWhole in
       let q = d .standing .row + 1 in
@@ -163,7 +163,7 @@ module _ (c : Content) where
       ap₂ (λ (f g : List ℕ). record { standing = endedBy m e .standing; store = d .store; first = f; second = g })
       (twice-first w (d .first) (rowWorked c d) out)
       (twice-second w (d .second) (rowWorked c d) out)
-      ∙ ap₂ (roundDone m d now q)
+      ∙ ap₂ (endedFrom m d now q)
       (keep-whole w (d .first) (d .second) (rowWorked c d))
       (keep-other w (d .first) (d .second) (rowWorked c d))
       ∙ ap (λ (b : Bool). withOther d (nextRound b (d .standing .lowerings + differingIn c (shownTable c d) (givenTable c (rows m (shownTable c d) q (rowWorked c d)))) (d .standing)) (rows m (shownTable c d) q (rowWorked c d)))
@@ -171,7 +171,7 @@ module _ (c : Content) where
 
   -- the last row
   ended-last : (d : Desk) → withOther d (nextRound (changedNow c d) (d .standing .lowerings + loweredNow c d) (d .standing)) (rowWorked c d) ≡ endedBy 1 d
-  unfolding roundDone rowsFrom rowsChanged
+  unfolding endedFrom rowsFrom rowsChanged
   ended-last d = ap (λ (b : Bool). withOther d (nextRound (d .standing .changed || b) (d .standing .lowerings + loweredNow c d) (d .standing)) (rowWorked c d)) (sym (or-false (rowChanged (model1 c) (model2 c) (operator c) (shownTable c d) (d .standing .row))))
 
   steps-end : (m : ℕ) (d : Desk) → Unspoiled d c → d .standing .settled ≡ false → d .standing .row + suc m ≡ N1 c

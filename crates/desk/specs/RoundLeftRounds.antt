@@ -21,7 +21,7 @@ use Rattle.desk.specs.Stands.{Stands, DeskBeforeT, DeskAtT}
 use Rattle.desk.specs.Next.{at, stands-unspoiled}
 use Rattle.desk.specs.Settling.{steps-stand, opened-stands}
 use Rattle.desk.specs.RoundLeft.{stepsLeft, finished, Act, runActs}
-use Rattle.desk.specs.RoundLeftLaws.{roundDone, rest-finished, settled-finished}
+use Rattle.desk.specs.RoundLeftLaws.{endedFrom, rest-finished, settled-finished}
 
 -- ---- the smaller of n and T, while it is below T, and once it is T
 
@@ -49,7 +49,7 @@ record Between (c : Content) (T n : ℕ) (d : Desk) : Type 0 where
 
 module _ {c : Content} {T : ℕ} where
   between-more : (n : ℕ) (d : Desk) → Between c T n d → Between c T (n + 1) (finished d .desk)
-  unfolding roundDone
+  unfolding endedFrom
   between-more n d w = ⊎-elim beforeT done (w .stands .progress .place)
     where
       next : Stands c T (w .steps + stepsLeft d) (finished d .desk)

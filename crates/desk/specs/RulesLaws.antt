@@ -66,7 +66,7 @@ rules-out d c e h =
       settled-row = λ z. let k = settled z in eqb-true _ _ (search (and-l, and-r));
       lowerings-most = leb-true _ _ lowerings;
       first-below = λ i l. ltb-true _ _ (all-at (tableSize c) (λ j. ltb (getD (d .first) j 0) (latticeSize c)) (search (and-l, and-r)) i l);
-      second-below = λ i l. ltb-true _ _ (all-at (tableSize c) (λ j. ltb (getD (d .second) j 0) (latticeSize c)) (search (and-l, and-r)) i l);
+      second-below = λ i l. ltb-true _ _ (all-at (tableSize c) (λ j. ltb (getD (d .second) j 0) (latticeSize c)) (and-r _ _ h) i l);
     }
   where
     round : roundObeys (limit c) (d .standing) ≡ true

@@ -1,5 +1,5 @@
 -- The invariant of demand 3, 'this desk is what the content c gives after s accepted steps', and that an accepted opening starts it.
--- Rests on Case, Refused, Moved, RulesLaws, rounds' Round, casefile's Accepted and Content.
+-- Rests on Case, Refused, Moved, RulesLaws, rounds' Round, theory's Lowerings, casefile's Accepted and Content.
 --   Known: the content of an accepted case, and its T; known-sound, sizes-most, some-states: what it gives
 --   SizesAre: the standing's sizes; BeforeT, AtT, Progress: before T, at T, and what holds of both; DeskBeforeT, DeskAtT, ProgressAt: the same of a desk
 --   Stands: the invariant; opening-starts: an accepted opening starts it
@@ -66,7 +66,7 @@ module _ (c : Content) (T : ℕ) where
     pub whole-elements : (i : ℕ) → i < tableSize c → Element (ops c) (getD whole i 0)
     pub other-elements : (i : ℕ) → i < tableSize c → Element (ops c) (getD other i 0)
     pub shown : SameTable (ops c) (model1 c) (model2 c) (tableOf whole (N2 c)) (roundIn c (x .round))
-    pub lowered : x .lowerings ≡ loweringsIn c (x .round)
+    pub lowerings-are : x .lowerings ≡ loweringsIn c (x .round)
     pub place : BeforeT s x whole other ⊎ AtT s x
 
   -- the same of a desk's standing and tables
@@ -135,7 +135,7 @@ module _ {c : Content} {T : ℕ} (known : Known c T) where
           whole-elements = topped-elements (d .first) (w .first-long);
           other-elements = topped-elements (d .second) (w .second-long);
           shown = top-round (ops c) (model1 c) (model2 c) (operator c) (topped c (d .first)) (topped-at (d .first) (w .first-long));
-          lowered = sym (lowerings-none eqb (N1 c) (N2 c) (roundIn c));
+          lowerings-are = sym (lowerings-none eqb (N1 c) (N2 c) (roundIn c));
           place = inl (record { unsettled = refl; below = known .isT .above0; row-below = some-states; count = omega arith; before = topped c (d .second); so-far = round-none });
         };
       }

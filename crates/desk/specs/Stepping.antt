@@ -1,6 +1,6 @@
--- An accepted step moves the invariant of demand 3 on by one step. Rests on Stands, Moved, rounds' Round and theory's Rounds.
+-- An accepted step moves the invariant of demand 3 on by one step. Rests on Stands, Moved, rounds' Round, theory's Rounds and Lowerings.
 use Prim.Native.Nat.{ℕ, suc, _+_, _-_, _≤_, _<_}
-use mathlib.Core.Path.{_≡_, refl, sym, ap, ap₂, _∙_, subst}
+use mathlib.Core.Path.{_≡_, refl, sym, ap₂, _∙_, subst}
 use mathlib.Core.Bool.{Bool, true, false, cond, not, _||_}
 use mathlib.Core.Logic.{_⊎_, inl, inr, ⊎-elim}
 use mathlib.Core.List.{List}
@@ -93,7 +93,7 @@ module _ {c : Content} {T : ℕ} (known : Known c T) where
           whole-elements = h .whole-elements;
           other-elements = out-elements;
           shown = h .shown;
-          lowered = h .lowered;
+          lowerings-are = h .lowerings-are;
           place = inl (record { unsettled = refl; below = g .below; row-below = l; count = omega (arith, g .count); before = g .before; so-far = more });
         }
 
@@ -123,9 +123,9 @@ module _ {c : Content} {T : ℕ} (known : Known c T) where
       abbrev compared : ℕ
       compared = differingIn c S (tableOf out (N2 c))
 
-      lowered-more : x .lowerings + compared ≡ loweringsIn c (suc round)
-      lowered-more =
-          ap₂ _+_ (h .lowered) (differing-cong eqb (N1 c) (N2 c) S (roundIn c round) (tableOf out (N2 c)) (roundIn c (suc round)) (h .shown) (done .holds))
+      lowerings-are-more : x .lowerings + compared ≡ loweringsIn c (suc round)
+      lowerings-are-more =
+          ap₂ _+_ (h .lowerings-are) (differing-cong eqb (N1 c) (N2 c) S (roundIn c round) (tableOf out (N2 c)) (roundIn c (suc round)) (h .shown) (done .holds))
           ∙ sym (lowerings-more eqb (N1 c) (N2 c) (roundIn c) round)
 
       place-after : (n : Bool) → now ≡ n → BeforeT c T (s + 1) (nextRound n (x .lowerings + compared) x) out whole ⊎ AtT c T (s + 1) (nextRound n (x .lowerings + compared) x)
@@ -151,7 +151,7 @@ module _ {c : Content} {T : ℕ} (known : Known c T) where
             whole-elements = out-elements;
             other-elements = h .whole-elements;
             shown = rw add-one (done .holds);
-            lowered = rw add-one lowered-more;
+            lowerings-are = rw add-one lowerings-are-more;
             place = place-after now refl;
           }
 
@@ -223,7 +223,7 @@ module _ {c : Content} {T : ℕ} (known : Known c T) where
         whole-elements = w .progress .whole-elements;
         other-elements = w .progress .other-elements;
         shown = w .progress .shown;
-        lowered = w .progress .lowered;
+        lowerings-are = w .progress .lowerings-are;
         place = inr (record { isSettled = x .isSettled; at-T = x .at-T; row-0 = x .row-0; unchanged = x .unchanged; enough = omega (arith, x .enough) });
       })))
       (w .progress .place)

@@ -1,4 +1,5 @@
 -- What the rest of a round does, from the rows that were worked. Rests on Stepped, desk_check's Held, desk's RoundLeftLaws and rounds' Rest.
+--   roundBy, RestWorked: the standing after the last row, and that the rows which are left are worked: terms of the code's contracts
 --   refused-rest: on a desk that is refused
 --   rest-into-first, rest-into-second: the rows that are left are worked into the first table, or into the second
 use Prim.Native.Nat.{ℕ, _+_, _-_}
@@ -19,12 +20,12 @@ use Rattle.desk.specs.Refused.{examined, numberReply}
 use Rattle.desk.specs.Moved.{nextRound, stepAnswer}
 use Rattle.desk.specs.Perform.{After}
 use Rattle.desk.specs.RoundLeft.{leftIn, stepsLeft, Finishes}
-use Rattle.desk.specs.RoundLeftLaws.{one-finished, rest-finished, roundDone, ended}
+use Rattle.desk.specs.RoundLeftLaws.{one-finished, rest-finished, endedFrom, ended}
 use Rattle.desk_check.specs.declared.Examined.{Examined}
 use Rattle.desk_check.specs.declared.Examined.the-variants.{Refused}
 use Rattle.desk_check.specs.Answer.{examinedAnswer, DeskExamined}
 use Rattle.desk_check.specs.Held.{HeldDesk, refused-call}
-use Rattle.desk_moves.specs.Stepped.{lowersTo}
+use Rattle.desk_moves.specs.Stepped.{differingFor}
 
 pub refused-rest : (d : Desk) (r : Examined) (f : Refusal) (w : List ℕ) → DeskExamined d r w → r ≡ Refused f → Finishes d (numberReply f) d
 unfolding stepsLeft
@@ -36,7 +37,7 @@ refused-rest d r f w a q = one-finished d (numberReply f) d (go (examined Call.S
 
 -- the standing after the last row, where one of the rows that were left differs, or none, and they stand in the other table
 abbrev pub roundBy : Bool → List ℕ → List ℕ → Standing → Standing
-roundBy differs whole other s = nextRound (s .changed || differs) (s .lowerings + lowersTo s whole other) s
+roundBy differs whole other s = nextRound (s .changed || differs) (s .lowerings + differingFor s whole other) s
 
 module _ {d : Desk} {z : Sizes} {w : List ℕ} (h : HeldDesk d z w) where
   -- the rows from the next one on are worked into `other`, which gives `out`; differs says whether one of them differs
@@ -62,14 +63,14 @@ module _ {d : Desk} {z : Sizes} {w : List ℕ} (h : HeldDesk d z w) where
 
     -- the second table is whole, and the rows are worked into the first
     pub rest-into-first : d .standing .secondWhole ≡ true → RestWorked (d .second) (d .first) out differs → RoundFrom (d .second) → Finishes d x (record { standing = next; store = d .store; first = out; second = d .second })
-    unfolding roundDone
+    unfolding endedFrom
     rest-into-first v e m =
         let o = rows-are (d .second) (d .first) out differs e in
         rw (m .0, m .1) (held-rest (record { standing = roundBy differs (d .second) out (d .standing); store = d .store; first = out; second = d .second }) u (rw (h .unspoiled .rules .size1, h .unspoiled .rules .size2, o .0, o .1, v)))
 
     -- the first table is whole, and the rows are worked into the second
     pub rest-into-second : d .standing .secondWhole ≡ false → RestWorked (d .first) (d .second) out differs → RoundFrom (d .first) → Finishes d x (record { standing = next; store = d .store; first = d .first; second = out })
-    unfolding roundDone
+    unfolding endedFrom
     rest-into-second v e m =
         let o = rows-are (d .first) (d .second) out differs e in
         rw (m .0, m .1) (held-rest (record { standing = roundBy differs (d .first) out (d .standing); store = d .store; first = d .first; second = out }) u (rw (h .unspoiled .rules .size1, h .unspoiled .rules .size2, o .0, o .1, v)))

@@ -1,5 +1,5 @@
 -- What step does, from the row that it worked. Rests on desk_check's Held, desk's Moved, entries' Table and rounds' Table.
---   caseRow, caseRowDiffers, Workable, Comparable, Movable, lowersTo, movedBy: the terms of the code's contracts
+--   caseRow, caseRowDiffers, Workable, Comparable, Movable, differingFor, movedBy: the terms of the code's contracts
 --   rowOut, rowDiffers: the same from two model parts; workable, movable: a held desk meets what these ask
 --   settled-step: a step of a settled desk
 --   into-first, into-second: a step that works a row into the first table, or into the second
@@ -66,12 +66,12 @@ pub record Movable (s : Standing) (whole other : List ℕ) : Type 0 where
   pub comparable : Comparable s whole other
 
 -- in how many entries the whole table and the other one differ
-abbrev pub lowersTo : Standing → List ℕ → List ℕ → ℕ
-lowersTo s whole other = bytesDiffering whole other (s .states1) (s .states2)
+abbrev pub differingFor : Standing → List ℕ → List ℕ → ℕ
+differingFor s whole other = bytesDiffering whole other (s .states1) (s .states2)
 
 -- the standing after a row that differs from the whole table's, or does not, and stands in the other table
 abbrev pub movedBy : Bool → List ℕ → List ℕ → Standing → Standing
-movedBy differs whole other s = movedOn (s .states1) (s .changed || differs) (lowersTo s whole other) s
+movedBy differs whole other s = movedOn (s .states1) (s .changed || differs) (differingFor s whole other) s
 
 settled-answer : (s : Standing) → s .settled ≡ true → stepAnswer s ≡ Reply.Settled (s .round) (s .lowerings)
 settled-answer s u = rw u

@@ -25,7 +25,7 @@ pub struct Opened {
     pub answer: OpenAnswer,
 }
 
-// What step answers, and the last step of a round that is finished: each with the count of lowerings after it.
+// What step answers, and the last step of a round that is finished; Row, Round and Settled with the count of lowerings after it.
 pub enum StepAnswer {
     Refused(Refusal),
     // The lowerings.

@@ -16,7 +16,7 @@ ghost use Rattle.desk.specs.Moved.{nextRound, stepAnswer};
 ghost use Rattle.desk_check.specs.Read.{standingOf, deskOf};
 ghost use Rattle.desk_check.specs.Answer.{Does};
 ghost use Rattle.desk_moves.specs.Answer.{stepReply};
-ghost use Rattle.desk_moves.specs.Stepped.{caseRow, caseRowDiffers, Workable, Comparable, Movable, lowersTo, movedBy};
+ghost use Rattle.desk_moves.specs.Stepped.{caseRow, caseRowDiffers, Workable, Comparable, Movable, differingFor, movedBy};
 
 // Works a row of F of the whole table into the other; says whether it differs from the whole table's.
 fn work_row(w: &Codes, l: Lattice, bytes: &[u8], whole: &[u8], other: &mut [u8], row: State) -> bool
@@ -38,10 +38,10 @@ pub fn either(a: bool, b: bool) -> bool
     b
 }
 
-// How many entries a round has lowered: after its last row those in which the two tables differ, before that none.
+// What a row adds to the count of lowerings: the last of a round the entries in which the two tables differ, another none.
 pub fn lowered(last: bool, s: Standing, whole: &[u8], other: &[u8]) -> u32
     requires { ⌜ Comparable (standingOf s) (now whole) (now other) ⌝ }
-    ensures { λ r. ⌜ (r ≡ cond last (lowersTo (standingOf s) (now (whole .entry)) (now (other .entry))) 0) × (r ≤ 4096) ⌝ }
+    ensures { λ r. ⌜ (r ≡ cond last (differingFor (standingOf s) (now (whole .entry)) (now (other .entry))) 0) × (r ≤ 4096) ⌝ }
 {
     if last {
         return rounds::differing(

@@ -1,6 +1,6 @@
 -- The numbers that the exports answer, for each of the desk's replies and for what a desk holds. Rests on desk's Desk, Case, Refused and Perform,
 -- refusal's Number, and desk_check's Read.
---   numbers: the numbers of a reply
+--   numbers, by answered, given, carrying and yesNo: the numbers of a reply
 --   DoneInNumbers, AskedInNumbers: what an export of a call says, and one of a call that only reads
 --   DoneInNumbersWith, AskedInNumbersWith: the same of a call that is lent buffers to write into
 --   named, namedBytes, ShownInNumbers: what show's export says

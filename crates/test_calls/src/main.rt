@@ -1,5 +1,6 @@
-// The calls by value on the worked examples of document 01 and of requests 101, 102, 104, 105 and 107. Each line of the input is a call: its word, and the bytes
-// that it takes, in hexadecimal. The table is shown after each step. A line that begins with # is printed as it is.
+// The calls by value on the worked examples of document 01 and of requests 101, 102, 104 and 105. Each line of the input is a call: its word, and the bytes
+// that it takes, in hexadecimal. Row, Round and Settled are printed with the count of lowerings (request 107), and the table is shown after each step. A line
+// that begins with # is printed as it is.
 use desk_check::Standing;
 use desk_moves::OpenAnswer;
 use desk_moves::StepAnswer;

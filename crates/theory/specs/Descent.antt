@@ -18,7 +18,7 @@ use Rattle.theory.specs.Lattice.{Ops, Laws, AtMost, Chain, All, Pairwise
 use Rattle.theory.specs.Simulation.{indicator, count, lowerings}
 use Rattle.theory.specs.TestLaws.{decide, false-true}
 use Rattle.theory.specs.Finite.{sum-le, scan, First, first-exists, pairwise-map, all-image, pairwise-under}
-use Rattle.theory.specs.Lowerings.{lowered, lowerings-entries, lowerings-more, differing-some}
+use Rattle.theory.specs.Lowerings.{Passes, lowered, lowerings-entries, lowerings-more, differing-some}
 pub use Rattle.theory.specs.Finite.{all-map}
 
 -- ---- a chain of h elements has h − 1 steps from one of them to the next
@@ -42,7 +42,7 @@ Apart test a b = ((test a b ≡ true) ⊎ (test b a ≡ true)) × (¬ ((test a b
 
 -- step t of a sequence of m by n tables lowers no entry
 abbrev pub Unlowered : {A : Type 0} (test : A → A → Bool) (m n : ℕ) (s : ℕ → ℕ → ℕ → A) → ℕ → Type 0
-Unlowered test m n s t = (q : ℕ) → q < m → (r : ℕ) → r < n → test (s t q r) (s (suc t) q r) ≡ true
+Unlowered test m n s t = Passes test m n (s t) (s (suc t))
 
 module _ {A : Type 0} (W : Preorder A) where
   open Preorder W using (test, rfl, trans)

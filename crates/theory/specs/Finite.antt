@@ -1,5 +1,7 @@
 -- Sums, counts, searches and lists of finitely many things. Rests on Lattice, Simulation (sum, count), TestLaws and Loop.
---   sum-le, sum-mono, sum-strict, sum-some: bounds of a sum; sum-cong: equal values, equal sums; sum-none: of zeros; sum-add, sum-swap: sums of sums; count-sum: a count is a sum
+--   sum-le, sum-mono, sum-strict, sum-some: limits of a sum
+--   sum-cong, sum-zeros: equal values, equal sums; of zeros
+--   sum-add, sum-swap: sums of sums; count-sum: a count is a sum
 --   count-mono: no more pass, a count no greater; count-rows: counted row by row
 --   scan: all numbers below n have P, or here is one that has Q
 --   First: t is the least number with P; first-exists: there is one, at most B
@@ -51,15 +53,15 @@ unfolding sum
 sum-add zero f g = refl
 sum-add (suc n) f g = omega (arith, sum-add n f g)
 
-pub sum-none : (n : ℕ) → sum n (λ i. 0) ≡ 0
+pub sum-zeros : (n : ℕ) → sum n (λ i. 0) ≡ 0
 unfolding sum
-sum-none zero = refl
-sum-none (suc n) = omega (arith, sum-none n)
+sum-zeros zero = refl
+sum-zeros (suc n) = omega (arith, sum-zeros n)
 
 -- the entries of a table, summed by columns or by rows
 pub sum-swap : (m n : ℕ) (f : ℕ → ℕ → ℕ) → sum m (λ i. sum n (f i)) ≡ sum n (λ j. sum m (λ i. f i j))
 unfolding sum
-sum-swap zero n f = sym (sum-none n)
+sum-swap zero n f = sym (sum-zeros n)
 sum-swap (suc m) n f = omega (arith, sum-swap m n f, sum-add n (λ j. sum m (λ i. f i j)) (f m))
 
 pub count-sum : (n : ℕ) (f : ℕ → Bool) → count n f ≡ sum n (λ i. indicator (f i))

@@ -1,10 +1,11 @@
 -- Laws of `differing` and `lowerings`, the entries of m by n tables that do not pass a test beside those of another table, and of the table before.
 -- Rests on Simulation, Finite, TestLaws and Loop.
---   differing-cong, differing-none, differing-some, differing-passes, differing-most: equal tables; where all entries pass; where one does not; where none
---     is counted all pass; at most m * n
+--   Passes: every entry passes
+--   differing-cong, differing-most: equal tables; at most m * n
+--   differing-zero, differing-passes, differing-some: none is counted where all entries pass, and only there; one that does not is counted
 --   lowerings-none, lowerings-more: no round, and one more
 --   lowered: in how many steps an entry does not pass; lowerings-entries: the lowerings are these of all entries
---   lowerings-mono: by a test that passes wherever another does there are fewer
+--   lowerings-mono: by a test that passes wherever another does there are no more
 use Prim.Native.Nat.{ℕ, suc, _+_, _*_, _≤_, _<_}
 use mathlib.Core.Path.{_≡_, refl, sym, ap, ap₂, _∙_}
 use mathlib.Core.Bool.{Bool, true, false, not}
@@ -12,7 +13,7 @@ use mathlib.Core.Logic.{⊎-elim}
 use native.Mathlib.Nat.{le-refl}
 use native.Mathlib.Omega.{arith}
 use Rattle.theory.specs.Simulation.{indicator, count, sum, differing, lowerings}
-use Rattle.theory.specs.Finite.{sum-le, sum-mono, sum-some, sum-cong, sum-none, sum-swap, count-sum, count-mono}
+use Rattle.theory.specs.Finite.{sum-le, sum-mono, sum-some, sum-cong, sum-zeros, sum-swap, count-sum, count-mono}
 use Rattle.theory.specs.TestLaws.{decide}
 use Rattle.theory.specs.Loop.{indicator-most, count-cong, count-most}
 
@@ -23,8 +24,8 @@ lowered test s t = count t (λ i. not (test (s i) (s (suc i))))
 module _ {A : Type 0} (test : A → A → Bool) (m n : ℕ) where
   -- ---- two tables
 
-  -- the test at every entry
-  abbrev Passes : (ℕ → ℕ → A) → (ℕ → ℕ → A) → Type 0
+  -- every entry passes
+  abbrev pub Passes : (ℕ → ℕ → A) → (ℕ → ℕ → A) → Type 0
   Passes S U = (q : ℕ) → q < m → (r : ℕ) → r < n → test (S q r) (U q r) ≡ true
 
   -- two tables agree at every entry
@@ -35,11 +36,11 @@ module _ {A : Type 0} (test : A → A → Bool) (m n : ℕ) where
   unfolding differing
   differing-cong S S' U U' h g = sum-cong m _ _ (λ q l. count-cong n _ _ (λ r k. ap₂ (λ (a b : A). not (test a b)) (h q l r k) (g q l r k)))
 
-  pub differing-none : (S U : ℕ → ℕ → A) → Passes S U → differing test m n S U ≡ 0
+  pub differing-zero : (S U : ℕ → ℕ → A) → Passes S U → differing test m n S U ≡ 0
   unfolding differing
-  differing-none S U h =
-      sum-cong m _ _ (λ q l. count-sum n (λ r. not (test (S q r) (U q r))) ∙ sum-cong n _ _ (λ r k. ap (λ (b : Bool). indicator (not b)) (h q l r k)) ∙ sum-none n)
-      ∙ sum-none m
+  differing-zero S U h =
+      sum-cong m _ _ (λ q l. count-sum n (λ r. not (test (S q r) (U q r))) ∙ sum-cong n _ _ (λ r k. ap (λ (b : Bool). indicator (not b)) (h q l r k)) ∙ sum-zeros n)
+      ∙ sum-zeros m
 
   pub differing-some : (S U : ℕ → ℕ → A) (q : ℕ) → q < m → (r : ℕ) → r < n → ¬ (test (S q r) (U q r) ≡ true) → 0 < differing test m n S U
   unfolding differing

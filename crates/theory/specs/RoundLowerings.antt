@@ -1,6 +1,6 @@
--- The lowerings of F's rounds (request 107): the entries that differ from the round before, summed over rounds 1 to r. Rests on Simulation, Lowerings and Rounds.
+-- The lowerings of F's rounds (request 107): the entries that differ from the round before, summed over rounds 1 to r. Rests on Simulation, Monotone, Lowerings and Rounds.
 --   lowerings-most, lowerings-most-size: at most N1·N2·(h − 1), and so with n for h
---   lowerings-at-T, lowerings-before-T: round T adds none, and every round before it at least one
+--   lowerings-at-T, lowerings-before-T: round T adds none, and each of the rounds 1 to T − 1 at least one
 use Prim.Native.Nat.{ℕ, zero, suc, _*_, _-_, _≤_, _<_}
 use mathlib.Core.Path.{_≡_, refl, sym, _∙_, subst}
 use mathlib.Core.Bool.{Bool, true}
@@ -11,7 +11,7 @@ use Rattle.theory.specs.Lattice.{Ops, Laws, LongestChain}
 use Rattle.theory.specs.Model.{Model}
 use Rattle.theory.specs.Simulation.{F, round, SameTable, FirstUnchanged, differing, lowerings}
 use Rattle.theory.specs.Monotone.{chain-size}
-use Rattle.theory.specs.Lowerings.{lowerings-more, differing-none, differing-passes}
+use Rattle.theory.specs.Lowerings.{lowerings-more, differing-zero, differing-passes}
 use Rattle.theory.specs.Rounds.{F-mono, F-element, rounds-lower}
 
 -- for any test that equal elements pass
@@ -33,7 +33,7 @@ module _ {A : Type 0} {O : Ops A} (L : Laws O) (M₁ M₂ : Model A) (same : A �
   lowerings-at-T zero f = absurd (not-suc-le-zero (f .above0))
   lowerings-at-T (suc t) f =
       let e : suc t - 1 ≡ t = sub-one (suc t) in
-      let none : differing same (M₁ .states) (M₂ .states) (R t) (R (suc t)) ≡ 0 = differing-none same _ _ _ _ (λ q₁ l q₂ m. rw (rw e at (f .unchanged) q₁ l q₂ m) (alike _)) in
+      let none : differing same (M₁ .states) (M₂ .states) (R t) (R (suc t)) ≡ 0 = differing-zero same _ _ _ _ (λ q₁ l q₂ m. rw (rw e at (f .unchanged) q₁ l q₂ m) (alike _)) in
       rw e (lowerings-more same _ _ R t ∙ rw (none, add-zero))
 
   -- where equal elements alone pass

@@ -1,4 +1,4 @@
--- The simulation operator F, its rounds, the first round that changes nothing, score and share. Rests on Lattice, Model, Formula, Value.
+-- The simulation operator F, its rounds, the first round that changes nothing, score, share and lowerings. Rests on Lattice, Model, Formula, Value.
 --   propositionPart, successorPart, F: the operator on tables, and its two parts
 --   AllPairs, SameTable, AtMostTable, Bounds: tables at the pairs of states
 --   round, FirstUnchanged, Simulation, GreatestSimulation: the rounds, T, and the simulations; of any operator roundOf, FirstUnchangedOf,

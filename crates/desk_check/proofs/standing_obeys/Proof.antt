@@ -1,5 +1,5 @@
 -- `desk_check::standing_obeys` meets its contract: the first of its tests that fails decides, else the last.
-use Prim.Native.Nat.{ℕ, _*_, _-_}
+use Prim.Native.Nat.{ℕ}
 use mathlib.Core.Path.{_≡_, sym, ap, _∙_}
 use mathlib.Core.Bool.{Bool, true, false, _&&_}
 use lib.Dec.{leb}

@@ -1,8 +1,7 @@
 -- `desk_moves::round_done` meets its contract: the answer is that of the next standing.
 use Prim.Native.Nat.{ℕ, _+_}
-use mathlib.Core.Path.{_≡_, ap, ap₂, _∙_}
+use mathlib.Core.Path.{ap, ap₂, _∙_}
 use mathlib.Core.Bool.{Bool}
-use Rattle.desk.specs.Desk.{Standing}
 use Rattle.desk.specs.Moved.{nextRound, stepAnswer}
 use Rattle.desk_check.specs.Read.{standingOf}
 use borrow.Author.Needs.{needs}

@@ -10,14 +10,14 @@ use Rattle.theory.specs.Lowerings.{differing-most}
 use Rattle.rounds.specs.Table.{bytesDiffering}
 use Rattle.desk.specs.Desk.{Standing}
 use Rattle.desk_check.specs.Read.{standingOf}
-use Rattle.desk_moves.specs.Stepped.{Comparable, lowersTo}
+use Rattle.desk_moves.specs.Stepped.{Comparable, differingFor}
 use borrow.Author.Needs.{needs}
 use Rattle.desk_moves.proofs.stepping.lowered.Statement.{statement}
 use Rattle.desk_moves.proofs.stepping.lowered.Tie as tie
 
 -- n1 and n2 are the standing's sizes, and r entries differ
 compared : (s : Standing) (whole other : List ℕ) (last : Bool) (n1 n2 r : ℕ) → Comparable s whole other → last ≡ true → n1 ≡ s .states1 → n2 ≡ s .states2 → r ≡ bytesDiffering whole other n1 n2
-    → (r ≡ cond last (lowersTo s whole other) 0) × (r ≤ 4096)
+    → (r ≡ cond last (differingFor s whole other) 0) × (r ≤ 4096)
 compared s whole other last n1 n2 r k t p q e = (rw (t, ← p, ← q) e, rw (e, p, q) (le-trans (differing-most eqb (s .states1) (s .states2) _ _) (k .few)))
 
 differing-requires : tie.Need-differing-requires

@@ -8,13 +8,13 @@ use lib.Dec.{eqb}
 use Rattle.desk.specs.Desk.{Standing}
 use Rattle.desk.specs.Moved.{nextRound}
 use Rattle.desk_check.specs.Read.{standingOf}
-use Rattle.desk_moves.specs.Stepped.{lowersTo, movedBy}
+use Rattle.desk_moves.specs.Stepped.{differingFor, movedBy}
 use borrow.Author.Needs.{needs}
 use Rattle.desk_moves.proofs.stepping.moved_on.Statement.{statement}
 use Rattle.desk_moves.proofs.stepping.moved_on.Tie as tie
 
 -- after the last row, and after another, where `now` says whether this round has changed anything by now, and n entries count
-module _ (s : Standing) (differs now : Bool) (whole other : List ℕ) (n : ℕ) (e : now ≡ (s .changed || differs)) (c : n ≡ cond (eqb (s .row + 1) (s .states1)) (lowersTo s whole other) 0) where
+module _ (s : Standing) (differs now : Bool) (whole other : List ℕ) (n : ℕ) (e : now ≡ (s .changed || differs)) (c : n ≡ cond (eqb (s .row + 1) (s .states1)) (differingFor s whole other) 0) where
   last-row : eqb (s .row + 1) (s .states1) ≡ true → nextRound now (s .lowerings + n) s ≡ movedBy differs whole other s
   last-row q = rw (c, e, q)
 
