@@ -104,7 +104,7 @@ def check_counts(tab, folder):
     for name in NAMES:
         address = written(name, example(name), folder)
         for way, case in (("", example(name)), ("exchanged", exchanged(example(name), folder))):
-            counts = [(round["lowered"], round["lowerings"]) for round in json.loads(tool("step", "--json", case))["rounds"]]
+            counts = [(one["lowered"], one["lowerings"]) for one in json.loads(tool("step", "--json", case))["rounds"]]
             tab.window(1280, 720)
             tab.open(f"{address}#{way}")
             tab.evaluate("document.getElementById('round').focus()")
@@ -128,7 +128,7 @@ def check_possible(tab, folder):
     for name, (pairs, steps) in POSSIBLE.items():
         tab.open(written(name, example(name), folder))
         seen = tab.evaluate("probe.lowered().words")
-        counts = [round["lowered"] for round in json.loads(tool("step", "--json", example(name)))["rounds"]]
+        counts = [one["lowered"] for one in json.loads(tool("step", "--json", example(name)))["rounds"]]
         said = (f" The busiest is round {counts.index(max(counts))} with {entries(max(counts))}. At most {pairs} \u00B7 {steps} = {pairs * steps} are "
                 f"possible: {pairs} pairs of states, and {steps} step{'' if steps == 1 else 's'} from top to bottom in the lattice's longest chain.")
         check(seen.endswith(said), f"{name}: {seen} does not end with {said}")
