@@ -243,6 +243,7 @@ fn number_11_short_buffers() {
         let mut desk = good.clone();
         // Number 12 would apply too.
         desk.standing.row = 9;
+        desk.standing.lowerings = 7;
         change(&mut desk);
         assert_all_refused(&desk, 11);
         let before = desk.clone();

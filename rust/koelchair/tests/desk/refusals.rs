@@ -85,7 +85,8 @@ fn assert_refused(desk: &Lent, refusal: Refusal) {
 #[test]
 fn a_short_desk() {
     let example = cases::example_4();
-    let whole = Lent::opened(&example);
+    let mut whole = Lent::opened(&example);
+    whole.lent_mut().finish_round().unwrap();
     let shorter = |cut: fn(&mut Lent)| {
         let mut desk = whole.clone();
         cut(&mut desk);
