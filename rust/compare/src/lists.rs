@@ -186,6 +186,11 @@ impl List<'_> {
             self.open()?;
         }
         self.write()?;
+        if self.random.one_in(2) {
+            // Lowerings may then be more than 16 bits hold.
+            self.alter(alterations::any_place);
+            self.step()?;
+        }
         for _ in 0..4 {
             self.step_or_question()?;
         }

@@ -22,6 +22,7 @@ const SETTLED_AT_LIMIT: &str = "lowerings, accepted on a settled desk with a cou
 const SKIPPED: &str = "lowerings, Round that counts rows which were skipped";
 const SETTLED_RISEN: &str = "lowerings, Settled with a risen count";
 const ROUND_NOT_RISEN: &str = "lowerings, Round with the count as it was";
+const OVER_16_BITS: &str = "lowerings, round ended with a count above 65,535";
 const OVER_BY_ROUND: &str = "lowerings, over the limit by Round";
 const OVER_BY_SETTLED: &str = "lowerings, over the limit by Settled";
 const REFUSED_ONE_OVER: &str = "lowerings, refused with 12 for a count one over its limit";
@@ -30,7 +31,7 @@ const REFUSED_SETTLED: &str = "lowerings, settled desk refused with 12 for its c
 const REFUSED_ONE_ELEMENT: &str = "lowerings, refused with 12 for a count over one element";
 
 /// All that is counted.
-pub const NAMES: [&str; 21] = [
+pub const NAMES: [&str; 22] = [
     ROW,
     SETTLED_NONE,
     SETTLED_SOME,
@@ -46,6 +47,7 @@ pub const NAMES: [&str; 21] = [
     SKIPPED,
     SETTLED_RISEN,
     ROUND_NOT_RISEN,
+    OVER_16_BITS,
     OVER_BY_ROUND,
     OVER_BY_SETTLED,
     REFUSED_ONE_OVER,
@@ -136,6 +138,7 @@ impl Made<'_> {
             (round && skipped, SKIPPED),
             (self.settles() && new > old, SETTLED_RISEN),
             (round && new == old, ROUND_NOT_RISEN),
+            (round && new > 65_535, OVER_16_BITS),
             (round && over, OVER_BY_ROUND),
             (self.settles() && over, OVER_BY_SETTLED),
         ]
