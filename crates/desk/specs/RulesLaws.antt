@@ -25,7 +25,7 @@ use Rattle.casefile.specs.Reading.{Content, CaseReading, refused, content, case
 use Rattle.desk.specs.Desk.{Desk, Question}
 use Rattle.desk.specs.Case.{N1, N2, latticeSize, tableSize, limit}
 use Rattle.desk.specs.View.{View}
-use Rattle.desk.specs.Refused.{short, sizesObey, rowObeys, settledObeys, roundObeys, loweringsObey, rulesObeyed, obeysFor, spoiledAs, Rules, spoiled, isModel, Condition, conditionTest, ConditionHolds, refusalOf, conditions, AllHold, InRange, FirstBroken, refusalsOf, OneOf, firstRefusal}
+use Rattle.desk.specs.Refused.{short, sizesObey, rowObeys, settledObeys, roundObeys, loweringsObey, standingObeys, tableObeys, rulesObeyed, obeysFor, spoiledAs, Rules, spoiled, isModel, Condition, conditionTest, ConditionHolds, refusalOf, conditions, AllHold, InRange, FirstBroken, refusalsOf, OneOf, firstRefusal}
 
 -- ---- the lengths that refusal 11 asks for
 
@@ -66,7 +66,7 @@ rules-out d c e h =
       settled-row = λ z. let k = settled z in eqb-true _ _ (search (and-l, and-r));
       lowerings-most = leb-true _ _ lowerings;
       first-below = λ i l. ltb-true _ _ (all-at (tableSize c) (λ j. ltb (getD (d .first) j 0) (latticeSize c)) (search (and-l, and-r)) i l);
-      second-below = λ i l. ltb-true _ _ (all-at (tableSize c) (λ j. ltb (getD (d .second) j 0) (latticeSize c)) (and-r _ _ h) i l);
+      second-below = λ i l. ltb-true _ _ (all-at (tableSize c) (λ j. ltb (getD (d .second) j 0) (latticeSize c)) second i l);
     }
   where
     round : roundObeys (limit c) (d .standing) ≡ true
@@ -74,6 +74,9 @@ rules-out d c e h =
 
     lowerings : loweringsObey (limit c) (d .standing) ≡ true
     lowerings = search (and-l, and-r)
+
+    second : tableObeys (tableSize c) (latticeSize c) (d .second) ≡ true
+    second = and-r (standingObeys (N1 c) (N2 c) (latticeSize c) (d .standing) && tableObeys (tableSize c) (latticeSize c) (d .first)) (tableObeys (tableSize c) (latticeSize c) (d .second)) h
 
     settled : d .standing .settled ≡ true → settledObeys (limit c) (d .standing) ≡ true
     settled z = sym (cond-true (d .standing .settled) (settledObeys (limit c) (d .standing)) (leb (d .standing .round) (limit c)) z) ∙ round
