@@ -128,7 +128,7 @@ static inline const char *koelchair_refusal_words(uint8_t number)
 /* Where a desk stands. states1 and states2 are the states of the models, N1 and N2; row is the next row; changed says whether this
    round has changed anything yet; second_whole says that the second table is the whole one, else the first is. lowerings counts the
    entries that differ from the round before, summed over the whole rounds since the desk was opened; where nothing but the calls wrote
-   the desk it is at most N1 times N2 times h - 1, h being the elements of the lattice's longest chain. */
+   the desk it is at most N1 times N2 times (h - 1), h being the elements of the lattice's longest chain. */
 typedef struct koelchair_standing {
     uint8_t states1;
     uint8_t states2;

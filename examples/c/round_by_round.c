@@ -1,5 +1,5 @@
-/* Reads a case from standard input, prints its listing, works its rounds to the end, and prints every answer: how many entries the rounds
-   so far have lowered, the table at each round, which formulas it covers and what the next round changes, the score, the share, the
+/* Reads a case from standard input, prints its listing, works its rounds to the end, and prints every answer: the lowerings of the rounds
+   so far, the table at each round, which formulas it covers and what the next round changes, the score, the share, the
    formulas' facts and values, and how long the case is that the desk writes back. Where a file is named it gets the bytes of that case. A
    refusal is said in words, with its number and part.
 

@@ -42,7 +42,7 @@ rowWorked c d = rowWritten (model1 c) (model2 c) (operator c) (shownTable c d) (
 abbrev pub changedNow : Content → Desk → Bool
 changedNow c d = d .standing .changed || rowChanged (model1 c) (model2 c) (operator c) (shownTable c d) (d .standing .row)
 
--- 'at a round's last row the two tables are compared' (request 107): in how many of all N1·N2 entries they differ, the row being worked
+-- 'at a round's last row the two tables are compared' (request 107): in how many of all N1·N2 entries they differ, once the row is worked
 abbrev pub loweredNow : Content → Desk → ℕ
 loweredNow c d = differingIn c (shownTable c d) (givenTable c (rowWorked c d))
 

@@ -11,7 +11,7 @@ const ROW: &str = "lowerings, Row with a count above 0";
 const SETTLED_NONE: &str = "lowerings, settled with a count of 0";
 const SETTLED_SOME: &str = "lowerings, settled with a count above 0";
 const OVER_ENTRIES: &str = "lowerings, settled with a count above N1·N2";
-const BOUND: &str = "lowerings, settled with a count of N1·N2·(h − 1)";
+const MOST: &str = "lowerings, settled with a count of N1·N2·(h − 1)";
 const SETTLED_AGAIN: &str = "lowerings, settled desk stepped again with a count above 0";
 const OPENED: &str = "lowerings, opened with a count above 0 before";
 const OPEN_REFUSED: &str = "lowerings, open refused with a count above 0";
@@ -36,7 +36,7 @@ pub const NAMES: [&str; 22] = [
     SETTLED_NONE,
     SETTLED_SOME,
     OVER_ENTRIES,
-    BOUND,
+    MOST,
     SETTLED_AGAIN,
     OPENED,
     OPEN_REFUSED,
@@ -102,7 +102,7 @@ impl Made<'_> {
                 self.settles() && lowerings > entries(self.after),
                 OVER_ENTRIES,
             ),
-            (self.settles() && lowerings > 0 && lowerings == most, BOUND),
+            (self.settles() && lowerings > 0 && lowerings == most, MOST),
             (again && lowerings > 0, SETTLED_AGAIN),
         ]
     }

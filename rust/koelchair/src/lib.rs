@@ -19,7 +19,7 @@
 //!         break (round, lowerings);
 //!     }
 //! };
-//! println!("settled after {rounds} rounds, in which {lowerings} entries were lowered");
+//! println!("settled after {rounds} rounds and {lowerings} lowerings");
 //! assert_eq!((rounds, lowerings), (2, 1));
 //! assert_eq!(desk.show(), [1]);
 //! assert_eq!(desk.score(), Element(1));

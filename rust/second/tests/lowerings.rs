@@ -68,7 +68,7 @@ fn an_entry_counts_in_each_round_that_lowers_it() {
 /// "It is at most N1·N2·(h − 1)", and may be as many: over L2 every entry falls, over the subsets of two things each in two rounds. Where no
 /// entry falls the count stays 0.
 #[test]
-fn from_none_to_the_bound() {
+fn from_none_to_the_most() {
     let mut all = Desk::opened(&[L2, &line(1, [0; 3]), &line(1, [1; 3])]);
     assert_eq!(answers(&mut all).last(), Some(&settled(2, 9)));
     // Two states that lead to each other, p being {a}, which is 1, in the one and {b}, which is 2, in the other, against one with p everywhere.

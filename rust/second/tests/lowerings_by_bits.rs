@@ -50,7 +50,7 @@ const LAST_ROW: &str = "a round that lowers the last row alone";
 const LAST_ENTRY: &str = "a round that lowers the last entry alone";
 const TWICE: &str = "an entry lowered in two rounds";
 const NONE: &str = "settled without a lowering";
-const BOUND: &str = "a count of N1·N2·(h − 1)";
+const MOST: &str = "a count of N1·N2·(h − 1)";
 const ROUNDS: [&str; 7] = [
     ROW_ABOVE_0,
     EARLY_ROWS,
@@ -58,7 +58,7 @@ const ROUNDS: [&str; 7] = [
     LAST_ENTRY,
     TWICE,
     NONE,
-    BOUND,
+    MOST,
 ];
 
 /// What is met in the rounds of a case.
@@ -120,11 +120,11 @@ fn rounds_up_to_t() {
             assert!(counted <= case.entries() as u32 * (h - 1), "{case:?}");
             met.add(kinds(&case, &tables, counted));
         }
-        // One element is never lowered, one of two not twice; the bound of three in a chain is met by hand.
+        // One element is never lowered, one of two not twice; the most of three in a chain is met by hand.
         let but: &[&str] = match h {
             1 => &[ROW_ABOVE_0, EARLY_ROWS, LAST_ROW, LAST_ENTRY, TWICE],
             2 => &[TWICE],
-            _ => &[BOUND],
+            _ => &[MOST],
         };
         met.assert_met(sets, but);
     }
