@@ -132,7 +132,8 @@ BY_HAND = {
     "lattice-form": "lattice_form_lem", "top-code": "top_code_lem",
     "withU16": "with_u16", "u16Then": "u16_then", "u16At": "u16_at",
 }
-KEPT = {"FormulaValue", "PerCent", "TableBytes", "TableLength"}
+# Constructors that are named as variants, and names that the library has too.
+KEPT = {"FormulaValue", "PerCent", "TableBytes", "TableLength", "not-false"}
 
 
 def turned(text, new, prose):
@@ -162,6 +163,8 @@ def turn_file(path, new):
             at = line.find("--") if re.match(r"\s*--(\s|$)", line) else -1
             code, rest = (line, "") if at < 0 else (line[:at], line[at:])
         elif path.endswith(".rt"):
+            # Rust names are in snake case already: only dashes and camel case are turned here
+            new = {a: b for a, b in new.items() if "-" in a or re.search(r"[a-z0-9][A-Z]", a)}
             m = re.search(r"(?:^|\s)//", line)
             code, rest = (line, "") if m is None else (line[: m.start()], line[m.start() :])
         else:

@@ -6,7 +6,7 @@ use Rattle.std.proofs.Math.Path.{◌≡◌, refl}
 use Rattle.std.proofs.Common.{sym, ap, ⊎_elim, eq-or-lt_of_le, arith, le-leb}
 use Rattle.std.specs.Prelude.{not, ◌&&◌, ◌↔◌, List, leb, get_or}
 use Rattle.std.proofs.Math.Logic.{Iff·rfl, Iff·trans}
-use Rattle.std.proofs.lemmas.Bool.{not_false}
+use Rattle.std.proofs.lemmas.Bool.{not-false}
 use Rattle.theory.specs.Formula.{Formula, closed, over_props, nested_binders}
 use Rattle.theory.specs.TestLaws.{and_in, false_true, not_passed, first_is, first_unique}
 use Rattle.formula.specs.Bytes.{FormulaReading, formula_reading}
@@ -27,7 +27,7 @@ first_misplaced b i = (λ w. rw (← w.0) (there w.1), back)
         record {
           least = omega arith;
           below = l;
-          earlier = λ j m n. part_placed b j (not_false _ (w.earlier j n));
+          earlier = λ j m n. part_placed b j (not-false _ (w.earlier j n));
           broken = λ p. false_true (ap not (placed_part b (misplaced b) p)) (w.passes l);
         }
 

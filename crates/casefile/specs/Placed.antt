@@ -5,7 +5,7 @@
 --   part_of: part i of the list of parts
 use Rattle.std.specs.Prelude.{ℕ, zero, suc, ◌+◌, ◌-◌, ◌≤◌, ◌<◌, ◌≡◌, refl, Bool, true, false, cond, not, ◌&&◌, List, [], ltb, leb, length, get_or}
 use Rattle.std.proofs.Common.{sym, ap, ◌∙◌, ⊎_elim, le_refl, eq-or-lt_of_le, le_of_suc-le-suc, not-suc-le-zero, arith, ltb-true, ltb-false, leb-true, lt-ltb, le-ltb, le-leb}
-use Rattle.std.proofs.lemmas.Bool.{not_false}
+use Rattle.std.proofs.lemmas.Bool.{not-false}
 use Rattle.theory.specs.TestLaws.{and_l, and_r, all_four, first_is, first_unique}
 use Rattle.refusal.specs.declared.Refusal.TheVariants.{CaseSize, Directory, PartPlace}
 use Rattle.casefile.specs.Directory.{part_count, directory_end, part_start, part_size, part_end, end_before, placed, size_test, directory_test, misplaced, part_at, parts_from, parts_of}
@@ -49,7 +49,7 @@ pub none_misplaced : (b : List ℕ) → ltb (misplaced b) (part_count b) ≡ fal
 unfolding misplaced
 none_misplaced b m i l =
     part_placed b i
-    (not_false _ ((first_is (part_count b) (λ j. not (placed b j))).earlier i (omega (arith, ltb-false (misplaced b) (part_count b) m))))
+    (not-false _ ((first_is (part_count b) (λ j. not (placed b j))).earlier i (omega (arith, ltb-false (misplaced b) (part_count b) m))))
 
 pub all_placed : (b : List ℕ) (i : ℕ) → HasDirectory b → i ≡ misplaced b → part_count b ≤ i → Placed b
 all_placed b i d e l = record { directory = d; each = none_misplaced b (le-ltb (misplaced b) (part_count b) (omega arith)) }

@@ -1,4 +1,6 @@
 // Cases: the directory, the check of all parts, and the gapless case of the parts.
+#![tactic(auto)]
+
 mod writer;
 
 ghost use Rattle.std.specs.Prelude.{◌≡◌, ◌+◌, ◌-◌, ◌≤◌, ◌<◌, length};
@@ -19,7 +21,7 @@ use refusal::Refusal;
 pub use writer::gapless_length;
 
 // What an accepted case holds: its lattice, and the sizes of its models and formulas.
-#[derive(Drop)]
+#[derive(Clone, Copy)]
 pub struct Sizes {
     pub lattice: Lattice,
     pub states1: u8,
@@ -29,14 +31,14 @@ pub struct Sizes {
 }
 
 // What the check of a case answers.
-#[derive(Drop)]
+#[derive(Clone, Copy)]
 pub enum CaseCheck {
     Refused(Refusal),
     Accepted(Sizes),
 }
 
 // What the check of the formulas answers.
-#[derive(Drop)]
+#[derive(Clone, Copy)]
 enum FormulasCheck {
     // The number of the first part that is none.
     RefusedAt(u8),

@@ -4,7 +4,7 @@
 --   promised_by_facts: what is promised by round and at T, of a formula of the case by the facts that were answered; facts_own: these are its own
 use Rattle.std.specs.Prelude.{ℕ, ◌<◌, ◌≡◌, refl, true, false, List, length}
 use Rattle.std.proofs.Common.{sym, ap, ◌∙◌, ⊎_elim, arith}
-use Rattle.std.proofs.lemmas.Bool.{not_false}
+use Rattle.std.proofs.lemmas.Bool.{not-false}
 use Rattle.theory.specs.Lattice.{Laws}
 use Rattle.theory.specs.Formula.{Formula, UniversalSentence}
 use Rattle.theory.specs.Preservation.{bounded_by_round, bounded_at_T, score_by_round, score_at_T}
@@ -73,10 +73,10 @@ module _ {c : Content} {T : ℕ} (answers : List Reply) (d : Desk) (w : Stands c
   sentence : (f : ℕ) (x : FormulaFacts) → f < length c.formulas → x ≡ facts_of (formula_in c f) → x.ex ≡ false → UniversalSentence (model1 c).propositions (formula_in c f)
   sentence f x l h e =
       let p = formula_part (model1 c).propositions _ (formula_in c f) ((known-sound w.known).formulas.each f l) in
-      record { is_closed = p.is_closed; is_universal = not_false _ (ap (λ (y : FormulaFacts). y.ex) (sym h) ∙ e); is_over = p.props }
+      record { is_closed = p.is_closed; is_universal = not-false _ (ap (λ (y : FormulaFacts). y.ex) (sym h) ∙ e); is_over = p.props }
 
   pub promised_by_facts : (P : Formula → Type 0) → PromisedByRound c T answers d P → PromisedAtT c T answers d P → PromisedByFacts c T answers d P
   promised_by_facts P by-round at_T f x a h =
       let own = facts_own f x a in
       let u = sentence f x own.0 own.1 h.0 in
-      ⊎_elim (λ l. by-round (formula_in c f) u (not_false _ (ap (λ (y : FormulaFacts). y.fixpoint) (sym own.1) ∙ l.0)) (rw own.1 at l.1)) (λ z. at_T z (formula_in c f) u) h.1
+      ⊎_elim (λ l. by-round (formula_in c f) u (not-false _ (ap (λ (y : FormulaFacts). y.fixpoint) (sym own.1) ∙ l.0)) (rw own.1 at l.1)) (λ z. at_T z (formula_in c f) u) h.1

@@ -8,7 +8,7 @@
 use Rattle.std.specs.Prelude.{ℕ, ◌-◌, ◌≤◌, ◌<◌, ◌≡◌, refl, Bool, true, false, cond, not, ◌&&◌, ◌||◌, ◌↔◌, ◌⊎◌, List, [], ◌∷◌, ltb, leb, eqb, length, get_or, take}
 use Rattle.std.proofs.Common.{sym, ap, ◌∙◌, inl, inr, ⊎_elim, arith, lt-ltb, ltb-true, ltb-false, le-ltb, le-leb, leb-true, eq-eqb, eqb-true, get_or-take}
 use Rattle.std.proofs.Math.Option.{Option, none, some}
-use Rattle.std.proofs.lemmas.Bool.{not_false, not-true}
+use Rattle.std.proofs.lemmas.Bool.{not-false, not-true}
 use Rattle.theory.specs.TestLaws.{or_l, or_r, and_in, and_l, and_r, ⇒-in, ⇒-elim, all_in, all_at, not_passed, false_true, cond_true, cond_false}
 use Rattle.refusal.specs.declared.Refusal.{Refusal}
 use Rattle.refusal.specs.Number.{number_of}
@@ -97,7 +97,7 @@ spoiled_exactly d = (λ p. go (store_reading d.store) refl p, λ w. rw (w.1.read
   where
     go : (x : CaseReading) → store_reading d.store ≡ x → spoiled_as d x ≡ false → (c : Content) × Rules d c
     go (refused r) e h = absurd (false_true h refl)
-    go (content c) e h = (c, rules_out d c e (not_false (obeys_for c d) h))
+    go (content c) e h = (c, rules_out d c e (not-false (obeys_for c d) h))
 
 -- ---- the conditions after 12
 

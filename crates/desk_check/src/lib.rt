@@ -1,4 +1,6 @@
 // The standing, and the examination that every call but open makes before its own arguments.
+#![tactic(auto)]
+
 ghost use Rattle.std.specs.Prelude.{◌≡◌, ◌+◌, ◌*◌, ◌-◌, ◌≤◌, ◌<◌, length};
 ghost use Rattle.desk_check.specs.Read.{standing_of, desk_of};
 ghost use Rattle.desk_check.specs.Answer.{rules_of, examined_answer, DeskExamined};
@@ -16,7 +18,7 @@ pub const TABLE_LENGTH: usize = 4096;
 
 // Where the desk stands. Its layout is C's, since the exported calls take and give it by value.
 #[repr(C)]
-#[derive(Drop)]
+#[derive(Clone, Copy)]
 pub struct Standing {
     // N1 and N2.
     pub states1: u8,
@@ -34,14 +36,14 @@ pub struct Standing {
 }
 
 // What the examination of a desk answers.
-#[derive(Drop)]
+#[derive(Clone, Copy)]
 pub enum Examined {
     Refused(Refusal),
     Held(Sizes),
 }
 
 // The store or a table is shorter than a desk wants.
-pub fn too_short_lem(store: &[u8], first: &[u8], second: &[u8]) -> bool
+pub fn too_short(store: &[u8], first: &[u8], second: &[u8]) -> bool
     ensures { result ≡ too_short store.now first.now second.now }
 {
     if store.len() < STORE_LENGTH {
@@ -143,7 +145,7 @@ fn rules_obeyed(s: Standing, z: Sizes, first: &[u8], second: &[u8]) -> bool
 pub fn examine(s: Standing, store: &[u8], first: &[u8], second: &[u8], w: &mut Codes) -> Examined
     ensures { DeskExamined (desk_of s store.now first.now second.now) result w.new }
 {
-    if too_short_lem(store, first, second) {
+    if too_short(store, first, second) {
         return Examined::Refused(Refusal::ShortDesk);
     }
     match casefile::check(&store[..STORE_LENGTH], w) {

@@ -1,4 +1,6 @@
 // The calls, with the standing lent.
+#![tactic(auto)]
+
 ghost use Rattle.std.specs.Prelude.{[], ◌∷◌};
 ghost use Rattle.desk.specs.Desk.{Call, Question, Reply};
 ghost use Rattle.desk_check.specs.Read.{desk_of};

@@ -3,6 +3,8 @@
 //   opening: `open`
 //   stepping: `step`
 //   finishing: `finish_round`, which is so many steps
+#![tactic(auto)]
+
 mod finishing;
 mod opening;
 mod stepping;
@@ -14,21 +16,21 @@ use refusal::Refusal;
 pub use stepping::step;
 
 // What open answers.
-#[derive(Drop)]
+#[derive(Clone, Copy)]
 pub enum OpenAnswer {
     Refused(Refusal),
     Opened,
 }
 
 // What open gives: the standing after it, and its answer.
-#[derive(Drop)]
+#[derive(Clone, Copy)]
 pub struct Opened {
     pub standing: Standing,
     pub answer: OpenAnswer,
 }
 
 // What step answers, and the last step of a round that is finished; Row, Round and Settled with the count of lowerings after it.
-#[derive(Drop)]
+#[derive(Clone, Copy)]
 pub enum StepAnswer {
     Refused(Refusal),
     // The lowerings.
@@ -39,7 +41,7 @@ pub enum StepAnswer {
 }
 
 // What step and finish_round give: the standing after it, and its answer.
-#[derive(Drop)]
+#[derive(Clone, Copy)]
 pub struct Stepped {
     pub standing: Standing,
     pub answer: StepAnswer,

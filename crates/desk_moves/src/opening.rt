@@ -8,7 +8,7 @@ ghost use Rattle.desk_moves.specs.Answer.{open_reply};
 
 use crate::{OpenAnswer, Opened};
 use casefile::CaseCheck;
-use desk_check::{Standing, table_size, too_short_lem};
+use desk_check::{Standing, table_size, too_short};
 use elements::Element;
 use refusal::Refusal;
 
@@ -33,7 +33,7 @@ pub fn open(
     ensures { Does (Call.Open case.now) (desk_of s store.old first.old second.old)
         (open_reply result.answer) (desk_of result.standing store.new first.new second.new) }
 {
-    if too_short_lem(store, first, second) {
+    if too_short(store, first, second) {
         return Opened {
             standing: s,
             answer: OpenAnswer::Refused(Refusal::ShortDesk),

@@ -2,6 +2,8 @@
 //   tables: `whole_table`, `show`, `score`, `share` and `judge`
 //   formulas: `whole` and `value`
 //   writing: `write`
+#![tactic(auto)]
+
 mod formulas;
 mod tables;
 mod writing;
@@ -14,35 +16,35 @@ pub use tables::{judge, score, share, show, whole_table};
 pub use writing::write;
 
 // What score answers.
-#[derive(Drop)]
+#[derive(Clone, Copy)]
 pub enum ElementAnswer {
     Refused(Refusal),
     Is(Element),
 }
 
 // What value and whole answer: the element, and the facts of the formula.
-#[derive(Drop)]
+#[derive(Clone, Copy)]
 pub enum ValueAnswer {
     Refused(Refusal),
     Is(Element, FormulaFacts),
 }
 
 // What share answers.
-#[derive(Drop)]
+#[derive(Clone, Copy)]
 pub enum ShareAnswer {
     Refused(Refusal),
     PerCent(u8),
 }
 
 // What judge answers.
-#[derive(Drop)]
+#[derive(Clone, Copy)]
 pub enum JudgeAnswer {
     Refused(Refusal),
     Says(bool),
 }
 
 // What write answers: how many bytes it wrote.
-#[derive(Drop)]
+#[derive(Clone, Copy)]
 pub enum LengthAnswer {
     Refused(Refusal),
     Length(u32),

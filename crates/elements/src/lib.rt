@@ -1,4 +1,6 @@
 // Lattice elements, and a lattice in 128 words: the codes of its elements, on which meet is & and join is |, and those of their complements.
+#![tactic(auto)]
+
 ghost use Rattle.std.specs.Prelude.{◌≡◌, ◌+◌, ◌<◌, ◌≤◌, ltb, length, get_or};
 ghost use Rattle.theory.specs.Lists.{tab, written};
 ghost use Rattle.theory.specs.Simulation.{indicator};
@@ -6,11 +8,11 @@ ghost use Rattle.theory.specs.Test.{all_below};
 ghost use Rattle.elements.specs.Words.{code_in, negated_code_in, value_code, decode_in, within, at_most_in, Coded};
 
 // An element of the lattice, by its number.
-#[derive(Drop)]
+#[derive(Clone, Copy)]
 pub struct Element(pub u8);
 
 // What a lattice has beside its codes: n, the number of its elements, and its top and bottom.
-#[derive(Drop)]
+#[derive(Clone, Copy)]
 pub struct Lattice {
     pub size: u8,
     pub top: Element,

@@ -11,7 +11,7 @@ use Prim.Native.Nat.{ℕ, zero, suc, ◌+◌, ◌-◌, ◌≤◌, ◌<◌}
 use Rattle.std.specs.Prelude.{◌≡◌, refl, Bool, true, false, not, ◌⊎◌, List, ltb, eqb, length, get_or, set}
 use Rattle.std.proofs.Common.{sym, ap₂, ◌∙◌, inl, inr, ⊎_elim, add-zero, add-suc, le_refl, not-suc-le-zero, add-one, arith, ltb-true, ltb-false, eq-eqb, ne_eqb, eqb-true, get_or-set_same, get_or-set_other}
 use Rattle.std.proofs.Math.Path.{ap}
-use Rattle.std.proofs.lemmas.Bool.{not_false}
+use Rattle.std.proofs.lemmas.Bool.{not-false}
 use Rattle.std.specs.Int.Bits.{bit_and, bit_or, or_comm}
 use Rattle.std.proofs.lemmas.Nat.{and_comm}
 use Rattle.theory.specs.Loop.{fold}
@@ -150,7 +150,7 @@ listed_same {row} {starts} {len} {a} v u =
 -- a turn of the loop that lists them
 pub listed_turn : {row starts : List ℕ} {len a : ℕ} (b : Bool) → Listed row starts len a → len < length starts → a + 16 ≤ 64 → b ≡ not (eqb (words_join row a 16) 0) → Listed row (set starts len a) (len + indicator b) (a + 16)
 listed_turn true u l f e = listed_more u l f
-listed_turn {row} {starts} {len} {a} false u l f e = rw (add-zero len) (listed-passed (listed_same a u) (gap_words row a 16 (eqb-true _ _ (not_false _ (sym e)))))
+listed_turn {row} {starts} {len} {a} false u l f e = rw (add-zero len) (listed-passed (listed_same a u) (gap_words row a 16 (eqb-true _ _ (not-false _ (sym e)))))
 
 -- ---- joins grow, and stay at the top's
 

@@ -3,6 +3,8 @@
 // which the meet is bottom; the pairs of such a state are counted up to the first after which its join is top, and worked in blocks.
 //   labels: what the propositions give, for all entries of a row
 //   joins: the joins over the states of model 2
+#![tactic(auto)]
+
 mod joins;
 mod labels;
 
@@ -21,14 +23,14 @@ pub use labels::propositions;
 use model::State;
 
 // An entry of F, and how many pairs (q1', q2') working it looked at.
-#[derive(Drop)]
+#[derive(Clone, Copy)]
 pub struct Entry {
     pub value: Element,
     pub pairs: usize,
 }
 
 // The code of a meet or a join, and how many pairs were looked at.
-#[derive(Drop)]
+#[derive(Clone, Copy)]
 pub(crate) struct CodeAndPairs {
     pub code: u64,
     pub pairs: usize,

@@ -7,6 +7,8 @@
 //   writing: koelchair_write
 //   held: koelchair_sizes
 //   worked: koelchair_entry
+#![tactic(auto)]
+
 mod finishing;
 mod held;
 mod moves;
@@ -23,7 +25,7 @@ use desk_check::Standing;
 
 // What every call but show answers; specs/Numbers.antt has the kinds. A field that a kind does not use is 0 or false.
 #[repr(C)]
-#[derive(Drop)]
+#[derive(Clone, Copy)]
 pub struct Answer {
     pub kind: u8,
     // The refusal's number, and the part that it names.
@@ -42,7 +44,7 @@ pub struct Answer {
 
 // What open, step and finish_round give: the standing after the call, and the answer.
 #[repr(C)]
-#[derive(Drop)]
+#[derive(Clone, Copy)]
 pub struct Moved {
     pub standing: Standing,
     pub answer: Answer,
@@ -50,7 +52,7 @@ pub struct Moved {
 
 // What show gives: the table that is shown, 1 the first and 2 the second, and its length; both 0 where the desk is refused.
 #[repr(C)]
-#[derive(Drop)]
+#[derive(Clone, Copy)]
 pub struct Shown {
     pub table: u8,
     pub length: usize,
@@ -59,7 +61,7 @@ pub struct Shown {
 // What a desk holds: the elements of its lattice, the propositions and states of its models, and its formulas. A desk that is refused has the refusal's
 // number and part, and zeros; any other has number and part 0.
 #[repr(C)]
-#[derive(Drop)]
+#[derive(Clone, Copy)]
 pub struct DeskSizes {
     pub number: u8,
     pub part: u8,
@@ -73,7 +75,7 @@ pub struct DeskSizes {
 // What working one entry of the next round gives: the entry, and how many pairs it looked at. A desk that is refused, or a state that there is not, has the
 // refusal's number and part, and zeros; any other has number and part 0.
 #[repr(C)]
-#[derive(Drop)]
+#[derive(Clone, Copy)]
 pub struct WorkedEntry {
     pub number: u8,
     pub part: u8,

@@ -1,5 +1,7 @@
 // Formula parts: whether the rules of the formula are obeyed, and the facts of the formula, in one pass over the tokens (formula_tokens).
 //   two_of, next_of, fixpoint_of: what is known of a formula, from what is known of the formulas directly within it
+#![tactic(auto)]
+
 ghost use Rattle.std.specs.Prelude.{◌≡◌, max, ◌≤◌, ◌<◌, true, ltb, length};
 ghost use Rattle.formula.specs.Bytes.{formula_reading};
 ghost use Rattle.formula.specs.Answer.{checked};
@@ -8,7 +10,7 @@ ghost use Rattle.formula.specs.Check.{leaf_facts, two_facts, next_facts, fixpoin
 use formula_tokens::{Token, size, token_at};
 
 // What is reported of a formula as written. Fixpoints are not unrolled.
-#[derive(Drop)]
+#[derive(Clone, Copy)]
 pub struct FormulaFacts {
     // The deepest nesting of AX: at most 254, a part having at most 255 bytes.
     pub nesting: u8,
@@ -19,7 +21,7 @@ pub struct FormulaFacts {
 }
 
 // What the check of a formula part answers.
-#[derive(Drop)]
+#[derive(Clone, Copy)]
 pub enum FormulaCheck {
     Accepted(FormulaFacts),
     // A formula rule is broken: refusal 10.
@@ -27,14 +29,14 @@ pub enum FormulaCheck {
 }
 
 // What is known of a formula inside a part that keeps the rules: where it ends, and its facts.
-#[derive(Drop)]
+#[derive(Clone, Copy)]
 struct NodeRead {
     end: usize,
     facts: FormulaFacts,
 }
 
 // That, or that a rule is broken.
-#[derive(Drop)]
+#[derive(Clone, Copy)]
 enum NodeEnd {
     At(NodeRead),
     Broken,

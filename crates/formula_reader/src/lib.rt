@@ -1,6 +1,8 @@
 // Reading a formula part: its facts, and going through it token by token, with a struct that holds the part's bytes and a place. The work is in
 // functions over a slice and a place (formula_tokens), by which `formula::check` and the valuer go as well. The functions over `FormulaReader` are
 // short, since each is proved by hand.
+#![tactic(auto)]
+
 ghost use Rattle.std.specs.Prelude.{◌≡◌};
 ghost use Rattle.formula_tokens.specs.Tokens.{token_at, token_end};
 ghost use Rattle.formula.specs.Answer.{IsFormula, FactsIn};
@@ -25,7 +27,7 @@ pub fn facts(part: &[u8], k: u8) -> FormulaFacts
 }
 
 // A formula part with a place in it.
-#[derive(Drop)]
+#[derive(Clone, Copy)]
 pub struct FormulaReader<'a> {
     pub bytes: &'a [u8],
     pub at: usize,

@@ -1,12 +1,14 @@
 // The tokens of a formula part: what stands at a place, a code with its number, and how many bytes it has. `token_at` is the one function
 // that decides by a formula's code; whoever goes over a part (formula, reader, valuer) goes by the token that it answers.
+#![tactic(auto)]
+
 ghost use Rattle.std.specs.Prelude.{◌≡◌};
 ghost use Rattle.formula_tokens.specs.Tokens.{token_at, token_end, token_size};
 
 use model::Proposition;
 
 // What stands at a place of a formula part: a code with its number, if it has one; the part's end; or neither.
-#[derive(Drop)]
+#[derive(Clone, Copy)]
 pub enum Token {
     Bottom,
     Top,

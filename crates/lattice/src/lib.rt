@@ -1,4 +1,6 @@
 // The lattice part by words: which refusal it gets, or none, and its operations left in 128 words.
+#![tactic(auto)]
+
 mod complements;
 mod panel;
 mod places;
@@ -17,7 +19,7 @@ use elements::{Codes, Element, Lattice};
 use refusal::Refusal;
 
 // What a lattice part gets: a refusal, or its size, top and bottom.
-#[derive(Drop)]
+#[derive(Clone, Copy)]
 pub enum LatticeCheck {
     Refused(Refusal),
     Accepted(Lattice),

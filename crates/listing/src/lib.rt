@@ -1,6 +1,8 @@
 // The text that the program `report` prints for a case.
 //   writing: bytes, numbers and lines
 //   settling: the rounds, and the lines of the settled table
+#![tactic(auto)]
+
 mod settling;
 mod writing;
 

@@ -1,4 +1,6 @@
 // States and propositions, and the values of a model part.
+#![tactic(auto)]
+
 ghost use Rattle.std.specs.Prelude.{◌≡◌, ◌+◌, ◌*◌, ◌≤◌, ◌<◌, length, get_or};
 ghost use Rattle.theory.specs.Lists.{tab, written};
 ghost use Rattle.theory.specs.Part.{model_of, ModelShape};
@@ -7,15 +9,15 @@ ghost use Rattle.model.specs.Reading.{model_answer, label_row, transition_row, l
 use elements::{Codes, Element};
 
 // A state of a model, by its number.
-#[derive(Drop)]
+#[derive(Clone, Copy)]
 pub struct State(pub u8);
 
 // A proposition, by its number.
-#[derive(Drop)]
+#[derive(Clone, Copy)]
 pub struct Proposition(pub u8);
 
 // What the check of a model part answers.
-#[derive(Drop)]
+#[derive(Clone, Copy)]
 pub enum ModelCheck {
     Refused,
     // A model of so many states and propositions.

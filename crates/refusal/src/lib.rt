@@ -1,8 +1,10 @@
 // The refusals, and the number and part that a refused call gives for each.
+#![tactic(auto)]
+
 ghost use Rattle.std.specs.Prelude.{◌≡◌};
 ghost use Rattle.refusal.specs.Number.{number_of, part_of};
 
-#[derive(Drop)]
+#[derive(Clone, Copy)]
 pub enum Refusal {
     // The store or a table of the desk is too short.
     ShortDesk,

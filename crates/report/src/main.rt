@@ -1,5 +1,7 @@
 // The program `report`: reads a case from standard input, works the rounds until one equals the one before, and prints T, the settled table,
 // its score and the formulas' values on both models; of a refused case, its number and part. The text is that of crate `listing`.
+#![tactic(auto)]
+
 use libc::{STDIN_FILENO, STDOUT_FILENO};
 
 fn main() {

@@ -36,9 +36,9 @@ pub record Worked (M₁ M₂ : Model ℕ) (G : (ℕ → ℕ → ℕ) → ℕ →
   pub others_unchanged : (i : ℕ) → q * M₂.states ≤ i → get_or out i 0 ≡ get_or before i 0
   pub same_length : length out ≡ length before
 
-not_false : (a : Bool) → not a ≡ false → a ≡ true
-not_false true e = refl
-not_false false e = sym e
+not-false : (a : Bool) → not a ≡ false → a ≡ true
+not-false true e = refl
+not-false false e = sym e
 
 -- entry (q₁, q₂) is among the first n₁ · n₂ bytes
 pub cell_lt : (n₁ n₂ q₁ q₂ : ℕ) → q₁ < n₁ → q₂ < n₂ → q₁ * n₂ + q₂ < n₁ * n₂
@@ -139,7 +139,7 @@ module _ (O : Ops ℕ) (M₁ M₂ : Model ℕ) (G : (ℕ → ℕ → ℕ) → �
   -- no row changed exactly when the table is a simulation: 'this round equals the one before'
   pub unchanged_simulation : (S : ℕ → ℕ → ℕ) → (changed_below M₁ M₂ G S M₁.states ≡ false) ↔ FixedBy O M₁ M₂ G S
   unfolding changed_below simulation_test
-  unchanged_simulation S = (λ e. (simulation_test_lem S).0 (not_false _ e), λ s. ap not ((simulation_test_lem S).1 s))
+  unchanged_simulation S = (λ e. (simulation_test_lem S).0 (not-false _ e), λ s. ap not ((simulation_test_lem S).1 s))
 
   pub unchanged_round : ReadsPairs O M₁ M₂ G → (r : ℕ) (S : ℕ → ℕ → ℕ) → SameTable O M₁ M₂ S (roundOf O M₁ M₂ G r) → (changed_below M₁ M₂ G S M₁.states ≡ false) ↔ SameTable O M₁ M₂ (roundOf O M₁ M₂ G (suc r)) (roundOf O M₁ M₂ G r)
   unfolding roundOf

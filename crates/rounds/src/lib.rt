@@ -2,6 +2,8 @@
 // differ. All but the last is worked on the codes of elements (crate `elements`), and an entry that is written is turned back into its element once. A row
 // alone is worked entry by entry (crate `entries`), a round by the inner joins that its rows share.
 //   columns: the codes of all rows of a round
+#![tactic(auto)]
+
 mod columns;
 
 ghost use Rattle.std.specs.Prelude.{◌≡◌, ◌+◌, ◌*◌, ◌≤◌, ◌<◌, length, get_or};

@@ -1,4 +1,6 @@
 // The share of a table's entries that are at or above an element, in whole per cent: `share`, by a count and its rounding.
+#![tactic(auto)]
+
 ghost use Rattle.std.specs.Prelude.{◌≡◌, ◌≤◌, ◌<◌, length, get_or};
 ghost use Rattle.theory.specs.Loop.{Counted};
 ghost use Rattle.theory.specs.Simulation.{per_cent};

@@ -1,6 +1,8 @@
 // The calls by value on the worked examples of document 01 and of requests 101, 102, 104 and 105. Each line of the input is a call: its word, and the bytes
 // that it takes, in hexadecimal. Row, Round and Settled are printed with the count of lowerings (request 107), and the table is shown after each step. A line
 // that begins with # is printed as it is.
+#![tactic(auto)]
+
 ghost use Rattle.io.specs.Counts.{IsPrefixLen};
 
 use desk_check::Standing;

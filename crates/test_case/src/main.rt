@@ -1,5 +1,7 @@
 // Cases at the bounds of each rule. Each line of the input has a name, a colon, and the bytes of a case in hexadecimal. A case is
 // accepted, and so is its gapless form, or it is refused with a number and a part.
+#![tactic(auto)]
+
 use casefile::CaseCheck;
 use libc::STDIN_FILENO;
 use test_printing::say;

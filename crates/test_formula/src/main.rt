@@ -1,5 +1,7 @@
 // Formula parts at the limits of each rule, and with some nestings of AX: whether each is accepted, with its facts, a line for each. There are 2
 // propositions.
+#![tactic(auto)]
+
 use formula::FormulaCheck;
 use test_printing::say;
 

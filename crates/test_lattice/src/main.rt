@@ -1,4 +1,6 @@
 // The boundary examples of lattice parts: each part's name with its refusal, or that it is accepted and its n.
+#![tactic(auto)]
+
 ghost use Rattle.std.specs.Prelude.{◌+◌, ◌*◌, ◌≤◌, length};
 
 use lattice::LatticeCheck;

@@ -1,6 +1,8 @@
 // The calls with the standing lent, on worked example 4 of document 01: from open to Settled(3), the questions, the case written back, and refused calls: on
 // a desk of zeros, with an empty case, out of range, and with a buffer too short. The input is the example's case in hexadecimal.
 //   answers: what is printed for each call's answer
+#![tactic(auto)]
+
 mod answers;
 
 use answers::{say_element, say_judge, say_length, say_open, say_share, say_step, say_value};

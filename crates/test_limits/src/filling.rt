@@ -3,7 +3,7 @@ ghost use Rattle.std.specs.Prelude.{◌≡◌, ◌≤◌, ◌<◌, length};
 ghost use Rattle.test_limits.specs.Full.{Full};
 
 // What an array is filled with: a lattice part, one of two model parts, a table, a formula.
-#[derive(Drop)]
+#[derive(Clone, Copy)]
 pub enum Filling {
     Chain,
     Subsets,

@@ -1,6 +1,8 @@
 // The crates at the greatest sizes. For each of three lattices, made by the check of its part, of 64, 64 and 27 elements: the last row of F of
 // a table between models of 64 states and 16 propositions, and the score of F of it; then, at every state of model 1 and on the whole
 // of it, the values of formulas of 255 bytes and of 1 to 3 nested binders.
+#![tactic(auto)]
+
 mod filling;
 
 ghost use Rattle.std.specs.Prelude.{◌≡◌, ◌+◌, ◌≤◌, length};

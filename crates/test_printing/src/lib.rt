@@ -1,4 +1,6 @@
 // What the example programs share: words and numbers that they print, and lines of text with bytes in hexadecimal that they read.
+#![tactic(auto)]
+
 ghost use Rattle.std.specs.Prelude.{◌≤◌, ◌<◌, length};
 ghost use Rattle.io.specs.Counts.{IsPrefixLen};
 
@@ -99,7 +101,7 @@ fn digit(c: u8) -> u8 {
 }
 
 // How many bytes are read, and the first digit of the next: 16 if it is still to come.
-#[derive(Drop)]
+#[derive(Clone, Copy)]
 struct Pairs {
     count: usize,
     first: u8,

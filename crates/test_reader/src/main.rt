@@ -1,4 +1,6 @@
 // A reader goes through some formula parts: what stands at the first three places of each, a line for each part.
+#![tactic(auto)]
+
 ghost use Rattle.std.specs.Prelude.{◌≡◌, [], ◌∷◌};
 ghost use Rattle.formula_reader.specs.Through.{tokens_from};
 
@@ -7,7 +9,7 @@ use formula_tokens::Token;
 use test_printing::{item, say};
 
 // What stands at three places, one after the other.
-#[derive(Drop)]
+#[derive(Clone, Copy)]
 struct Found {
     first: Token,
     second: Token,

@@ -1,5 +1,7 @@
 // The worked examples 1 to 4 and 6 of document 01, and one for request 103, by the functions on tables: each round, how many pairs its entries looked at,
 // whether its table is at or below F of it (request 104), T, score, and the shares as of request 101.
+#![tactic(auto)]
+
 ghost use Rattle.std.specs.Prelude.{◌≡◌, ◌+◌, ◌*◌, ◌≤◌, ◌<◌, length, get_or};
 ghost use Rattle.theory.specs.Part.{ModelShape};
 ghost use Rattle.elements.specs.Words.{Coded};

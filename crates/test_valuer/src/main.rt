@@ -1,6 +1,8 @@
 // Worked example 5 and Table 1 of 000 by the running valuer, over the subsets of {a, b, c}. A set is the number with 1 for a, 2 for b
 // and 4 for c. From q0 two transitions of {b, c}, p being {a, b}, {b} and {b, c}. The transitions of q1 and q2, which 000 gives in a
 // figure, are here those of {a, b, c} to q1, with which the rounds of Table 1 come out.
+#![tactic(auto)]
+
 ghost use Rattle.std.specs.Prelude.{◌≡◌, get_or};
 ghost use Rattle.elements.specs.Words.{Coded};
 ghost use Rattle.valuer.specs.Values.{ModelOver, Reads};

@@ -2,6 +2,8 @@
 // each kind of node (valuer_maps); the token at a place says which (formula_tokens). A map from states to elements is 64 words, of which the first
 // N count: the codes of its values (elements). It is written into the lent array `out`, and a value is decoded at the end, once. w and l are
 // a lattice's codes and numbers, m is a model part (model), f a formula part (formula).
+#![tactic(auto)]
+
 ghost use Rattle.std.specs.Prelude.{◌≡◌, ◌<◌, get_or};
 ghost use Rattle.theory.specs.Part.{ModelShape};
 ghost use Rattle.valuer_maps.specs.Successors.{SuccessorsOf};

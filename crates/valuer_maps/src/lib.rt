@@ -1,6 +1,8 @@
 // The maps of single nodes of a formula. A map from states to elements is 64 words, of which the first N count: the codes of its values
 // (elements). w and l are a lattice's codes and numbers, m is a model part (model), s the successors of its states. A map is written into the lent array `out`.
 //   successors: the states that AX and EX look at
+#![tactic(auto)]
+
 mod successors;
 
 ghost use Rattle.std.specs.Prelude.{◌≡◌, ◌*◌, ◌≤◌, ◌<◌, eqb, length, get_or, replicate};

@@ -3,7 +3,7 @@ use mathlib.Core.Path.{◌≡◌, sym, ◌∙◌}
 use mathlib.Core.Bool.{true}
 use native.Mathlib.Omega.{arith}
 use borrow.Author.Rules.{rules}
-use borrow.Author.Tests.{not-true, not_false, ltb-true, lt-ltb}
+use borrow.Author.Tests.{not-true, not-false, ltb-true, lt-ltb}
 use lib.Dec.{ltb, leb}
 use lib.ListN.{length}
 use Rattle.theory.specs.TestLaws.{and_l}
@@ -15,10 +15,10 @@ use Rattle.casefile.proofs.check.Statement.{statement}
 use Rattle.casefile.proofs.check.Tie as tie
 
 sized : (c : tie.Else1) → size_test c.before.before.before.args.bytes.now ≡ true
-sized c = sym c.before.right-size.ensures ∙ not_false _ c.if1.false
+sized c = sym c.before.right-size.ensures ∙ not-false _ c.if1.false
 
 with-directory : (c : tie.Else2) → directory_test c.before.before.before.before.before.args.bytes.now ≡ true
-with-directory c = sym c.before.right-directory.ensures ∙ not_false _ c.if2.false
+with-directory c = sym c.before.right-directory.ensures ∙ not-false _ c.if2.false
 
 directed : (c : tie.Else2) → HasDirectory c.before.before.before.before.before.args.bytes.now
 directed c = has_directory _ (sized c.before.before) (with-directory c)

@@ -2,7 +2,7 @@
 use Prim.Native.Nat.{◌-◌, ◌≤◌}
 use mathlib.Core.Path.{sym, ◌∙◌}
 use native.Mathlib.Omega.{arith}
-use borrow.Author.Tests.{not-true, not_false}
+use borrow.Author.Tests.{not-true, not-false}
 use Rattle.casefile.specs.Formulas.{FormulasUpto, formulas_none, formulas_more, formulas_stop, formulas_done}
 use Rattle.casefile.proofs.check_formulas.Statement.{statement}
 use Rattle.casefile.proofs.check_formulas.Tie as tie
@@ -23,7 +23,7 @@ returns : tie.Need-returns invariant-loop decreases-loop
 returns c = formulas_stop _ _ _ _ c.before.before.before.loop.invariant.1 c.before.before.loop-test.true (sym c.before.is-formula.ensures ∙ not-true _ c.if1.true)
 
 loop-again : tie.Need-loop-preserved invariant-loop decreases-loop
-loop-again c = (omega arith, formulas_more _ _ _ _ c.before.before.before.loop.invariant.1 c.before.before.loop-test.true (sym c.before.is-formula.ensures ∙ not_false _ c.if1.false))
+loop-again c = (omega arith, formulas_more _ _ _ _ c.before.before.before.loop.invariant.1 c.before.before.loop-test.true (sym c.before.is-formula.ensures ∙ not-false _ c.if1.false))
 
 returns-2 : tie.Need-returns-2 invariant-loop decreases-loop
 returns-2 c = formulas_done _ _ _ _ c.before.loop.invariant.1 c.loop-test.false

@@ -2,7 +2,7 @@
 use Prim.Native.Nat.{◌-◌, ◌≤◌}
 use mathlib.Core.Path.{sym, ◌∙◌}
 use native.Mathlib.Omega.{arith}
-use borrow.Author.Tests.{not-true, not_false}
+use borrow.Author.Tests.{not-true, not-false}
 use Rattle.casefile.specs.Directory.{part_count}
 use Rattle.casefile.specs.Misplaced.{PlacedUpto, upto_none, upto_more, upto_stop, upto_done}
 use Rattle.casefile.proofs.first_misplaced.Statement.{statement}
@@ -29,7 +29,7 @@ part-end-requires c κs = (c.before.before.before.before.before.before.before.re
 loop-again : tie.Need-loop-preserved invariant-loop decreases-loop
 loop-again c =
     let i = c.before.before.before.before.loop in
-    (omega arith, upto_more _ _ _ _ i.invariant.1 (sym c.before.before.well-placed.ensures ∙ not_false _ c.before.if1.false) c.part-end.ensures)
+    (omega arith, upto_more _ _ _ _ i.invariant.1 (sym c.before.before.well-placed.ensures ∙ not-false _ c.before.if1.false) c.part-end.ensures)
 
 returns-2 : tie.Need-returns-2 invariant-loop decreases-loop
 returns-2 c = let i = c.before.loop in upto_done _ _ _ i.invariant.1 i.invariant.0 c.loop-test.false

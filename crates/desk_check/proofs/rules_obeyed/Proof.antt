@@ -2,7 +2,7 @@
 use mathlib.Core.Path.{◌≡◌, sym, ◌∙◌}
 use mathlib.Core.Bool.{Bool, true, false, ◌&&◌}
 use native.Mathlib.Omega.{arith}
-use borrow.Author.Tests.{not-true, not_false}
+use borrow.Author.Tests.{not-true, not-false}
 use Rattle.desk_check.specs.Held.{table_obeys_lem}
 use borrow.Author.Rules.{rules}
 use Rattle.desk_check.proofs.rules_obeyed.Statement.{statement}
@@ -26,7 +26,7 @@ below-requires c κs = omega (arith, c.table-size.ensures.0, c.before.before.bef
 returns-2 : tie.Need-returns-2
 returns-2 c =
     and_second _ _ _
-    (sym c.before.before.before.before.standing-obeys.ensures ∙ not_false _ c.before.before.before.if1.false)
+    (sym c.before.before.before.before.standing-obeys.ensures ∙ not-false _ c.before.before.before.if1.false)
     (sym (table_obeys_lem c.before.before.before.before.before.before.before.before.args.first.now _ _ _ _ c.before.below.ensures c.before.before.table-size.ensures.0) ∙ not-true _ c.if2.true)
 
 below-requires-2 : tie.Need-below-requires-2
@@ -38,8 +38,8 @@ returns-3 c =
     let n = c.before.before.before.table-size.ensures.0 in
     table_obeys_lem a.second.now _ _ _ _ c.below2.ensures n
     ∙ and_last _ _ _
-    (sym c.before.before.before.before.before.standing-obeys.ensures ∙ not_false _ c.before.before.before.before.if1.false)
-    (sym (table_obeys_lem a.first.now _ _ _ _ c.before.before.below.ensures n) ∙ not_false _ c.before.if2.false)
+    (sym c.before.before.before.before.before.standing-obeys.ensures ∙ not-false _ c.before.before.before.before.if1.false)
+    (sym (table_obeys_lem a.first.now _ _ _ _ c.before.before.below.ensures n) ∙ not-false _ c.before.if2.false)
 
 pub rules-obeyed-spec : {M : Type 1} → statement M
 rules-obeyed-spec =

@@ -7,7 +7,7 @@ use Rattle.theory.specs.TestLaws.{and_in}
 use Rattle.desk.specs.Desk.{Standing}
 use Rattle.desk.specs.Refused.{sizes_obey, round_obeys}
 use Rattle.desk_check.specs.Read.{standing_of}
-use borrow.Author.Tests.{not-true, not_false}
+use borrow.Author.Tests.{not-true, not-false}
 use borrow.Author.Tests.{eq-eqb, ne_eqb}
 use borrow.Author.Rules.{rules}
 use Rattle.desk_check.proofs.standing_obeys.Statement.{statement}
@@ -46,7 +46,7 @@ returns-4 : tie.Need-returns-4
 returns-4 c =
     let a = c.before.before.before.before.before.before.before.before.before.args in
     and-third _ _ _ _ (sizes-obey a.n1 a.n2 (standing_of a.s) c.before.before.before.before.before.before.before.if1.false c.before.before.before.before.before.if2.false)
-    (sym c.before.before.before.before.row-obeys.ensures ∙ not_false _ c.before.before.before.if3.false)
+    (sym c.before.before.before.before.row-obeys.ensures ∙ not-false _ c.before.before.before.if3.false)
     (round-at (standing_of a.s) _ _ _ _ c.before.before.limit.ensures.0 c.before.round-obeys.ensures (not-true _ c.if4.true))
 
 returns-5 : tie.Need-returns-5
@@ -54,8 +54,8 @@ returns-5 c =
     let a = c.before.before.before.before.before.before.before.before.before.before.args in
     ap (leb a.s.lowerings) c.before.before.before.limit.ensures.0
     ∙ and_last _ _ _ _ (sizes-obey a.n1 a.n2 (standing_of a.s) c.before.before.before.before.before.before.before.before.if1.false c.before.before.before.before.before.before.if2.false)
-    (sym c.before.before.before.before.before.row-obeys.ensures ∙ not_false _ c.before.before.before.before.if3.false)
-    (round-at (standing_of a.s) _ _ _ _ c.before.before.before.limit.ensures.0 c.before.before.round-obeys.ensures (not_false _ c.before.if4.false))
+    (sym c.before.before.before.before.before.row-obeys.ensures ∙ not-false _ c.before.before.before.before.if3.false)
+    (round-at (standing_of a.s) _ _ _ _ c.before.before.before.limit.ensures.0 c.before.before.round-obeys.ensures (not-false _ c.before.if4.false))
 
 pub standing-obeys-spec : {M : Type 1} → statement M
 standing-obeys-spec =

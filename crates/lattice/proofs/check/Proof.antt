@@ -1,7 +1,7 @@
 -- `lattice::check` meets its contract: test by test. Assumes nothing.
 use mathlib.Core.Path.{◌≡◌, sym, ◌∙◌}
 use mathlib.Core.Bool.{true}
-use borrow.Author.Tests.{not-true, not_false}
+use borrow.Author.Tests.{not-true, not-false}
 use Rattle.lattice.specs.Reading.{lattice_form}
 use Rattle.lattice.specs.Check.{form_refused, form_answered, size_most, check_refused, check_words}
 use borrow.Author.Rules.{rules}
@@ -9,7 +9,7 @@ use Rattle.lattice.proofs.check.Statement.{statement}
 use Rattle.lattice.proofs.check.Tie as tie
 
 form : (c : tie.Else1) → lattice_form c.before.before.before.args.part.now ≡ true
-form c = sym c.before.has_form.ensures ∙ not_false _ c.if1.false
+form c = sym c.before.has_form.ensures ∙ not-false _ c.if1.false
 
 returns : tie.Need-returns
 returns c = form_refused _ _ (sym c.before.has_form.ensures ∙ not-true _ c.if1.true)
@@ -47,7 +47,7 @@ check-complements-requires : tie.Need-check-complements-requires
 check-complements-requires c κs = (
   form c.before.before.before.before.before.before.before.before.before.before.before.before.before.before.before.before.before.before.before.before.before.before.before.before,
   check_words _ (form c.before.before.before.before.before.before.before.before.before.before.before.before.before.before.before.before.before.before.before.before.before.before.before.before) (c.before.before.before.before.before.before.before.before.before.before.before.before.before.before.before.before.before.before.before.before.before.before.index.ensures.0 ∙ c.before.before.before.before.before.before.before.before.before.before.before.before.before.before.before.before.before.before.before.before.before.before.before.size.ensures) c.before.before.before.before.before.before.before.before.before.before.before.before.before.before.before.before.before.before.before.before.fill-order.ensures c.before.before.before.before.before.before.before.before.before.before.before.before.before.before.irreducibles-of.ensures c.before.before.before.before.before.before.before.before.before.before.before.fill-codes.ensures
-      (sym c.before.before.before.before.is-lattice.ensures ∙ not_false _ c.before.before.before.if2.false),
+      (sym c.before.before.before.before.is-lattice.ensures ∙ not-false _ c.before.before.before.if2.false),
 )
 
 returns-3 : tie.Need-returns-3

@@ -3,7 +3,7 @@ use mathlib.Core.Path.{◌≡◌, sym, ap, ◌∙◌}
 use mathlib.Core.Bool.{Bool, true, false}
 use Prim.Native.Nat.{ℕ}
 use native.Mathlib.Omega.{arith}
-use borrow.Author.Tests.{not-true, not_false}
+use borrow.Author.Tests.{not-true, not-false}
 use Rattle.theory.specs.Test.{all_below}
 use Rattle.lattice.specs.Reading.{lattice_of}
 use Rattle.lattice.specs.Accepted.{formed}
@@ -53,8 +53,8 @@ returns-3 : tie.Need-returns-3
 returns-3 c =
     let e = c.before.before.before.before.before.before.before.before.before.index.ensures.0 ∙ c.before.before.before.before.before.before.before.before.before.before.size.ensures in
     answered-accepted (formed _ c.before.before.before.before.before.before.before.before.before.before.before.before.requires.0) c.before.before.before.before.before.before.before.before.before.before.before.before.requires.1 c.before.before.before.before.before.fill-words.ensures _
-    (involution c.before.before.before.before.before.before.before.before true (not_false _ c.before.before.before.before.before.before.before.if1.false))
-    (antitone-size _ e (sym c.before.before.before.is-antitone.ensures ∙ not_false _ c.before.before.if2.false))
+    (involution c.before.before.before.before.before.before.before.before true (not-false _ c.before.before.before.before.before.before.before.if1.false))
+    (antitone-size _ e (sym c.before.before.before.is-antitone.ensures ∙ not-false _ c.before.before.if2.false))
     c.before.before.before.before.before.before.before.before.before.before.size.ensures
     (rw e at c.before.find.ensures) (rw e at c.find2.ensures)
 

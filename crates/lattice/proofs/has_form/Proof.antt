@@ -3,7 +3,7 @@ use Prim.Native.Nat.{◌*◌, ◌≤◌}
 use mathlib.Core.Path.{◌≡◌, sym, ◌∙◌}
 use mathlib.Core.Bool.{true, false}
 use native.Mathlib.Omega.{arith}
-use borrow.Author.Tests.{not-true, not_false}
+use borrow.Author.Tests.{not-true, not-false}
 use borrow.Author.Rules.{rules}
 use Rattle.theory.specs.TestLaws.{not_passed}
 use Rattle.lattice.specs.Reading.{is_panel, lattice_form}
@@ -53,7 +53,7 @@ mul-below c = omega (arith, square c.before.before.before)
 returns-7 : tie.Need-returns-7
 returns-7 c =
     c.below2.ensures
-    ∙ sym (form-last _ _ (explicit c.before.before.before.before.before.before.before.before) c.before.before.before.before.before.before.index.ensures.0 c.before.before.before.before.before.if3.false c.before.before.before.before.if4.false c.before.before.before.if5.false (sym c.before.before.below.ensures ∙ not_false _ c.before.if6.false))
+    ∙ sym (form-last _ _ (explicit c.before.before.before.before.before.before.before.before) c.before.before.before.before.before.before.index.ensures.0 c.before.before.before.before.before.if3.false c.before.before.before.before.if4.false c.before.before.before.if5.false (sym c.before.before.below.ensures ∙ not-false _ c.before.if6.false))
 
 pub has-form-spec : {M : Type 1} → statement M
 has-form-spec =

@@ -2,7 +2,7 @@
 use mathlib.Core.Path.{◌≡◌, refl, sym, ◌∙◌}
 use Prim.Native.Nat.{◌≤◌, ◌<◌, ◌-◌}
 use lib.ListN.{get_or}
-use borrow.Author.Tests.{not-true, not_false}
+use borrow.Author.Tests.{not-true, not-false}
 use Rattle.theory.specs.Loop.{Passed, passed_none, passed_more, passed_stop, passed_all}
 use Rattle.theory.specs.Test.{all_below}
 use Rattle.model.specs.Places.{prod_le}
@@ -60,7 +60,7 @@ returns c =
     ∙ all-rows c.before.before.before.before.before.before.before.before
 
 loop-again : tie.Need-loop-preserved invariant-loop decreases-loop
-loop-again c = (omega arith, passed_more c.before.before.before.before.before.before.before.loop.invariant.1 (sym (row-found c.before) ∙ not_false _ c.if1.false))
+loop-again c = (omega arith, passed_more c.before.before.before.before.before.before.before.loop.invariant.1 (sym (row-found c.before) ∙ not-false _ c.if1.false))
 
 returns-2 : tie.Need-returns-2 invariant-loop decreases-loop
 returns-2 c = let e = c.before.before.before.before.before.before.states.ensures in passed_all c.before.loop.invariant.1 (omega arith) (omega arith) ∙ all-rows c.before.before

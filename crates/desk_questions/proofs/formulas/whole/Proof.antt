@@ -3,7 +3,7 @@ use mathlib.Core.Path.{refl, sym, ◌∙◌}
 use Rattle.desk.specs.Desk.{Desk, Call, Question}
 use Rattle.desk_check.specs.Read.{desk_of}
 use Rattle.desk_check.specs.Held.{HeldDesk, when_held, refused_call}
-use borrow.Author.Tests.{not-true, not_false}
+use borrow.Author.Tests.{not-true, not-false}
 use lib.Seq.{length-take-le}
 use Rattle.desk_questions.specs.Questions.{model_over, formula_on_model, held_whole, whole_outside}
 use borrow.Author.Rules.{rules}
@@ -30,7 +30,7 @@ slice-aggregate-bytes c =
 whole-of-requires : tie.Need-whole-of-requires
 whole-of-requires c κs =
     let z = c.before.before.before.before.before.before in
-    let r = sym c.before.before.before.in-range.ensures ∙ not_false _ c.before.before.if1.false in
+    let r = sym c.before.before.before.in-range.ensures ∙ not-false _ c.before.before.if1.false in
     (model_over (held z) _ _ r, formula_on_model (held z) _ _ r)
 
 returns-2 : tie.Need-returns-2
@@ -39,13 +39,13 @@ returns-2 c = refused_call (Call.Ask (Question.Whole c.before.before.before.befo
 facts-of-requires : tie.Need-facts-of-requires
 facts-of-requires c κs =
     let z = c.before.before.before.before.before.before.before in
-    formula_on_model (held z) _ _ (sym c.before.before.before.before.in-range.ensures ∙ not_false _ c.before.before.before.if1.false)
+    formula_on_model (held z) _ _ (sym c.before.before.before.before.in-range.ensures ∙ not-false _ c.before.before.before.if1.false)
 
 returns-3 : tie.Need-returns-3
 returns-3 c =
     let a = c.before in
     let z = a.before.before.before.before.before.before.before in
-    held_whole (held z) _ _ _ _ (sym a.before.before.before.before.in-range.ensures ∙ not_false _ a.before.before.before.if1.false) a.whole_of.ensures c.facts-of.ensures
+    held_whole (held z) _ _ _ _ (sym a.before.before.before.before.in-range.ensures ∙ not-false _ a.before.before.before.if1.false) a.whole_of.ensures c.facts-of.ensures
 
 pub whole-spec : {M : Type 1} → statement M
 whole-spec =

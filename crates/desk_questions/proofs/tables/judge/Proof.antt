@@ -1,7 +1,7 @@
 -- `desk_questions::judge` meets its contract: by the examination, the table's length and bytes, then by the test.
 use mathlib.Core.Path.{refl, sym, ◌∙◌}
 use native.Mathlib.Omega.{arith}
-use borrow.Author.Tests.{eq-eqb, ne_eqb, not-true, not_false}
+use borrow.Author.Tests.{eq-eqb, ne_eqb, not-true, not-false}
 use lib.Seq.{length-take-le}
 use Rattle.desk.specs.Desk.{Desk, Call, Question}
 use Rattle.desk_check.specs.Read.{desk_of}
@@ -44,7 +44,7 @@ returns-3 c = refused_call (Call.Ask (Question.Judge c.before.before.before.befo
 returns-4 : tie.Need-returns-4
 returns-4 c =
     let z = c.before.before.before.before.before.before.before.before.before in
-    held_judge (held z) _ _ _ c.before.before.before.before.before.before.table-size.ensures.0 (eq-eqb _ _ c.before.before.before.before.before.if1.false) (sym (table_obeys_lem c.before.before.before.before.before.before.before.before.before.before.before.before.before.before.before.before.before.args.table.now _ _ _ _ c.before.before.before.before.below.ensures refl) ∙ not_false _ c.before.before.before.if2.false) c.post-fixed-of.ensures
+    held_judge (held z) _ _ _ c.before.before.before.before.before.before.table-size.ensures.0 (eq-eqb _ _ c.before.before.before.before.before.if1.false) (sym (table_obeys_lem c.before.before.before.before.before.before.before.before.before.before.before.before.before.before.before.before.before.args.table.now _ _ _ _ c.before.before.before.before.below.ensures refl) ∙ not-false _ c.before.before.before.if2.false) c.post-fixed-of.ensures
 
 pub judge-spec : {M : Type 1} → statement M
 judge-spec =

@@ -5,7 +5,7 @@ use Rattle.desk_check.specs.Read.{desk_of}
 use Rattle.desk_check.specs.Held.{HeldDesk, when_held}
 use Rattle.desk_questions.specs.Questions.{readable, whole_fits}
 use Rattle.exports.specs.WorkedLaws.{worked_refused, worked_outside, state_below, worked_entry_lem, pairs_fit}
-use borrow.Author.Tests.{not-true, not_false}
+use borrow.Author.Tests.{not-true, not-false}
 use lib.Seq.{length-take-le}
 use native.Mathlib.Omega.{arith}
 use borrow.Author.Rules.{rules}
@@ -30,7 +30,7 @@ slice-aggregate-bytes c =
 entry-in-requires : tie.Need-entry-in-requires
 entry-in-requires c κs =
     let z = c.before.before.before.before.before.before.before in
-    let s = state_below (held z) _ _ (sym c.before.before.before.before.is_below.ensures ∙ not_false _ c.before.before.before.if1.false) in
+    let s = state_below (held z) _ _ (sym c.before.before.before.before.is_below.ensures ∙ not-false _ c.before.before.before.if1.false) in
     (readable (held z) _ (whole_fits (held z) _ c.before.whole-table.ensures), s.0, s.1)
 
 cast-t23 : tie.Need-overflow-cast-t23
@@ -42,7 +42,7 @@ returns-2 c = c.refused-entry.ensures ∙ worked_refused _ _ (desk c.before.befo
 returns-3 : tie.Need-returns-3
 returns-3 c =
     let z = c.before.before.before.before.before.before.before.before.before.before in
-    worked_entry_lem (held z) _ _ (sym c.before.before.before.before.before.before.before.is_below.ensures ∙ not_false _ c.before.before.before.before.before.before.if1.false) c.before.before.before.before.whole-table.ensures c.before.before.entry_in.ensures
+    worked_entry_lem (held z) _ _ (sym c.before.before.before.before.before.before.before.is_below.ensures ∙ not-false _ c.before.before.before.before.before.before.if1.false) c.before.before.before.before.whole-table.ensures c.before.before.entry_in.ensures
 
 pub koelchair-entry-spec : {M : Type 1} → statement M
 koelchair-entry-spec =

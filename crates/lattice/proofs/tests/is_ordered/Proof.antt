@@ -2,7 +2,7 @@
 use mathlib.Core.Path.{◌≡◌, sym, ◌∙◌}
 use Prim.Native.Nat.{◌≤◌, ◌-◌}
 use native.Mathlib.Omega.{arith}
-use borrow.Author.Tests.{not-true, not_false}
+use borrow.Author.Tests.{not-true, not-false}
 use Rattle.theory.specs.Loop.{Passed, passed_none, passed_more, passed_stop, passed_all}
 use Rattle.theory.specs.Test.{all_below}
 use Rattle.lattice_codes.specs.Tests.{words_in, pair_ordered, ordered}
@@ -24,7 +24,7 @@ unfolding ordered
 returns c = passed_stop c.before.before.before.loop.invariant.1 c.before.before.loop-test.true (sym c.before.row-ordered.ensures ∙ not-true _ c.if1.true)
 
 loop-again : tie.Need-loop-preserved invariant-loop decreases-loop
-loop-again c = (omega arith, passed_more c.before.before.before.loop.invariant.1 (sym c.before.row-ordered.ensures ∙ not_false _ c.if1.false))
+loop-again c = (omega arith, passed_more c.before.before.before.loop.invariant.1 (sym c.before.row-ordered.ensures ∙ not-false _ c.if1.false))
 
 returns-2 : tie.Need-returns-2 invariant-loop decreases-loop
 unfolding ordered

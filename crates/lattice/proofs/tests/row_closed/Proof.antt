@@ -2,7 +2,7 @@
 use mathlib.Core.Path.{◌≡◌, sym, ◌∙◌}
 use Prim.Native.Nat.{◌≤◌, ◌-◌}
 use native.Mathlib.Omega.{arith}
-use borrow.Author.Tests.{not-true, not_false}
+use borrow.Author.Tests.{not-true, not-false}
 use lib.ListN.{get_or}
 use Rattle.theory.specs.Loop.{Passed, passed_none, passed_more, passed_stop, passed_all}
 use Rattle.lattice_codes.specs.Tests.{words_in, is_word, both, row_skip, row_tested}
@@ -29,7 +29,7 @@ returns-2 c =
     ∙ row_tested (words_in p.words.now) _ _ p.joins _ _ c.before.before.before.before.before.bit.ensures c.before.before.before.before.if1.false
 
 loop-again : tie.Need-loop-preserved invariant-loop decreases-loop
-loop-again c = (omega arith, passed_more c.before.before.before.loop.invariant.1 (sym c.before.pair-closed.ensures ∙ not_false _ c.if2.false))
+loop-again c = (omega arith, passed_more c.before.before.before.loop.invariant.1 (sym c.before.pair-closed.ensures ∙ not-false _ c.if2.false))
 
 returns-3 : tie.Need-returns-3 invariant-loop decreases-loop
 returns-3 c =

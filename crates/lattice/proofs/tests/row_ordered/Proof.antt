@@ -2,7 +2,7 @@
 use mathlib.Core.Path.{◌≡◌, sym, ◌∙◌}
 use Prim.Native.Nat.{◌≤◌, ◌-◌}
 use native.Mathlib.Omega.{arith}
-use borrow.Author.Tests.{not-true, not_false}
+use borrow.Author.Tests.{not-true, not-false}
 use Rattle.theory.specs.Loop.{Passed, passed_none, passed_more, passed_stop, passed_all}
 use Rattle.lattice_codes.specs.Tests.{words_in, pair_ordered}
 use borrow.Author.Rules.{rules}
@@ -24,7 +24,7 @@ returns c = passed_stop c.before.before.before.before.loop.invariant.1 c.before.
 
 loop-again : tie.Need-loop-preserved invariant-loop decreases-loop
 unfolding pair_ordered
-loop-again c = (omega arith, passed_more c.before.before.before.before.loop.invariant.1 (sym c.before.pair-ordered.ensures ∙ not_false _ c.if1.false))
+loop-again c = (omega arith, passed_more c.before.before.before.before.loop.invariant.1 (sym c.before.pair-ordered.ensures ∙ not-false _ c.if1.false))
 
 returns-2 : tie.Need-returns-2 invariant-loop decreases-loop
 returns-2 c = let i = c.before.loop.invariant in passed_all i.1 i.0 c.loop-test.false

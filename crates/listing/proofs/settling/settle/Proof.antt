@@ -2,7 +2,7 @@
 use Prim.Native.Nat.{◌-◌, ◌≤◌}
 use Prim.Native.Nat.{◌+◌}
 use mathlib.Core.Path.{◌≡◌, refl, ◌∙◌}
-use borrow.Author.Tests.{not-true, not_false}
+use borrow.Author.Tests.{not-true, not-false}
 use Rattle.model.specs.Places.{prod_le}
 use native.Mathlib.Omega.{arith}
 use lib.ListN.{length}
@@ -37,7 +37,7 @@ few c =
 
 -- after a round that changed something the second table holds the next round
 next-held : (c : tie.Else1 invariant-loop decreases-loop) → AtRound (ops_in c.before.before.before.before.before.before.before.before.before.before.before.args.w.now c.before.before.before.before.before.before.before.before.before.before.before.args.l) (model_of c.before.before.before.before.before.before.before.before.before.before.before.args.m1.now) (model_of c.before.before.before.before.before.before.before.before.before.before.before.args.m2.now) c.before.before.before.round.new.1.1.1.1.1.0 (c.before.before.before.before.before.before.loop.r + 1)
-next-held c = next-round c.before.before.before.before.before.before.loop.invariant.0 c.before.before.before.round.ensures (not_false _ c.if1.false)
+next-held c = next-round c.before.before.before.before.before.before.loop.invariant.0 c.before.before.before.round.ensures (not-false _ c.if1.false)
 
 add-result : tie.Need-overflow-add-result invariant-loop decreases-loop
 add-result c = omega (arith, few c.before.before.before.before.before.before)
@@ -83,7 +83,7 @@ loop-again : tie.Need-loop-preserved invariant-loop decreases-loop
 loop-again c =
     let r = c.before.before.before.before.before.before.before.before.before.before.before.before.loop.r in
     let e : r + 1 + 1 ≡ r + 2 = omega arith in (
-      rw e at (next-round (next-held c.before.before.before.before.before.before) c.before.before.before.round2.ensures (not_false _ c.if2.false)),
+      rw e at (next-round (next-held c.before.before.before.before.before.before) c.before.before.before.round2.ensures (not-false _ c.if2.false)),
       c.before.before.before.round2.ensures.worked.same_length ∙ c.before.before.before.before.before.before.before.before.before.before.before.before.loop.invariant.1,
       c.before.before.before.before.before.before.before.before.before.round.ensures.worked.same_length ∙ c.before.before.before.before.before.before.before.before.before.before.before.before.loop.invariant.2,
     )

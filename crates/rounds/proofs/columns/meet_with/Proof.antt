@@ -8,7 +8,7 @@ use Rattle.elements.specs.Folds.{top_same}
 use Rattle.entries.specs.Codes.{WithinTop}
 use Rattle.rounds.specs.Early.{upper_none, upper_more, at_bottom}
 use Rattle.theory.specs.TestLaws.{false_true}
-use borrow.Author.Tests.{eqb-true, not_false}
+use borrow.Author.Tests.{eqb-true, not-false}
 use borrow.Author.Rules.{rules}
 use native.Mathlib.Omega.{arith}
 use Rattle.rounds.proofs.columns.meet_with.Statement.{statement}
@@ -41,7 +41,7 @@ same_length : tie.Need-same-length invariant-loop decreases-loop
 same_length c = c.before.loop.invariant.2.same_length
 
 returns-2 : tie.Need-returns-2 invariant-loop decreases-loop
-returns-2 c = let i = c.before.loop.invariant in (replaced_all i.2 (omega arith) (omega arith), λ e. at_bottom i.3 (omega arith) (eqb-true _ _ (not_false _ e)))
+returns-2 c = let i = c.before.loop.invariant in (replaced_all i.2 (omega arith) (omega arith), λ e. at_bottom i.3 (omega arith) (eqb-true _ _ (not-false _ e)))
 
 pub meet-with-spec : {M : Type 1} → statement M
 meet-with-spec =

@@ -1,0 +1,8 @@
+-- `elements::at_most` meets its contract: by the words of both. Assumes nothing.
+use mathlib.Core.Path.{ap₂}
+use borrow.Author.Rules.{rules}
+use Rattle.elements.specs.Words.{within}
+use Rattle.elements.proofs.at_most.Goals as goal
+
+pub returns : goal.returns
+returns c = ap₂ within c.code-x.ensures c.code-y.ensures

@@ -1,0 +1,19 @@
+use mathlib.Core.Path.{◌≡◌, sym, ◌∙◌}
+use mathlib.Core.Bool.{false}
+use Prim.Native.Nat.{ℕ, ◌≤◌, ◌<◌, ◌-◌}
+use native.Mathlib.Nat.{not-suc-le-zero, le_refl}
+use native.Mathlib.Omega.{arith}
+use borrow.Author.Count.{below_more}
+use borrow.Author.Tests.{eq-eqb, ne_eqb}
+use lib.Dec.{eqb}
+use lib.ListN.{get_or}
+use Rattle.theory.specs.TestLaws.{first_unique}
+use Rattle.elements.specs.Coded.{guess_is}
+use borrow.Author.Rules.{rules}
+use Rattle.elements.proofs.decode.Given as goal
+
+abbrev pub invariant-loop-a : goal.invariant-loop-a
+invariant-loop-a l = (l.a ≤ 64) × ((i : ℕ) → i < l.a → eqb (get_or l.w i 0) l.x ≡ false)
+
+abbrev pub decreases-loop-a : goal.decreases-loop-a
+decreases-loop-a l = 64 - l.a
