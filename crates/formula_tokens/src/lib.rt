@@ -65,6 +65,7 @@ pub fn token_at(f: &[u8], at: usize) -> Token
 }
 
 // How many bytes a token has: its code, and its number if it has one. The end and a broken place have none.
+#[tactic(auto, unfolding(crate::specs::Tokens::token_size))]
 pub fn size(t: Token) -> usize
     ensures { result ≡ token_size t }
 {

@@ -1,0 +1,18 @@
+-- `lattice::rows::clear` meets its contract: the words below the counter are 0. Assumes nothing.
+use mathlib.Core.Path.{◌≡◌, refl}
+use Prim.Native.Nat.{◌≤◌, ◌-◌}
+use native.Mathlib.Omega.{arith}
+use lib.ListN.{length, length-set}
+use Rattle.theory.specs.Lists.{Filled}
+use Rattle.theory.specs.Loop.{filled_none, filled_more, filled_as}
+use borrow.Author.Rules.{rules}
+use Rattle.lattice.proofs.rows.clear.Goals as goal
+
+pub loop-a-init : goal.loop-a-init
+loop-a-init c = (omega arith, c.entries-arg-2-1.given, filled_none)
+
+pub loop-a-preserved : goal.loop-a-preserved
+loop-a-preserved c = let i = c.loop-a.invariant in (omega arith, simp length-set i.1, filled_more i.2 (omega arith) refl)
+
+pub returns : goal.returns
+returns c = filled_as c.loop-a.invariant.2 (omega arith) (λ i l. refl)

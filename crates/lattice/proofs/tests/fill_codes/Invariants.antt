@@ -1,0 +1,15 @@
+use mathlib.Core.Path.{◌≡◌, refl}
+use Prim.Native.Nat.{◌≤◌, ◌-◌}
+use native.Mathlib.Omega.{arith}
+use lib.ListN.{length, length-set}
+use Rattle.theory.specs.Lists.{Filled}
+use Rattle.theory.specs.Loop.{filled_none, filled_more, filled_as}
+use Rattle.lattice_codes.specs.Tests.{codes_by}
+use borrow.Author.Rules.{rules}
+use Rattle.lattice.proofs.tests.fill_codes.Given as goal
+
+abbrev pub invariant-loop-a : goal.invariant-loop-a
+invariant-loop-a l = (l.a ≤ l.n) × (length l.codes ≡ 64) × Filled (codes_by l.down l.mask) l.a l.codes
+
+abbrev pub decreases-loop-a : goal.decreases-loop-a
+decreases-loop-a l = l.n - l.a

@@ -1,0 +1,15 @@
+use mathlib.Core.Path.{◌≡◌, sym, ◌∙◌}
+use Prim.Native.Nat.{◌≤◌, ◌-◌}
+use native.Mathlib.Omega.{arith}
+use borrow.Author.Tests.{not-true, not-false}
+use Rattle.theory.specs.Loop.{Passed, passed_none, passed_more, passed_stop, passed_all}
+use Rattle.theory.specs.Test.{all_below}
+use Rattle.lattice_codes.specs.Tests.{words_in, pair_closed, closed}
+use borrow.Author.Rules.{rules}
+use Rattle.lattice.proofs.tests.is_closed.Given as goal
+
+abbrev pub invariant-loop-a : goal.invariant-loop-a
+invariant-loop-a l = (l.a ≤ l.n) × Passed (λ a. all_below l.n (pair_closed l.n (words_in l.words) l.mask l.joins a)) l.a
+
+abbrev pub decreases-loop-a : goal.decreases-loop-a
+decreases-loop-a l = l.n - l.a
