@@ -4,26 +4,25 @@
 ghost use Rattle.std.specs.Prelude.{◌+◌, ◌*◌, ◌≤◌, length};
 
 use lattice::LatticeCheck;
-use libc::STDOUT_FILENO;
+use std::io;
 
-fn show(name: &[u8], r: LatticeCheck) {
-    io::write_all(STDOUT_FILENO, name);
+fn show(rt: &impl Print, name: &[u8], r: LatticeCheck) -> io::Result<()> {
+    rt.write_all(name)?;
     match r {
         LatticeCheck::Refused(f) => {
-            io::write_all(STDOUT_FILENO, b": refused ");
-            io::print_decimal(STDOUT_FILENO, refusal::number(f) as u64);
+            let number = refusal::number(f);
+            println!(rt; ": refused {number}")
         }
         LatticeCheck::Accepted(l) => {
-            io::write_all(STDOUT_FILENO, b": accepted ");
-            io::print_decimal(STDOUT_FILENO, l.size as u64);
+            let size = l.size;
+            println!(rt; ": accepted {size}")
         }
     }
-    io::write_all(STDOUT_FILENO, b"\n");
 }
 
-fn run(name: &[u8], part: &[u8]) {
+fn run(rt: &impl Print, name: &[u8], part: &[u8]) -> io::Result<()> {
     let mut w = [0u64; 128];
-    show(name, lattice::check(part, &mut w));
+    show(rt, name, lattice::check(part, &mut w))
 }
 
 fn at_most(i: usize, j: usize) -> u8 {
@@ -57,43 +56,52 @@ fn chain(part: &mut [u8], n: usize)
     part[0] = n as u8;
 }
 
-fn longest_chains() {
+fn longest_chains(rt: &impl Print) -> io::Result<()> {
     let mut chain64 = [0u8; 4161];
     chain(&mut chain64, 64);
-    run(b"a chain of 64", &chain64);
+    run(rt, b"a chain of 64", &chain64)?;
     let mut chain65 = [0u8; 4291];
     chain(&mut chain65, 65);
-    run(b"a chain of 65", &chain65);
+    run(rt, b"a chain of 65", &chain65)
 }
 
 // Each part is n, the complements and the rows of the order.
-fn main() {
-    run(b"the panel lattice", b"\x00");
-    run(b"one element", b"\x01\x00\x01");
+fn main(rt: HostRuntime) -> io::Result<()> {
+    run(&rt, b"the panel lattice", b"\x00")?;
+    run(&rt, b"one element", b"\x01\x00\x01")?;
     run(
+        &rt,
         b"L3",
         b"\x03\x02\x01\x00\x01\x01\x01\x00\x01\x01\x00\x00\x01",
-    );
+    )?;
     run(
+        &rt,
         b"L3 with its top first",
         b"\x03\x02\x01\x00\x01\x00\x00\x01\x01\x00\x01\x01\x01",
-    );
-    longest_chains();
-    run(b"a byte 0 and more", b"\x00\x00");
-    run(b"a complement not below n", b"\x01\x01\x01");
-    run(b"an order byte of 2", b"\x01\x00\x02");
+    )?;
+    longest_chains(&rt)?;
+    run(&rt, b"a byte 0 and more", b"\x00\x00")?;
+    run(&rt, b"a complement not below n", b"\x01\x01\x01")?;
+    run(&rt, b"an order byte of 2", b"\x01\x00\x02")?;
     run(
+        &rt,
         b"two elements below one another",
         b"\x02\x01\x00\x01\x01\x01\x01",
-    );
-    run(b"two unordered elements", b"\x02\x01\x00\x01\x00\x00\x01");
+    )?;
     run(
+        &rt,
+        b"two unordered elements",
+        b"\x02\x01\x00\x01\x00\x00\x01",
+    )?;
+    run(
+        &rt,
         b"bottom, three unordered elements and top",
         b"\x05\x04\x01\x02\x03\x00\
         \x01\x01\x01\x01\x01\x00\x01\x00\x00\x01\x00\x00\x01\x00\x01\x00\x00\x00\x01\x01\x00\x00\x00\x00\x01",
-    );
+    )?;
     run(
+        &rt,
         b"L3 with each its own complement",
         b"\x03\x00\x01\x02\x01\x01\x01\x00\x01\x01\x00\x00\x01",
-    );
+    )
 }

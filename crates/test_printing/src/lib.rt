@@ -1,62 +1,78 @@
 // What the example programs share: words and numbers that they print, and lines of text with bytes in hexadecimal that they read.
 #![tactic(auto)]
 
-ghost use Rattle.std.specs.Prelude.{◌≤◌, ◌<◌, length};
-ghost use Rattle.io.specs.Counts.{IsPrefixLen};
+ghost use Rattle.std.specs.Prelude.{◌≤◌, ◌<◌, length, IfOk};
 
-use libc::STDOUT_FILENO;
 use refusal::Refusal;
+use std::io;
+use std::io::Read;
 
 // ---- printing
 
-pub fn say(text: &[u8]) {
-    io::write_all(STDOUT_FILENO, text);
+pub fn say(rt: &impl Print, text: &[u8]) -> io::Result<()> {
+    rt.write_all(text)
 }
 
 // A label and a number.
-pub fn item(text: &[u8], n: u64) {
-    say(text);
-    io::print_decimal(STDOUT_FILENO, n);
+pub fn item(rt: &impl Print, text: &[u8], n: u64) -> io::Result<()> {
+    say(rt, text)?;
+    rt.print(n)
 }
 
 // A label and two numbers, a blank between them.
-pub fn two(text: &[u8], a: u64, b: u64) {
-    item(text, a);
-    item(b" ", b);
+pub fn two(rt: &impl Print, text: &[u8], a: u64, b: u64) -> io::Result<()> {
+    item(rt, text, a)?;
+    item(rt, b" ", b)
 }
 
 // A byte as a number, with a blank before it.
-pub fn byte(x: u8) {
-    item(b" ", x as u64);
+pub fn byte(rt: &impl Print, x: u8) -> io::Result<()> {
+    item(rt, b" ", x as u64)
 }
 
 // Each byte of a part.
-pub fn bytes(part: &[u8]) {
+pub fn bytes(rt: &impl Print, part: &[u8]) -> io::Result<()> {
     for i in 0..part.len() {
-        byte(part[i]);
+        byte(rt, part[i])?;
     }
+    Ok(())
 }
 
 // A refusal's number and part.
-pub fn refused(r: Refusal) {
-    say(b" refused");
-    byte(refusal::number(r));
-    byte(refusal::part(r));
+pub fn refused(rt: &impl Print, r: Refusal) -> io::Result<()> {
+    say(rt, b" refused")?;
+    byte(rt, refusal::number(r))?;
+    byte(rt, refusal::part(r))
 }
 
 // The facts of a formula: the deepest nesting of AX, whether a fixpoint occurs and whether EX occurs.
-pub fn facts(nesting: u8, fixpoint: bool, ex: bool) {
-    item(b" (nesting ", nesting as u64);
+pub fn facts(rt: &impl Print, nesting: u8, fixpoint: bool, ex: bool) -> io::Result<()> {
+    item(rt, b" (nesting ", nesting as u64)?;
     if fixpoint {
-        say(b", fixpoint");
+        say(rt, b", fixpoint")?;
     }
     if ex {
-        say(b", EX");
+        say(rt, b", EX")?;
     }
-    say(b")");
+    say(rt, b")")
 }
 
 // ---- reading
+
+// Reads until the room is full or the input ends; says how many bytes there are.
+pub fn read_full(input: &mut impl Read, out: &mut [u8]) -> io::Result<usize>
+    ensures { IfOk result (λ n. n ≤ length out.new) }
+{
+    let mut count = 0;
+    while count < out.len() {
+        let n = input.read(&mut out[count..])?;
+        if n == 0 {
+            break;
+        }
+        count += n;
+    }
+    Ok(count)
+}
 
 // The byte at a place of a part, or 0 past its end.
 pub fn at(part: &[u8], i: usize) -> u8 {
@@ -81,7 +97,7 @@ pub fn line(text: &[u8], at: usize) -> usize
 
 // How many bytes stand before the first that is `stop` or a line end.
 pub fn before(line: &[u8], stop: u8) -> usize
-    ensures { IsPrefixLen result line.now }
+    ensures { result ≤ length line.now }
 {
     for i in 0..line.len() {
         if line[i] == stop || line[i] == b'\n' {
@@ -134,7 +150,7 @@ fn take(p: Pairs, d: u8, out: &mut [u8]) -> Pairs
 
 // The bytes that pairs of digits give, as many as there is room for; says how many.
 pub fn hexadecimal(text: &[u8], out: &mut [u8]) -> usize
-    ensures { IsPrefixLen result out.new }
+    ensures { result ≤ length out.new }
 {
     let mut p = Pairs {
         count: 0,

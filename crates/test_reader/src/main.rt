@@ -6,6 +6,7 @@ ghost use Rattle.formula_reader.specs.Through.{tokens_from};
 
 use formula_reader::{advance, new, peek};
 use formula_tokens::Token;
+use std::io;
 use test_printing::{item, say};
 
 // What stands at three places, one after the other.
@@ -30,50 +31,46 @@ fn three(part: &[u8]) -> Found
     }
 }
 
-fn say_one(yes: bool, text: &[u8], other: &[u8]) {
-    if yes {
-        say(text);
-    } else {
-        say(other);
-    }
+fn say_one(rt: &impl Print, yes: bool, text: &[u8], other: &[u8]) -> io::Result<()> {
+    if yes { say(rt, text) } else { say(rt, other) }
 }
 
-fn say_token(t: Token) {
+fn say_token(rt: &impl Print, t: Token) -> io::Result<()> {
     match t {
-        Token::Bottom => say(b" bottom"),
-        Token::Top => say(b" top"),
+        Token::Bottom => say(rt, b" bottom"),
+        Token::Top => say(rt, b" top"),
         Token::Literal { p, negated } => {
-            say_one(negated, b" negated", b"");
-            item(b" proposition ", p.0 as u64);
+            say_one(rt, negated, b" negated", b"")?;
+            item(rt, b" proposition ", p.0 as u64)
         }
-        Token::Variable(v) => item(b" variable ", v as u64),
-        Token::Two { or } => say_one(or, b" or", b" and"),
-        Token::Next { all } => say_one(all, b" AX", b" EX"),
-        Token::Fixpoint { least } => say_one(least, b" least", b" greatest"),
-        Token::End => say(b" end"),
-        Token::Broken => say(b" broken"),
+        Token::Variable(v) => item(rt, b" variable ", v as u64),
+        Token::Two { or } => say_one(rt, or, b" or", b" and"),
+        Token::Next { all } => say_one(rt, all, b" AX", b" EX"),
+        Token::Fixpoint { least } => say_one(rt, least, b" least", b" greatest"),
+        Token::End => say(rt, b" end"),
+        Token::Broken => say(rt, b" broken"),
     }
 }
 
-fn show(name: &[u8], part: &[u8]) {
-    say(name);
+fn show(rt: &impl Print, name: &[u8], part: &[u8]) -> io::Result<()> {
+    say(rt, name)?;
     let found = three(part);
     let first = found.first;
     let second = found.second;
     let third = found.third;
-    say_token(first);
-    say(b",");
-    say_token(second);
-    say(b",");
-    say_token(third);
-    say(b"\n");
+    say_token(rt, first)?;
+    say(rt, b",")?;
+    say_token(rt, second)?;
+    say(rt, b",")?;
+    say_token(rt, third)?;
+    say(rt, b"\n")
 }
 
-fn main() {
-    show(b"AX of a proposition:", b"\x07\x02\x00");
-    show(b"a greatest fixpoint:", b"\x0a\x04\x00");
-    show(b"or, of two:", b"\x05\x03\x0f\x01");
-    show(b"code 11 after EX:", b"\x08\x0b\x00");
-    show(b"a number missing after and:", b"\x06\x02");
-    show(b"no byte:", b"");
+fn main(rt: HostRuntime) -> io::Result<()> {
+    show(&rt, b"AX of a proposition:", b"\x07\x02\x00")?;
+    show(&rt, b"a greatest fixpoint:", b"\x0a\x04\x00")?;
+    show(&rt, b"or, of two:", b"\x05\x03\x0f\x01")?;
+    show(&rt, b"code 11 after EX:", b"\x08\x0b\x00")?;
+    show(&rt, b"a number missing after and:", b"\x06\x02")?;
+    show(&rt, b"no byte:", b"")
 }

@@ -10,75 +10,83 @@ ghost use Rattle.valuer.specs.Values.{ModelOver, Reads};
 use elements::{Codes, Lattice};
 use lattice::LatticeCheck;
 use model::{ModelCheck, State};
+use std::io;
 
-fn show_set(x: u8) {
-    io::write_all(1, b" {");
+fn show_set(rt: &impl Print, x: u8) -> io::Result<()> {
+    rt.write_all(b" {")?;
     if x % 2 == 1 {
-        io::write_all(1, b"a");
+        rt.write_all(b"a")?;
     }
     if x / 2 % 2 == 1 {
-        io::write_all(1, b"b");
+        rt.write_all(b"b")?;
     }
     if x / 4 % 2 == 1 {
-        io::write_all(1, b"c");
+        rt.write_all(b"c")?;
     }
-    io::write_all(1, b"}");
+    rt.write_all(b"}")
 }
 
 // A formula's values at all states, and on the whole model.
-fn show(name: &[u8], w: &Codes, l: Lattice, m: &[u8], f: &[u8])
+fn show(rt: &impl Print, name: &[u8], w: &Codes, l: Lattice, m: &[u8], f: &[u8]) -> io::Result<()>
     requires { ModelOver w.now l m.now × Reads m.now f.now }
 {
-    io::write_all(1, name);
+    rt.write_all(name)?;
     let n = model::states(m);
     for q in 0..n {
-        show_set(valuer::value(w, l, m, f, State(q as u8)).0);
+        show_set(rt, valuer::value(w, l, m, f, State(q as u8)).0)?;
     }
-    io::write_all(1, b" whole");
-    show_set(valuer::whole(w, l, m, f).0);
-    io::write_all(1, b"\n");
+    rt.write_all(b" whole")?;
+    show_set(rt, valuer::whole(w, l, m, f).0)?;
+    rt.write_all(b"\n")
 }
 
-fn show_all(w: &Codes, l: Lattice, m: &[u8])
+fn show_all(rt: &impl Print, w: &Codes, l: Lattice, m: &[u8]) -> io::Result<()>
     requires { ModelOver w.now l m.now × (get_or m.now 1 0 ≡ 1) }
 {
-    show(b"p", w, l, m, b"\x02\x00");
-    show(b"not p", w, l, m, b"\x03\x00");
-    show(b"AX p", w, l, m, b"\x07\x02\x00");
-    show(b"EX p", w, l, m, b"\x08\x02\x00");
+    show(rt, b"p", w, l, m, b"\x02\x00")?;
+    show(rt, b"not p", w, l, m, b"\x03\x00")?;
+    show(rt, b"AX p", w, l, m, b"\x07\x02\x00")?;
+    show(rt, b"EX p", w, l, m, b"\x08\x02\x00")?;
     show(
+        rt,
         b"nu z. p and AX z",
         w,
         l,
         m,
         b"\x0a\x06\x02\x00\x07\x04\x00",
-    );
-    show(b"mu z. p or EX z", w, l, m, b"\x09\x05\x02\x00\x08\x04\x00");
+    )?;
     show(
+        rt,
+        b"mu z. p or EX z",
+        w,
+        l,
+        m,
+        b"\x09\x05\x02\x00\x08\x04\x00",
+    )?;
+    show(
+        rt,
         b"nu y. mu z. (p and AX y) or AX z",
         w,
         l,
         m,
         b"\x0a\x09\x05\x06\x02\x00\x07\x04\x01\x07\x04\x00",
-    );
+    )
 }
 
 // The model, over the lattice.
-fn work(w: &Codes, l: Lattice)
+fn work(rt: &impl Print, w: &Codes, l: Lattice) -> io::Result<()>
     requires { Coded w.now l }
 {
     let m = [3u8, 1, 7, 0, 0, 3, 2, 6, 0, 6, 6, 0, 7, 0, 0, 7, 0];
     let answer = model::check(&m, l.size);
     match answer {
-        ModelCheck::Refused => {
-            io::write_all(1, b"refused\n");
-        }
-        ModelCheck::Accepted(_, _) => show_all(w, l, &m),
+        ModelCheck::Refused => rt.write_all(b"refused\n"),
+        ModelCheck::Accepted(_, _) => show_all(rt, w, l, &m),
     }
 }
 
 // The part of the subsets: their number, the complements, and for each which it is a subset of.
-fn main() {
+fn main(rt: HostRuntime) -> io::Result<()> {
     let part = b"\x08\x07\x06\x05\x04\x03\x02\x01\x00\
           \x01\x01\x01\x01\x01\x01\x01\x01\x00\x01\x00\x01\x00\x01\x00\x01\
           \x00\x00\x01\x01\x00\x00\x01\x01\x00\x00\x00\x01\x00\x00\x00\x01\
@@ -87,9 +95,7 @@ fn main() {
     let mut w = [0u64; 128];
     let answer = lattice::check(part, &mut w);
     match answer {
-        LatticeCheck::Refused(_) => {
-            io::write_all(1, b"refused\n");
-        }
-        LatticeCheck::Accepted(l) => work(&w, l),
+        LatticeCheck::Refused(_) => rt.write_all(b"refused\n"),
+        LatticeCheck::Accepted(l) => work(&rt, &w, l),
     }
 }
