@@ -1,73 +1,77 @@
-use Rattle.std.proofs.Common.{rules, ◌≡◌, max, ◌≤◌, ◌<◌, true, ltb, length, ℕ, ◌+◌, ◌-◌, ◌*◌, ◌/◌, ◌%◌, Bool, false, nat_eq, List, [], ◌∷◌, ◌++◌, slice_index_or, slice_set, bit_and, bit_or, Fits, w8, w32, w64, Bor, MutBor}
-use Rattle.formula.specs.Bytes.{formula_reading}
-use Rattle.formula.specs.Answer.{checked}
-use Rattle.formula.specs.Check.{leaf_facts, two_facts, next_facts, fixpoint_facts, nesting_of, end_if, map_facts, NodeIs}
+-- `formula::node`, which calls itself: the measure is the bytes from the position on. Each return is a law of the arm.
+use Prim.Native.Nat.{ℕ, ◌+◌, ◌<◌, ◌-◌}
+use mathlib.Core.Path.{◌≡◌, refl, ap, ◌∙◌}
+use mathlib.Core.List.{List}
+use lib.ListN.{length}
+use native.Mathlib.Omega.{arith}
+use Rattle.formula_tokens.specs.declared.Token.{Token}
+use Rattle.formula_tokens.specs.Tokens.{token_size}
+use Rattle.formula_tokens.specs.Sizes.{end_most, Stands, stands, stands-within}
+use Rattle.formula.proofs.Laws.{told, forward, shallow, at_bottom, at_top, at_literal, at_variable, at_two, at_two-broken, at_next, at_fixpoint, at_fourth, at_end, at_broken}
 use Rattle.formula.proofs.+node.Goals as goal
 
--- src/lib.rt:138:16
+-- a token of one byte, within the part, so that a call at the next place has fewer bytes left
+fewer : {f : List ℕ} {at end t : ℕ} {u : Token} → Stands f at u end → token_size u ≡ 1 → length f - at ≡ t → length f - end < t
+fewer w l m = omega (arith, w.ends, (stands-within w (omega arith)).0)
+
 pub overflow_add-next : goal.overflow_add-next
-overflow_add-next t c = ?
+overflow_add-next t c =
+    let e = c.size.ensures ∙ ap token_size c.token_at-token.ensures in
+    omega (arith, e, end_most c.args.f.now c.args.at)
 
--- src/lib.rt:145:17
 pub node-first-requires : goal.node-first-requires
-node-first-requires t c = ?
+unfolding token_size
+node-first-requires t c = (fewer (stands c.token_at-token.ensures c.size.ensures c.in-Two.is) refl c.decreases, c.requires)
 
--- src/lib.rt:149:35
 pub node-requires : goal.node-requires
-node-requires t c = ?
+unfolding token_size
+node-requires t c =
+    let h = forward _ (told c.node-first.ensures c.in-At.is) in
+    let l = fewer (stands c.token_at-token.ensures c.size.ensures c.in-Two.is) refl c.decreases in
+    (omega (arith, h, l), c.requires)
 
--- src/lib.rt:154:45
 pub node-requires-in-Next : goal.node-requires-in-Next
-node-requires-in-Next t c = ?
+unfolding token_size
+node-requires-in-Next t c = (fewer (stands c.token_at-token.ensures c.size.ensures c.in-Next.is) refl c.decreases, c.requires)
 
--- src/lib.rt:154:32
-pub next_of-requires : goal.next_of-requires
-next_of-requires t c = ?
-
--- src/lib.rt:157:29
 pub node-requires-then-depth-lt3 : goal.node-requires-then-depth-lt3
-node-requires-then-depth-lt3 t c = ?
+unfolding token_size
+node-requires-then-depth-lt3 t c = (fewer (stands c.token_at-token.ensures c.size.ensures c.in-Fixpoint.is) refl c.decreases, (omega arith, c.requires.1))
 
--- src/lib.rt:133:1
+pub next_of-requires : goal.next_of-requires
+next_of-requires t c = shallow _ c.node-in-Next.ensures c.requires.1
+
 pub returns-in-Bottom : goal.returns-in-Bottom
-returns-in-Bottom t c = ?
+returns-in-Bottom t c = rw c.leaf.ensures (at_bottom c.requires.0 (stands c.token_at-token.ensures c.size.ensures c.in-Bottom.is))
 
--- src/lib.rt:133:1
 pub returns-in-Top : goal.returns-in-Top
-returns-in-Top t c = ?
+returns-in-Top t c = rw c.leaf-in-Top.ensures (at_top c.requires.0 (stands c.token_at-token.ensures c.size.ensures c.in-Top.is))
 
--- src/lib.rt:133:1
 pub returns-in-Literal : goal.returns-in-Literal
-returns-in-Literal t c = ?
+returns-in-Literal t c = rw c.number_below.ensures (at_literal _ _ c.requires.0 (stands c.token_at-token.ensures c.size.ensures c.in-Literal.is))
 
--- src/lib.rt:133:1
 pub returns-in-Variable : goal.returns-in-Variable
-returns-in-Variable t c = ?
+returns-in-Variable t c = rw c.number_below-in-Variable.ensures (at_variable _ c.requires.0 (stands c.token_at-token.ensures c.size.ensures c.in-Variable.is))
 
--- src/lib.rt:133:1
 pub returns-in-At : goal.returns-in-At
-returns-in-At t c = ?
+returns-in-At t c =
+    rw c.two_of.ensures
+    (at_two _ (stands c.token_at-token.ensures c.size.ensures c.in-Two.is) _ (told c.node-first.ensures c.in-At.is) c.node.ensures)
 
--- src/lib.rt:133:1
 pub returns-in-Broken-first : goal.returns-in-Broken-first
-returns-in-Broken-first t c = ?
+returns-in-Broken-first t c = at_two-broken _ (stands c.token_at-token.ensures c.size.ensures c.in-Two.is) (told c.node-first.ensures c.in-Broken-first.is)
 
--- src/lib.rt:133:1
 pub returns-in-Next : goal.returns-in-Next
-returns-in-Next t c = ?
+returns-in-Next t c = rw c.next_of.ensures (at_next _ c.node-in-Next.ensures (stands c.token_at-token.ensures c.size.ensures c.in-Next.is))
 
--- src/lib.rt:133:1
 pub returns-then-depth-lt3 : goal.returns-then-depth-lt3
-returns-then-depth-lt3 t c = ?
+returns-then-depth-lt3 t c = rw c.fixpoint_of.ensures (at_fixpoint _ c.node-then-depth-lt3.ensures (stands c.token_at-token.ensures c.size.ensures c.in-Fixpoint.is))
 
--- src/lib.rt:133:1
 pub returns-else-depth-lt3 : goal.returns-else-depth-lt3
-returns-else-depth-lt3 t c = ?
+returns-else-depth-lt3 t c = at_fourth _ c.if-depth-lt3.false (stands c.token_at-token.ensures c.size.ensures c.in-Fixpoint.is)
 
--- src/lib.rt:133:1
 pub returns-in-End : goal.returns-in-End
-returns-in-End t c = ?
+returns-in-End t c = at_end (stands c.token_at-token.ensures c.size.ensures c.in-End.is)
 
--- src/lib.rt:133:1
 pub returns-in-Broken : goal.returns-in-Broken
-returns-in-Broken t c = ?
+returns-in-Broken t c = at_broken (stands c.token_at-token.ensures c.size.ensures c.in-Broken.is)

@@ -5,4 +5,4 @@ use Rattle.formula.specs.Check.{leaf_facts, two_facts, next_facts, fixpoint_fact
 use Rattle.formula.proofs.+node.Given as goal
 
 abbrev pub decreases-node : goal.decreases-node
-decreases-node l = ?
+decreases-node l = length l.f.now - l.at
