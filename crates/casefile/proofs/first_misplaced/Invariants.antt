@@ -1,0 +1,13 @@
+use Prim.Native.Nat.{◌-◌, ◌≤◌}
+use mathlib.Core.Path.{sym, ◌∙◌}
+use native.Mathlib.Omega.{arith}
+use borrow.Author.Tests.{not-true, not-false}
+use Rattle.casefile.specs.Directory.{part_count}
+use Rattle.casefile.specs.Misplaced.{PlacedUpto, upto_none, upto_more, upto_stop, upto_done}
+use Rattle.casefile.proofs.first_misplaced.Given as goal
+
+abbrev pub invariant-loop-i : goal.invariant-loop-i
+invariant-loop-i l = (l.i ≤ part_count l.bytes) × PlacedUpto l.bytes l.i l.from
+
+abbrev pub decreases-loop-i : goal.decreases-loop-i
+decreases-loop-i l = part_count l.bytes - l.i

@@ -1,2 +1,0 @@
--- What the walks of `reader` share: the struct.
-mod Struct
