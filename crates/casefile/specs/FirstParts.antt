@@ -5,7 +5,7 @@ use Prim.Native.Nat.{ℕ, zero, suc, ◌+◌, ◌<◌}
 use Rattle.std.proofs.Math.Path.{◌≡◌, refl}
 use Rattle.std.proofs.Common.{sym, ap, ⊎_elim, eq-or-lt_of_le, arith, le-leb}
 use Rattle.std.specs.Prelude.{not, ◌&&◌, ◌↔◌, List, leb, get_or}
-use Rattle.std.proofs.Math.Logic.{Iff·rfl, Iff·trans}
+use mathlib.Core.Logic.Iff
 use Rattle.std.proofs.lemmas.Bool.{not-false}
 use Rattle.theory.specs.Formula.{Formula, closed, over_props, nested_binders}
 use Rattle.theory.specs.TestLaws.{and_in, false_true, not_passed, first_is, first_unique}
@@ -58,7 +58,7 @@ module _ (b : List ℕ) where
 
   -- what is refused of the parts after a formula is refused
   named_next : (i : ℕ) (φ : Formula) (y : FormulasReading) (j : ℕ) → (read_one i (FormulaReading.read φ) y ≡ refused_at j) ↔ (y ≡ refused_at j)
-  named_next i φ (refused_at x) j = Iff·rfl
+  named_next i φ (refused_at x) j = Iff.rfl
   named_next i φ (read φs) j = (λ e. absurd (let z : ◌≡◌ {A = ℕ} 0 1 = cc in omega arith), λ e. absurd (let z : ◌≡◌ {A = ℕ} 0 1 = cc in omega arith))
 
   -- the first of the n parts from part `from` on that is none
@@ -102,4 +102,4 @@ module _ (b : List ℕ) where
       )
       go (FormulaReading.read φ) e h =
           let f : HasFormula b from = (φ, formula_part k (part_at b from) φ e) in
-          Iff·trans (named_next from φ rest i) (Iff·trans h (one_more n from i f, one_less n from i f))
+          Iff.trans (named_next from φ rest i) (Iff.trans h (one_more n from i f, one_less n from i f))

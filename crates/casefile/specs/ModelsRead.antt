@@ -5,7 +5,7 @@
 --   refused_content, same_refusal, differ: a refusal is no content, is one, and is none of another number
 use Rattle.std.specs.Prelude.{ℕ, ◌≤◌, ◌≡◌, Bool, true, false, cond, ◌&&◌, ◌↔◌, List, eqb, get_or}
 use Rattle.std.proofs.Math.Path.{ap}
-use Rattle.std.proofs.Math.Logic.{Iff·rfl}
+use mathlib.Core.Logic.Iff
 use Rattle.std.proofs.Common.{arith}
 use Rattle.theory.specs.Part.{LatticePart}
 use Rattle.refusal.specs.declared.Refusal.{Refusal}
@@ -59,19 +59,19 @@ module _ (l : List ℕ) (P : LatticePart) (m1 m2 : List ℕ) (fs : List (List �
   pub first_model : (models_reading l P m1 m2 fs ≡ refused (BadModel 1)) ↔ (¬ (test1 ≡ true))
   unfolding models_reading
   first_model =
-      first_here test1 Iff·rfl
+      first_here test1 Iff.rfl
       (first_never test2 (λ e. omega (arith, ap part_of (same_refusal e))) (λ e. omega (arith, formulas_number (BadModel 1) e)))
 
   pub second_model : (models_reading l P m1 m2 fs ≡ refused (BadModel 2)) ↔ ((test1 ≡ true) × (¬ (test2 ≡ true)))
   unfolding models_reading
   second_model =
-      first_later test1 Iff·rfl (λ e. omega (arith, ap part_of (same_refusal e)))
-      (first_here test2 Iff·rfl (λ e. omega (arith, formulas_number (BadModel 2) e)))
+      first_later test1 Iff.rfl (λ e. omega (arith, ap part_of (same_refusal e)))
+      (first_here test2 Iff.rfl (λ e. omega (arith, formulas_number (BadModel 2) e)))
 
   pub past_models : (x : CaseReading) → ((i : ℕ) → refused (BadModel i) ≡ x → ⊥)
       → (models_reading l P m1 m2 fs ≡ x) ↔ ((test1 ≡ true) × ((test2 ≡ true) × (from_formulas ≡ x)))
   unfolding models_reading
-  past_models x n = first_later test1 Iff·rfl (n 1) (first_later test2 Iff·rfl (n 2) Iff·rfl)
+  past_models x n = first_later test1 Iff.rfl (n 1) (first_later test2 Iff.rfl (n 2) Iff.rfl)
 
   -- what is refused is refused with 9 or 10
   pub models_number : (r : Refusal) → models_reading l P m1 m2 fs ≡ refused r → Between 9 r

@@ -4,7 +4,7 @@
 --   CaseNumber, case-number: a case is refused with 1 to 10
 use Rattle.std.specs.Prelude.{ℕ, ◌-◌, ◌≤◌, ◌<◌, ◌≡◌, refl, Bool, true, false, cond, ◌↔◌, List, ltb, eqb, leb, get_or, length}
 use Rattle.std.proofs.Common.{ap, ◌∙◌, arith, eqb-true, eq-eqb, ltb-true, leb-true, lt-ltb, le-leb}
-use Rattle.std.proofs.Math.Logic.{Iff·rfl, Iff·trans, Iff·and, Iff·not}
+use mathlib.Core.Logic.Iff
 use Rattle.theory.specs.Part.{LatticePart}
 use Rattle.theory.specs.TestLaws.{and_l, and_r, and_in}
 use Rattle.refusal.specs.declared.Refusal.{Refusal}
@@ -95,7 +95,7 @@ module _ (b : List ℕ) where
   case_2 =
       let w =
       first_later (size_test b) size_exactly (differ CaseSize Directory (λ e. omega arith))
-      (first_here (directory_test b) Iff·rfl (λ (e : from_places ≡ refused Directory). omega (arith, places-number Directory e))) in (
+      (first_here (directory_test b) Iff.rfl (λ (e : from_places ≡ refused Directory). omega (arith, places-number Directory e))) in (
         λ e. let v = w.0 e in (v.0, λ d. v.1 (directory_in b d).1),
         λ v. w.1 (v.0, λ t. v.1 (has_directory b (size_exactly.1 v.0) t)),
       )
@@ -104,8 +104,8 @@ module _ (b : List ℕ) where
   unfolding case_reading
   after_2 r l =
       let w =
-      first_later (size_test b) Iff·rfl (differ CaseSize r (λ e. omega arith))
-      (first_later (directory_test b) Iff·rfl (differ Directory r (λ e. omega arith)) Iff·rfl) in (
+      first_later (size_test b) Iff.rfl (differ CaseSize r (λ e. omega arith))
+      (first_later (directory_test b) Iff.rfl (differ Directory r (λ e. omega arith)) Iff.rfl) in (
         λ e. let v = w.0 e in (has_directory b v.0 v.1.0, v.1.1),
         λ v. let t = directory_in b v.0 in w.1 (t.0, (t.1, v.1)),
       )
@@ -138,7 +138,7 @@ module _ (b : List ℕ) where
 
   case_4_to_8 : {X : Type 0} (r : Refusal) → 3 < number_of r → number_of r ≤ 8
       → (lattice_reading (part_at b 0) ≡ LatticeReading.refused r) ↔ X → (case_reading b ≡ refused r) ↔ (Placed b × X)
-  case_4_to_8 r l m x = Iff·trans (after_3 r l) (Iff·and Iff·rfl (Iff·trans (lattice_first r m) x))
+  case_4_to_8 r l m x = Iff.trans (after_3 r l) (Iff.and Iff.rfl (Iff.trans (lattice_first r m) x))
 
   -- ---- 9 and 10
 
@@ -162,7 +162,7 @@ module _ (b : List ℕ) where
           ∙ ap from_read ((lattice_exactly (part_at b 0)).1 ((form_exactly (part_at b 0)).1 w.form, w.de_morgan))
 
   model_is : (i : ℕ) → (model_test P.size (part_at b i) ≡ true) ↔ HasModel b i
-  model_is i = Iff·trans (model_exactly P (part_at b i)) (λ w. record { shape = w.0; valued = w.1 }, λ w. (w.shape, w.valued))
+  model_is i = Iff.trans (model_exactly P (part_at b i)) (λ w. record { shape = w.0; valued = w.1 }, λ w. (w.shape, w.valued))
 
   second_is : (test2 (part_at b 0) P (part_at b 1) (part_at b 2) fs ≡ true) ↔ HasSecondModel b
   second_is = (
@@ -173,18 +173,18 @@ module _ (b : List ℕ) where
   )
 
   case_9_1 : (case_reading b ≡ refused (BadModel 1)) ↔ (HasLattice b × (¬ HasModel b 1))
-  case_9_1 = Iff·trans (after_8 (BadModel 1) (omega arith)) (Iff·and Iff·rfl (Iff·trans (first_model _ P _ _ _) (Iff·not (model_is 1))))
+  case_9_1 = Iff.trans (after_8 (BadModel 1) (omega arith)) (Iff.and Iff.rfl (Iff.trans (first_model _ P _ _ _) (Iff.not (model_is 1))))
 
   case_9_2 : (case_reading b ≡ refused (BadModel 2)) ↔ (HasLattice b × (HasModel b 1 × (¬ HasSecondModel b)))
   case_9_2 =
-      Iff·trans (after_8 (BadModel 2) (omega arith))
-      (Iff·and Iff·rfl (Iff·trans (second_model _ P _ _ _) (Iff·and (model_is 1) (Iff·not second_is))))
+      Iff.trans (after_8 (BadModel 2) (omega arith))
+      (Iff.and Iff.rfl (Iff.trans (second_model _ P _ _ _) (Iff.and (model_is 1) (Iff.not second_is))))
 
   formulas_first : (i : ℕ)
       → (from_formulas (part_at b 0) P (part_at b 1) (part_at b 2) fs ≡ refused (BadFormula i)) ↔ FirstBroken 3 (part_count b) (HasFormula b) i
   formulas_first i =
-      Iff·trans (named (formulas_reading (k b) 3 fs))
-      (Iff·trans (first_formula b (part_count b - 3) 3 i) (same_place _ _ (λ l m. omega arith), same_place _ _ (λ l m. omega arith)))
+      Iff.trans (named (formulas_reading (k b) 3 fs))
+      (Iff.trans (first_formula b (part_count b - 3) 3 i) (same_place _ _ (λ l m. omega arith), same_place _ _ (λ l m. omega arith)))
     where
       named : (x : FormulasReading) → (after_formulas (part_at b 0) P (part_at b 1) (part_at b 2) fs x ≡ refused (BadFormula i)) ↔ (x ≡ refused_at i)
       named (refused_at j) = (λ e. let q : j ≡ i = cc in ap refused_at q, λ e. cc)
@@ -196,10 +196,10 @@ module _ (b : List ℕ) where
   case_10 : (i : ℕ)
       → (case_reading b ≡ refused (BadFormula i)) ↔ (HasLattice b × (HasModel b 1 × (HasSecondModel b × FirstBroken 3 (part_count b) (HasFormula b) i)))
   case_10 i =
-      Iff·trans (after_8 (BadFormula i) (omega arith))
-      (Iff·and Iff·rfl
-      (Iff·trans (past_models _ P _ _ _ (refused (BadFormula i)) (λ j. differ (BadModel j) (BadFormula i) (λ e. omega arith)))
-      (Iff·and (model_is 1) (Iff·and second_is (formulas_first i)))))
+      Iff.trans (after_8 (BadFormula i) (omega arith))
+      (Iff.and Iff.rfl
+      (Iff.trans (past_models _ P _ _ _ (refused (BadFormula i)) (λ j. differ (BadModel j) (BadFormula i) (λ e. omega arith)))
+      (Iff.and (model_is 1) (Iff.and second_is (formulas_first i)))))
 
 -- ---- all of them
 
@@ -211,17 +211,17 @@ CaseRefused b n p = (r : Refusal) × (case_reading b ≡ refused r) × (number_o
 pub refused_as : (b : List ℕ) (Given : ℕ → ℕ → Type 0) → ((n p : ℕ) → Given n p ↔ CaseRefused b n p) → RefusedAs Given b
 refused_as b Given g =
     record {
-      at_1 = Iff·trans (by CaseSize) (case_1 b);
-      at_2 = Iff·trans (by Directory) (case_2 b);
-      at_3 = λ i. Iff·trans (by (PartPlace i)) (Iff·trans (after_2 b (PartPlace i) (omega arith)) (Iff·and Iff·rfl (places_first b i)));
-      at_4 = Iff·trans (by LatticeForm) (case_4_to_8 b LatticeForm (omega arith) (omega arith) l.at_4);
-      at_5 = Iff·trans (by NoPartialOrder) (case_4_to_8 b NoPartialOrder (omega arith) (omega arith) l.at_5);
-      at_6 = Iff·trans (by NoMeetOrJoin) (case_4_to_8 b NoMeetOrJoin (omega arith) (omega arith) l.at_6);
-      at_7 = Iff·trans (by NotDistributive) (case_4_to_8 b NotDistributive (omega arith) (omega arith) l.at_7);
-      at_8 = Iff·trans (by BadComplement) (case_4_to_8 b BadComplement (omega arith) (omega arith) l.at_8);
-      at_9_1 = Iff·trans (by (BadModel 1)) (case_9_1 b);
-      at_9_2 = Iff·trans (by (BadModel 2)) (case_9_2 b);
-      at_10 = λ i. Iff·trans (by (BadFormula i)) (case_10 b i);
+      at_1 = Iff.trans (by CaseSize) (case_1 b);
+      at_2 = Iff.trans (by Directory) (case_2 b);
+      at_3 = λ i. Iff.trans (by (PartPlace i)) (Iff.trans (after_2 b (PartPlace i) (omega arith)) (Iff.and Iff.rfl (places_first b i)));
+      at_4 = Iff.trans (by LatticeForm) (case_4_to_8 b LatticeForm (omega arith) (omega arith) l.at_4);
+      at_5 = Iff.trans (by NoPartialOrder) (case_4_to_8 b NoPartialOrder (omega arith) (omega arith) l.at_5);
+      at_6 = Iff.trans (by NoMeetOrJoin) (case_4_to_8 b NoMeetOrJoin (omega arith) (omega arith) l.at_6);
+      at_7 = Iff.trans (by NotDistributive) (case_4_to_8 b NotDistributive (omega arith) (omega arith) l.at_7);
+      at_8 = Iff.trans (by BadComplement) (case_4_to_8 b BadComplement (omega arith) (omega arith) l.at_8);
+      at_9_1 = Iff.trans (by (BadModel 1)) (case_9_1 b);
+      at_9_2 = Iff.trans (by (BadModel 2)) (case_9_2 b);
+      at_10 = λ i. Iff.trans (by (BadFormula i)) (case_10 b i);
       only = λ n p h. let w = (g n p).0 h in omega (arith, case-number b w.0 w.1, w.2);
     }
   where

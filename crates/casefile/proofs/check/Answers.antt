@@ -21,10 +21,10 @@ with-directory : (c : Else-not-right_directory) → directory_test c.args.bytes.
 with-directory c = sym c.right_directory.ensures ∙ c.if-not-right_directory.false
 
 directed : (c : Else-not-right_directory) → HasDirectory c.args.bytes.now
-directed c = has_directory _ (sized c.before) (with-directory c)
+directed c = has_directory _ (sym c.right_size.ensures ∙ c.if-not-right_size.false) (sym c.right_directory.ensures ∙ c.if-not-right_directory.false)
 
 placed : (c : Else-i-bytes) → Placed c.args.bytes.now
-placed c = all_placed _ _ (directed c.before) c.first_misplaced-i.ensures c.if-i-bytes.false
+placed c = all_placed _ _ (has_directory _ (sym c.right_size.ensures ∙ c.if-not-right_size.false) (sym c.right_directory.ensures ∙ c.if-not-right_directory.false)) c.first_misplaced-i.ensures c.if-i-bytes.false
 
 pub returns-then-not-right_size : goal.returns-then-not-right_size
 returns-then-not-right_size c = size-answered _ _ (sym c.right_size.ensures ∙ c.if-not-right_size.true)

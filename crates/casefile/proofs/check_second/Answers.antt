@@ -14,14 +14,12 @@ returns-in-Refused c =
 pub returns-then-k-k2 : goal.returns-then-k-k2
 returns-then-k-k2 c =
     let a = c.args in
-    let m = c.states2-1.given in
     c.check_rest.ensures
-    ∙ second_equal a.bytes.now a.l a.states1 a.k m.0 m.1.0 c.if-k-k2.true
+    ∙ second_equal a.bytes.now a.l a.states1 a.k c.in-Accepted.states2 c.in-Accepted.k2 c.if-k-k2.true
     ∙ ap (after_second a.bytes.now a.l a.states1 a.k) (sym c.in-Accepted.is ∙ c.check.ensures ∙ ap (model_answer a.l.size) c.part.ensures)
 
 pub returns-else-k-k2 : goal.returns-else-k-k2
 returns-else-k-k2 c =
     let a = c.args in
-    let m = c.states2-1.given in
-    second_differs a.bytes.now a.l a.states1 a.k m.0 m.1.0 c.if-k-k2.false
+    second_differs a.bytes.now a.l a.states1 a.k c.in-Accepted.states2 c.in-Accepted.k2 c.if-k-k2.false
     ∙ ap (after_second a.bytes.now a.l a.states1 a.k) (sym c.in-Accepted.is ∙ c.check.ensures ∙ ap (model_answer a.l.size) c.part.ensures)

@@ -6,8 +6,8 @@ use borrow.Author.Rules.{rules}
 use Rattle.casefile.specs.Directory.{part_size}
 use Rattle.casefile.proofs.part.Goals as goal
 
-pub LEFT-slice-bounds-result-end : goal.LEFT-slice-bounds-result-end
-LEFT-slice-bounds-result-end c =
+pub slice_bounds-result-end : goal.slice_bounds-result-end
+slice_bounds-result-end c =
     omega (arith, (c.requires.0.each c.args.i c.requires.1).within)
 
 pub returns : goal.returns

@@ -13,12 +13,12 @@ bounds-out-0 c =
 
 pub write_parts-requires : goal.write_parts-requires
 write_parts-requires c =
-    (c.requires.0, omega (arith, c.requires.1, c.write_pairs.auto.1.0, length-set c.args.out.now 0 (part_count c.args.bytes.now)))
+    (c.requires.0, omega (arith, c.requires.1, c.write_pairs.auto.out, length-set c.args.out.now 0 (part_count c.args.bytes.now)))
 
 pub shape_of-out : goal.shape_of-out
 shape_of-out c =
-    c.write_parts.auto.1.0
-    ∙ c.write_pairs.auto.1.0
+    c.write_parts.auto.out
+    ∙ c.write_pairs.auto.out
     ∙ length-set c.args.out.now 0 (part_count c.args.bytes.now)
 
 pub returns : goal.returns
