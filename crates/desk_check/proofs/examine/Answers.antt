@@ -3,6 +3,7 @@ use Prim.Native.Nat.{◌*◌, ◌≤◌}
 use mathlib.Core.Path.{◌≡◌, sym, ◌∙◌}
 use mathlib.Core.Bool.{false}
 use native.Mathlib.Omega.{arith}
+use lib.Seq.{length-take-le}
 use Rattle.casefile.specs.Caller.{when_accepted, when_refused}
 use Rattle.desk.specs.Desk.{Desk}
 use Rattle.desk.specs.Refused.{short, rules_obeyed}
@@ -32,7 +33,7 @@ unfolding short
 returns-then-too_short c = short-examined (desk_of c.args.s c.args.store.now c.args.first.now c.args.second.now) _ (sym c.too_short.ensures ∙ c.if-too_short.true)
 
 pub slice_bounds-check-end : goal.slice_bounds-check-end
-slice_bounds-check-end c = omega (arith, (lengths (goal.at.slice_bounds-check-end c).Else-too_short).store_long)
+slice_bounds-check-end c = omega (arith, length-take-le 24576 c.args.store.now (lengths (goal.at.slice_bounds-check-end c).Else-too_short).store_long)
 
 pub rules_obeyed-requires : goal.rules_obeyed-requires
 rules_obeyed-requires c =
