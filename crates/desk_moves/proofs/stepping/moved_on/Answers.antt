@@ -1,4 +1,5 @@
 -- `desk_moves::moved_on` meets its contract: by whether the row was the last.
+-- after the last row, and after another, where `now` says whether this round has changed anything by now, and n entries count
 use Prim.Native.Nat.{ℕ, ◌+◌}
 use mathlib.Core.Path.{◌≡◌, ◌∙◌}
 use mathlib.Core.Bool.{Bool, true, false, cond, ◌||◌}
@@ -9,11 +10,9 @@ use Rattle.desk.specs.Desk.{Standing}
 use Rattle.desk.specs.Moved.{next_round}
 use Rattle.desk_check.specs.Read.{standing_of}
 use Rattle.desk_moves.specs.Stepped.{differing_for, moved_by}
-use borrow.Author.Rules.{rules}
-use Rattle.desk_moves.proofs.stepping.moved_on.Statement.{statement}
-use Rattle.desk_moves.proofs.stepping.moved_on.Tie as tie
+use borrow.Author.Tests.{eq-eqb, ne_eqb}
+use Rattle.desk_moves.proofs.stepping.moved_on.Goals as goal
 
--- after the last row, and after another, where `now` says whether this round has changed anything by now, and n entries count
 module _ (s : Standing) (differs now : Bool) (whole other : List ℕ) (n : ℕ) (e : now ≡ (s.changed || differs)) (c : n ≡ cond (eqb (s.row + 1) s.states1) (differing_for s whole other) 0) where
   last_row : eqb (s.row + 1) s.states1 ≡ true → next_round now (s.lowerings + n) s ≡ moved_by differs whole other s
   last_row q = rw (c, e, q)
@@ -25,17 +24,12 @@ module _ (s : Standing) (differs now : Bool) (whole other : List ℕ) (n : ℕ) 
   other_row : eqb (s.row + 1) s.states1 ≡ false → counted (s.lowerings + n) ≡ moved_by differs whole other s
   other_row q = rw (c, e, q, add-zero)
 
-returns-2 : tie.Need-returns-2
-returns-2 c =
-    let a = c.before.before.before.before.before.before.before.before.before.args in
-    other_row (standing_of a.s) a.differs _ a.whole.now a.other.now _ c.before.before.before.before.before.before.either.ensures c.before.before.before.lowered.ensures.0 c.before.if1.false
-
-returns : tie.Need-returns
+pub returns : goal.returns
 returns c =
-    let a = c.before.before.before.before.before.before.before.before.before.args in
-    c.next-round.ensures ∙ last_row (standing_of a.s) a.differs _ a.whole.now a.other.now _ c.before.before.before.before.before.before.either.ensures c.before.before.before.lowered.ensures.0 c.before.if1.true
+    let a = c.args in
+    other_row (standing_of a.s) a.differs _ a.whole.now a.other.now _ c.either-changed.ensures c.lowered.ensures.0 (ne_eqb _ _ c.if-last.false)
 
-pub moved-on-spec : {M : Type 1} → statement M
-moved-on-spec =
-    tie.close (tie.spec (λ c κs. search rules) (λ c. search rules) (λ c κs. search rules) (λ c. search rules)
-    (λ c κs. search rules) returns (λ c. search rules) returns-2)
+pub returns-then-last : goal.returns-then-last
+returns-then-last c =
+    let a = c.args in
+    c.next_round.ensures ∙ last_row (standing_of a.s) a.differs _ a.whole.now a.other.now _ c.either-changed.ensures c.lowered.ensures.0 (eq-eqb _ _ c.if-last.true)
