@@ -1,12 +1,10 @@
 -- `valuer::from_initial` meets its contract: the meet so far.
 use mathlib.Core.Path.{refl, ap, ◌∙◌}
-use Prim.Native.Nat.{ℕ, ◌≤◌, ◌-◌}
+use Prim.Native.Nat.{ℕ}
 use native.Mathlib.Omega.{arith}
-use lib.Bits.{bit_and, bit_or}
+use lib.Bits.{bit_or}
 use lib.ListN.{get_or}
-use borrow.Author.Rules.{rules}
-use Rattle.theory.specs.Loop.{Folded, folded_none, folded_more, folded_all}
-use Rattle.theory.specs.Part.{model_of}
+use Rattle.theory.specs.Loop.{folded_none, folded_more, folded_all}
 use Rattle.elements.specs.Words.{negated_code_in}
 use Rattle.valuer.proofs.from_initial.Goals as goal
 

@@ -5,7 +5,6 @@ use native.Mathlib.Nat.{mul-zero}
 use native.Mathlib.Omega.{arith}
 use lib.ListN.{get_or}
 use Rattle.valuer.specs.Node.{round_limit}
-use borrow.Author.Rules.{rules}
 use Rattle.model.specs.Places.{prod_le}
 use Rattle.valuer.proofs.round_limit.Goals as goal
 

@@ -2,7 +2,6 @@
 use mathlib.Core.Path.{ap, ◌∙◌}
 use Prim.Native.Nat.{ℕ}
 use lib.ListN.{get_or}
-use borrow.Author.Rules.{rules}
 use Rattle.elements.specs.Words.{decode_in}
 use Rattle.valuer.proofs.Arms.{part_at_lem}
 use Rattle.valuer.proofs.value.Goals as goal

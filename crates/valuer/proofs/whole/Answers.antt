@@ -1,5 +1,4 @@
 -- `valuer::whole` meets its contract: the meet over the initial values, decoded.
-use borrow.Author.Rules.{rules}
 use Rattle.valuer.proofs.Arms.{part_whole}
 use Rattle.valuer.proofs.whole.Goals as goal
 
