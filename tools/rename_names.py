@@ -129,7 +129,7 @@ BY_HAND = {
     "meet-of": "meet_of_lem", "join-of": "join_of_lem", "meets-and-joins": "meets_and_joins_lem", "too_short": "too_short_lem",
     "is-model": "is_model_lem", "join-code": "join_code_lem", "meet-code": "meet_code_lem", "part-at": "part_at_lem",
     "settled-round": "settled_round_lem", "from-formulas": "from_formulas_lem", "from-lattice": "from_lattice_lem",
-    "lattice-form": "lattice_form_lem", "top-code": "top_code_lem",
+    "lattice-form": "lattice_form_lem", "top-code": "top_code_lem", "settled-part": "settled_part_lem",
     "withU16": "with_u16", "u16Then": "u16_then", "u16At": "u16_at",
 }
 # Constructors that are named as variants, and names that the library has too.

@@ -1,7 +1,7 @@
 -- What the code of the listing knows of an accepted case. Rests on Text, Writing, Settling, Settled, Most and casefile's Caller.
 --   InCase: formula f and model m of a case; model_over, formula_on_model, whole_is: they can be valued, and the whole value found is that of its content
 --   FormulaFits, FormulasFit: there is room for the line of a formula, and for all; formulas_fit, formulas_are, formulas_room: where it comes from
---   Settleable, settleable: the models of the case can be settled, with room for the text; settled_part: what is then written
+--   Settleable, settleable: the models of the case can be settled, with room for the text; settled_part_lem: what is then written
 --   all_written, lists, lists_refused: what is written is the text of the case
 --   content_unique: a case has one content
 use Rattle.std.specs.Prelude.{ℕ, ◌+◌, ◌≤◌, ◌<◌, ◌≡◌, true, List, get_or}
@@ -102,10 +102,10 @@ module _ {b : List ℕ} {z : Sizes} {w : List ℕ} (a : AcceptedCase b z w) wher
         room = rw a.ops (λ T f. omega (arith, table_most b a.holds a.reads T f));
       })
 
-  pub settled_part : (d e m₁ m₂ : List ℕ) (n : ℕ) → m₁ ≡ part_at b 1 → m₂ ≡ part_at b 2
+  pub settled_part_lem : (d e m₁ m₂ : List ℕ) (n : ℕ) → m₁ ≡ part_at b 1 → m₂ ≡ part_at b 2
       → WroteSettled w z.lattice m₁ m₂ d e n
       → Wrote d 0 settled_part e n
-  settled_part d e m₁ m₂ n p q h = (rw (p ∙ a.parts.model1, q ∙ a.parts.model2, a.ops) at h) (settled_round a.holds) (settled_is_T a.holds a.sound)
+  settled_part_lem d e m₁ m₂ n p q h = (rw (p ∙ a.parts.model1, q ∙ a.parts.model2, a.ops) at h) (settled_round a.holds) (settled_is_T a.holds a.sound)
 
   abbrev whole_text : List ℕ
   whole_text = accepted_text a.holds (settled_round a.holds)
