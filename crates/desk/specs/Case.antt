@@ -15,7 +15,7 @@ use Rattle.theory.specs.Lists.{tab}
 use Rattle.casefile.specs.Reading.{Content, content_parts}
 use Rattle.casefile.specs.Gapless.{gapless}
 
--- the lattice and the models, with their sizes n, N1 and N2; the entries of a table, N1-as-N2
+-- the lattice and the models, with their sizes n, N1 and N2; the entries of a table, N1·N2
 abbrev pub ops : Content → Ops ℕ
 ops c = ops_of c.lattice
 
@@ -54,7 +54,7 @@ round_in c = round (ops c) (model1 c) (model2 c)
 abbrev pub IsT : Content → ℕ → Type 0
 IsT c = FirstUnchanged (ops c) (model1 c) (model2 c)
 
--- in how many of the N1-as-N2 entries two tables differ (request 107)
+-- in how many of the N1·N2 entries two tables differ (request 107)
 abbrev pub differing_in : Content → (ℕ → ℕ → ℕ) → (ℕ → ℕ → ℕ) → ℕ
 differing_in c S U = differing eqb (N1 c) (N2 c) S U
 

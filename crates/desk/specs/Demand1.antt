@@ -1,7 +1,7 @@
 -- Demand 1, of every call on every desk; that it holds is `demand1` (Demand1Holds). Rests on Refused, Perform, casefile's Conditions and RefusedAs.
 --   Demand1: the demand. A refusal alters nothing, and what it answers: alters_nothing, lent_unchanged, numbered, show_refused
---     which refusal is given, and exactly when: at-11, refused_as (1 to 10, a field for each), at-12, after-12, ranges, only
---     every other input is accepted: case-accepted, open-accepted, other-accepted
+--     which refusal is given, and exactly when: at_11, refused_as (1 to 10, a field for each), at_12, after_12, ranges, only
+--     every other input is accepted: case_accepted, open_accepted, other_accepted
 --   InStore: a content in the store, and the refusal of the call's own conditions there, if one is broken
 use Rattle.std.specs.Prelude.{ℕ, ◌<◌, ◌≡◌, true, false, ◌↔◌, ◌⊎◌, List, []}
 use Rattle.std.proofs.Math.Option.{Option, none, some}

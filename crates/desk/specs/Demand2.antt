@@ -1,7 +1,7 @@
 -- Demand 2, of the desk after every list of calls with an accepted opening in it. Rests on Run, and for the proof on Demand3Holds, Listed,
 -- RefusedLaws, theory's Rounds and Fixpoint.
 --   Demand2: the settled table is the greatest latticed simulation (settled_table), and values are those of the latticed mu-calculus: what the
---     calls answer (values, wholes), with the formula's facts, that there is this calculus (calculus-is), and every closed formula's values (values-are)
+--     calls answer (values, wholes), with the formula's facts, that there is this calculus (calculus_is), and every closed formula's values (values_are)
 --   demand2: the demand holds after every such list
 --   is_calculus, value_of: the last two, of any content that is sound; value_asked, whole_asked: the answers, of any desk where they are accepted
 use Rattle.std.specs.Prelude.{ℕ, ◌<◌, ◌≡◌, refl, Bool, true, false, cond, List, eqb, length, take}

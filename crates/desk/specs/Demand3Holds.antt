@@ -152,7 +152,7 @@ demand3 ks d h =
     let t = opening_T l in
     record { opening = l; T = t.0; is_T = t.1; claim = listed ks d l t.0 t.1 }
 
--- Beyond the demand: whatever the lattice's longest chain, T is at most N1-as-N2 + 1.
+-- Beyond the demand: whatever the lattice's longest chain, T is at most N1·N2 + 1.
 pub T_most_sharp : (ks : List Call) (d : Desk) (l : LastOpening ks d) (T : ℕ) → IsT l.holds T → T ≤ table_size l.holds + 1
 T_most_sharp ks d l T is_T =
     let c = l.holds in

@@ -26,7 +26,7 @@ pub mod Covered  -- of which formulas the entries shown and the score keep the b
 pub mod Judged  -- what judge's yes and no say of a table, and which tables get a yes
 pub mod WrittenBack  -- what write leaves in its buffer, and what opening that gives
 pub mod Demand3Holds  -- demand 3 is proved, and what it says of the questions one by one
-pub mod Settling  -- T-N1 accepted steps settle a desk
+pub mod Settling  -- T·N1 accepted steps settle a desk
 pub mod RoundLeftLaws  -- what the steps left in a round do; demand 3 goes through them
 pub mod RoundLeftRounds  -- after an opening, n such calls give round n, and T of them settle the desk
-pub mod Unwritten  -- table bytes past N1-N2 and store bytes past 24,576 are never written
+pub mod Unwritten  -- table bytes past N1·N2 and store bytes past 24,576 are never written

@@ -22,7 +22,7 @@ fresh c =
 abbrev pub stored : Content → List ℕ → List ℕ
 stored c s = written 0 (case_bytes c) s
 
--- 'the first N1-as-N2 bytes of both tables top', and every byte after them as it was
+-- 'the first N1·N2 bytes of both tables top', and every byte after them as it was
 abbrev pub topped : Content → List ℕ → List ℕ
 topped c t = written 0 (replicate (table_size c) (ops c).top) t
 
@@ -38,7 +38,7 @@ row_worked c d = row_written (model1 c) (model2 c) (operator c) (shown_table c d
 abbrev pub changed_now : Content → Desk → Bool
 changed_now c d = d.standing.changed || row_changed (model1 c) (model2 c) (operator c) (shown_table c d) d.standing.row
 
--- 'at a round's last row the two tables are compared' (request 107): in how many of all N1-as-N2 entries they differ, once the row is worked
+-- 'at a round's last row the two tables are compared' (request 107): in how many of all N1·N2 entries they differ, once the row is worked
 abbrev pub lowered_now : Content → Desk → ℕ
 lowered_now c d = differing_in c (shown_table c d) (given_table c (row_worked c d))
 

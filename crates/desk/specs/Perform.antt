@@ -35,7 +35,7 @@ answer_to (Question.Judge t) v =
     reply_alone (Reply.Says (post_fixed_test (ops v.holds) (model1 v.holds) (model2 v.holds) (operator v.holds) (given_table v.holds t)))
 answer_to (Question.Write b) v = writes (case_bytes v.holds) b
 
--- 'show gives the first N1-as-N2 bytes of the whole table'
+-- 'show gives the first N1·N2 bytes of the whole table'
 unfoldable pub answer : Call → Content → Desk → Reply
 answer (Call.Open b) c d = Reply.Opened
 answer Call.Step c d = step_answer (stepped c d).standing

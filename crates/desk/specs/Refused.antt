@@ -55,7 +55,7 @@ lowerings_obey most s = leb s.lowerings most
 abbrev pub standing_obeys : ℕ → ℕ → ℕ → Standing → Bool
 standing_obeys n1 n2 n s = sizes_obey n1 n2 s && row_obeys n1 s && round_obeys (n1 * n2 * (n - 1)) s && lowerings_obey (n1 * n2 * (n - 1)) s
 
--- 'The first N1-as-N2 bytes of both tables are below n.'
+-- 'The first N1·N2 bytes of both tables are below n.'
 abbrev pub table_obeys : ℕ → ℕ → List ℕ → Bool
 table_obeys count n t = all_below count (λ i. ltb (get_or t i 0) n)
 
@@ -98,7 +98,7 @@ pub data Condition : Type 0 where
   Formula Model : ℕ → Condition
   State : ℕ → ℕ → Condition
   Element : ℕ → Condition
-  -- the table has N1-as-N2 bytes; they are below n
+  -- the table has N1·N2 bytes; they are below n
   TableLength TableBytes : List ℕ → Condition
   -- a buffer that is lent to write into has as many bytes as are to be written, so many of a content
   Fits : (Content → ℕ) → List ℕ → Condition

@@ -5,7 +5,7 @@
 --   OpenAccepted, open_accepted, OtherAccepted, other_accepted: what an accepted call knows of its desk
 --   Outcome, outcome: what may come of a call that does not open; opens_or_not: a call opens or does not
 --   accepted_content, refused_refusal, content_accepted: accepted or refused, and never both; unrefused_accepted: a question that answers no refusal
---     is accepted; answered-reply: what an accepted question answers, from a view
+--     is accepted; answered_reply: what an accepted question answers, from a view
 use Rattle.std.specs.Prelude.{ℕ, ◌≡◌, refl, Bool, true, false, cond, not, ◌⊎◌, List}
 use Rattle.std.proofs.Common.{sym, ap, ◌∙◌, inl, inr}
 use Rattle.std.proofs.Math.Option.{Option, none, some}

@@ -1,5 +1,5 @@
--- 'steps until settled': after an accepted opening, T-as-N1 accepted steps settle the desk. Rests on Run, Listed, Demand3Holds and Next.
---   accepted_steps_settle: in a list of any calls; steps_settle: T-as-N1 or more steps after an opening, which are all accepted
+-- 'steps until settled': after an accepted opening, T·N1 accepted steps settle the desk. Rests on Run, Listed, Demand3Holds and Next.
+--   accepted_steps_settle: in a list of any calls; steps_settle: T·N1 or more steps after an opening, which are all accepted
 --   opened-stands, steps_stand: the invariant of demand 3 after an accepted opening, and after n steps more
 use Rattle.std.specs.Prelude.{ℕ, zero, suc, ◌+◌, ◌*◌, ◌≤◌, ◌≡◌, refl, true, List, ◌∷◌, length, replicate}
 use Rattle.std.proofs.Common.{sym, ap, subst, le-div_iff_mul-le, arith}

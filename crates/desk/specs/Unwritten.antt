@@ -1,4 +1,4 @@
--- 'Table bytes past N1-as-N2 and store bytes past 24,576 are never written', and no buffer changes its length. Rests on RefusedLaws, Moved,
+-- 'Table bytes past N1·N2 and store bytes past 24,576 are never written', and no buffer changes its length. Rests on RefusedLaws, Moved,
 -- theory's Written.
 --   SameFrom, Unwritten: what is unchanged of a buffer, and of the buffers of a desk
 --   never_written: an accepted call leaves it so, on every desk; unaltered: so does one that alters nothing

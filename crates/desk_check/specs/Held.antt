@@ -2,7 +2,7 @@
 -- Rests on Answer, casefile's Caller, and desk's RefusedLaws.
 --   HeldDesk, when_held: what is known of a desk that is held
 --   held_shown, held_question, held_outside, refused_call: what a call does that is answered, refused for its conditions, or by the examination
---   case_few, few: N1-as-N2 is at most 4,096; table_obeys_lem: the test of a table's bytes, from that of the code
+--   case_few, few: N1·N2 is at most 4,096; table_obeys_lem: the test of a table's bytes, from that of the code
 --   short-examined, unread_examined, spoiled-examined, held-examined: the four answers of the examination
 --   show-examined: the examination of show is that of step
 use Rattle.std.specs.Prelude.{ℕ, ◌+◌, ◌*◌, ◌≤◌, ◌≡◌, Bool, true, false, cond, List, ltb, take, get_or}

@@ -55,7 +55,7 @@ pub fn too_short(store: &[u8], first: &[u8], second: &[u8]) -> bool
     second.len() < TABLE_LENGTH
 }
 
-// N1.N2, the entries of a table.
+// N1·N2, the entries of a table.
 pub fn table_size(z: Sizes) -> usize
     ensures { (result ≡ z.states1 * z.states2) × (result < 65536) }
 {

@@ -45,7 +45,7 @@ pub fn step(s: &mut Standing, store: &[u8], first: &mut [u8], second: &mut [u8])
 
 // ---- the calls that read
 
-// The first N1.N2 bytes of the whole table; an empty part where the desk is refused.
+// The first N1·N2 bytes of the whole table; an empty part where the desk is refused.
 pub fn show<'a>(s: &mut Standing, store: &[u8], first: &'a [u8], second: &'a [u8]) -> &'a [u8]
     ensures { ReadsOnly Call.Show
         s.old store.now first.now second.now (Reply.Shown result.now) s.new }

@@ -21,7 +21,7 @@ pub fn whole_table<'a>(second_whole: bool, first: &'a [u8], second: &'a [u8]) ->
     first
 }
 
-// The first N1.N2 bytes of the whole table; an empty part where the desk is refused.
+// The first N1·N2 bytes of the whole table; an empty part where the desk is refused.
 pub fn show<'a>(s: Standing, store: &[u8], first: &'a [u8], second: &'a [u8]) -> &'a [u8]
     ensures { Reads Call.Show s store.now first.now second.now (Reply.Shown result.now) }
 {

@@ -1,7 +1,7 @@
 -- What the entries of a row have in common, and an entry from it. Rests on Table, Words, Codes and Joins, and theory's Pairs and PairLaws.
 --   StateMet, state_joined, state_passed: what one state of model 1 gives
 --   meet_code, open_pair, MetSoFar: the meet over states of model 1 and the pairs that it looks at, from the words of a row; met_none, met_more,
---     met-stop, met_all: its begin and turn, where it is bottom, and its end; met-within: within the top's; top-some: where a meet is not 0, the top's word is not
+--     met_stop, met_all: its begin and turn, where it is bottom, and its end; met_within: within the top's; top_some: where a meet is not 0, the top's word is not
 --   Prepared: what a row's entries have in common; row_gap, row_within_lem: the transitions of model 2; entry_met, entry_bottom: an entry from it
 use Rattle.std.specs.Prelude.{ℕ, ◌+◌, ◌*◌, ◌≤◌, ◌<◌, ◌≡◌, refl, Bool, true, ◌&&◌, List, length, get_or, replicate}
 use Rattle.std.proofs.Math.Path.{sym, ap, ap₂}

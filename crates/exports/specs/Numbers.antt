@@ -46,7 +46,7 @@ carrying kind value lowerings =
 -- | Element e        | 5    | 0      | 0    | 0          | e            | 0      | false       | false |
 -- | PerCent p        | 6    | 0      | 0    | 0          | p            | 0      | false       | false |
 -- | Says b           | 7    | 0      | 0    | 0          | 1 yes, 0 no  | 0      | false       | false |
--- | FormulaValue e x | 9    | 0      | 0    | x.nesting | e            | 0      | x.fixpoint | x.ex |
+-- | FormulaValue e x | 9    | 0      | 0    | x.nesting  | e            | 0      | x.fixpoint  | x.ex  |
 -- | Length n         | 10   | 0      | 0    | 0          | n            | 0      | false       | false |
 -- Shown has kind 8, which no export answers: what show gives is told by `named`.
 abbrev pub numbers : Reply → Answer
@@ -83,7 +83,7 @@ AskedInNumbers = AskedInNumbersWith []
 
 -- ---- show
 
--- which table is whole, 1 the first and 2 the second, and its N1-as-N2 bytes; 0 and 0 where the desk is refused
+-- which table is whole, 1 the first and 2 the second, and its N1·N2 bytes; 0 and 0 where the desk is refused
 abbrev pub named : Desk → CaseReading → Shown
 named d (refused r) = record { table = 0; length = 0 }
 named d (content c) = record { table = cond d.standing.second_whole 2 1; length = table_size c }

@@ -88,7 +88,7 @@ show = Call.Show
 shown_same : (b b' : List ℕ) (d : Desk) → Does show d (Reply.Shown b) d → Does show d (Reply.Shown b') d → b ≡ b'
 shown_same b b' d p q = let r : Reply.Shown b ≡ Reply.Shown b' = sym (ap (λ (r : After). r.reply) p) ∙ ap (λ (r : After). r.reply) q in cc
 
--- the whole table holds N1-as-N2 bytes, at least one
+-- the whole table holds N1·N2 bytes, at least one
 module _ (d : Desk) (c : Content) (e : examined show d ≡ content c) where
   held : Unspoiled d c
   held = (other_accepted show d c refl e).held

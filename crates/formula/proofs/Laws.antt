@@ -2,7 +2,7 @@
 --   told: the answer that a match found; tells: the formula that an answer is about
 --   forward: an answer is further on than the place, and within the part; shallow: in a part of at most 255 bytes it tells a nesting below 255
 --   at_bottom .. at_broken: each arm's answer is the end of the formula at the place, and its facts
---   used_up, left-over, broken, too_long: what the check answers for the whole part
+--   used_up, left_over, broken, too_long: what the check answers for the whole part
 use Prim.Native.Nat.{ℕ, ◌+◌, ◌-◌, ◌≤◌, ◌<◌}
 use mathlib.Core.Path.{◌≡◌, refl, sym, ap, ◌∙◌}
 use mathlib.Core.Bool.{Bool, true, false, ◌&&◌}

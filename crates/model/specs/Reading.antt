@@ -12,7 +12,7 @@ use Rattle.model.specs.declared.ModelCheck.TheVariants.{Refused, Accepted}
 unfoldable pub elements_only : ℕ → List ℕ → Bool
 elements_only n b = all_below (length b - 2) (λ i. ltb (get_or b (2 + i) 0) n)
 
--- 'A model part is N states (1 to 64), k propositions (0 to 16), N initial values, N·k proposition values (state by state), N-as-N
+-- 'A model part is N states (1 to 64), k propositions (0 to 16), N initial values, N·k proposition values (state by state), N·N
 -- transition values (row of the state left).'
 abbrev pub sizes_test : List ℕ → Bool
 sizes_test b =

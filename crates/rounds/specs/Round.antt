@@ -94,7 +94,7 @@ module _ (O : Ops ℕ) (M₁ M₂ : Model ℕ) (G : (ℕ → ℕ → ℕ) → �
   pub byte_at : (s : List ℕ) (S : ℕ → ℕ → ℕ) → SameTable O M₁ M₂ (table_of s M₂.states) S → 0 < M₂.states → (i : ℕ) → i < M₁.states * M₂.states → get_or s i 0 ≡ S (i / M₂.states) (i % M₂.states)
   byte_at s S h p i l = ap (λ (j : ℕ). get_or s j 0) (sym (div-add-mod' i M₂.states)) ∙ h _ ((div-lt_iff_lt-mul p).1 l) _ (mod-lt i p)
 
-  -- the first N1-as-N2 bytes, as a list
+  -- the first N1·N2 bytes, as a list
   pub shown_bytes : (s : List ℕ) (S : ℕ → ℕ → ℕ) → SameTable O M₁ M₂ (table_of s M₂.states) S → 0 < M₂.states → M₁.states * M₂.states ≤ length s → take (M₁.states * M₂.states) s ≡ tab (λ i. S (i / M₂.states) (i % M₂.states)) (M₁.states * M₂.states) 0
   shown_bytes s S h p l =
       let e : length (take (M₁.states * M₂.states) s) ≡ M₁.states * M₂.states = length-take-le _ s l in

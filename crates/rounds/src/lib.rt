@@ -91,7 +91,7 @@ pub fn row(w: &Codes, l: Lattice, m1: &[u8], m2: &[u8], s: &[u8], out: &mut [u8]
     work_row(w, l, m1, m2, s, out, q1, &mut table)
 }
 
-// Works F of the table `whole` into the first N1.N2 bytes of `other`, and keeps its other bytes; says whether any entry differs from that
+// Works F of the table `whole` into the first N1·N2 bytes of `other`, and keeps its other bytes; says whether any entry differs from that
 // of `whole`.
 pub fn round(w: &Codes, l: Lattice, m1: &[u8], m2: &[u8], whole: &[u8], other: &mut [u8]) -> bool
     requires { Coded w.now l × Shaped m1.now m2.now whole.now × Room m1.now m2.now other.old }

@@ -20,7 +20,7 @@ unfoldable pub part_ops : List ℕ → Ops ℕ
 unfolding meet_of join_of top_of bot_of is_meet is_join element all_below first_below
 part_ops l = ops_of (explicit_part l)
 
--- the N₁-as-N₂ entries of a table, row by row
+-- the N₁·N₂ entries of a table, row by row
 abbrev pub entries : (ℕ → ℕ → ℕ) → ℕ → ℕ → List ℕ
 entries S zero n = []
 entries S (suc m) n = entries S m n ++ tab (S m) n 0

@@ -1,7 +1,7 @@
 -- Finite distributive De Morgan lattices: operations, chains, laws, and finite meets and joins. Rests on nothing.
 --   Ops: the operations of a lattice, and its size; AtMost, Element: at or below, and being an element, as statements
 --   Laws: the laws of a finite distributive De Morgan lattice
---   imp, iff: and ↔; big_meet, big_join: the meet and the join of f 0, .., f (n - 1)
+--   imp, iff: → and ↔; big_meet, big_join: the meet and the join of f 0, .., f (n - 1)
 --   Chain, LongestChain: elements any two of which are in order, and the number h of the most such
 --   All, Pairwise: of every entry, and of every two entries, of a list
 use Rattle.std.specs.Prelude.{ℕ, zero, suc, ◌≤◌, ◌≡◌, Bool, true, ◌⊎◌, ◌≢◌, List, [], ◌∷◌, length}

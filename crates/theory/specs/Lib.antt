@@ -29,5 +29,5 @@ pub mod Irreducible  -- join-irreducible elements
 pub mod Preservation  -- theorems 6 and 7: what a table bounds
 pub mod ExamplesHold  -- theorem 8: the worked examples hold
 pub mod Share  -- theorem 9: a share is the nearest whole number of per cent, and of two the even one
-pub mod PairLaws  -- theorem 10: the count of pairs is at most N1-N2, and when it is 0
-pub mod Sharp  -- T is at most N1-N2 + 1, whatever the longest chain
+pub mod PairLaws  -- theorem 10: the count of pairs is at most N1·N2, and when it is 0
+pub mod Sharp  -- T is at most N1·N2 + 1, whatever the longest chain

@@ -1,9 +1,9 @@
 -- Theorem 10: how great the count of pairs of request 103 is at most, and when it is 0. Rests on Pairs, Simulation, Value, Folds, Loop and TestLaws.
 --   meet_whole, join_whole: over all states the meet and the joins are those of F
 --   bottom_exactly, top_exactly: what the two tests ask
---   pairs_most: at most N1-as-N2; pairs_none: 0 exactly when the propositions' meet is bottom
+--   pairs_most: at most N1·N2; pairs_none: 0 exactly when the propositions' meet is bottom
 --   count_pairs_cong: equal tests, equal counts; count_first: a count of tests that are passed up to one, and none from there on; count_pairs_none, count_pairs_more,
---     countPairs-stop: a loop that counts, and ends where no more tests are passed
+--     count_pairs_stop: a loop that counts, and ends where no more tests are passed
 use Rattle.std.specs.Prelude.{ℕ, zero, suc, ◌+◌, ◌*◌, ◌-◌, ◌≤◌, ◌<◌, ◌≡◌, Bool, true, false, ◌&&◌, ◌↔◌, ◌⊎◌}
 use Rattle.std.proofs.Math.Path.{refl, ap}
 use Rattle.std.proofs.Common.{ap₂, ◌∙◌, inl, inr, le_refl, add-zero, add-suc, suc-mul, not-suc-le-zero, add-one, arith}

@@ -65,7 +65,7 @@ explicit_part b =
       order = λ i j. eqb (get_or b (1 + get_or b 0 0 + (i * get_or b 0 0 + j)) 0) 1;
     }
 
--- 'A model part is N states (1 to 64), k propositions (0 to 16), N initial values, N·k proposition values (state by state), N-as-N
+-- 'A model part is N states (1 to 64), k propositions (0 to 16), N initial values, N·k proposition values (state by state), N·N
 -- transition values (row of the state left).'
 abbrev pub model_of : List ℕ → Model ℕ
 model_of b =

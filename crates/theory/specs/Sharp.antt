@@ -1,7 +1,7 @@
--- T is at most N1-as-N2 + 1, whatever the lattice's longest chain: which entries of round r + 1 a join-irreducible element is at or below depends
+-- T is at most N1·N2 + 1, whatever the lattice's longest chain: which entries of round r + 1 a join-irreducible element is at or below depends
 -- only on which entries of round r it is at or below, and each round has these among the ones before. For F, and for any operator like it.
 -- Rests on Irreducible, Simulation, Descent, Height, Rounds; that the limit is attained, on Examples.
---   T_sharp: T is at most N1-as-N2 + 1; sharp_attained: worked example 2 has that T; T-within-sharp: the limit for any operator like F
+--   T_sharp: T is at most N1·N2 + 1; sharp_attained: worked example 2 has that T; T-within-sharp: the limit for any operator like F
 --   Preserves, PreservesTable, OperatorPreserves: l at or below an entry of one table is at or below that of another, and an operator that preserves this
 --   meet_preserves, join_preserves, allNext-preserves, someNext-preserves, F_preserves, preserves-mono, rounds-same: that F is such an operator, and its rounds
 use Rattle.std.specs.Prelude.{ℕ, suc, ◌+◌, ◌*◌, ◌-◌, ◌≤◌, ◌<◌, ◌≡◌, refl, Bool, true, false, List, map, length}
@@ -108,7 +108,7 @@ module _ {A : Type 0} {O : Ops A} (L : Laws O) (M₁ M₂ : Model A) where
     abbrev R : ℕ → ℕ → ℕ → A
     R = roundOf O M₁ M₂ G
 
-    -- from some round on, at N1-as-N2 at the latest, l is at or below the same entries in each
+    -- from some round on, at N1·N2 at the latest, l is at or below the same entries in each
     rounds-preserve : (l : A) → JoinIrreducible O l → PreservesTable O M₁ M₂ l (R K) (R (suc K))
     unfolding roundOf
     rounds-preserve l j = go (first-unlowered (by_one O l) 2 (apart_two O l) M₁.states M₂.states R (λ t q₁ a q₂ b. preserves_in O l _ _ (λ e. L.trans e (descend L M₁ M₂ G preserves-mono t q₁ q₂))))
@@ -116,7 +116,7 @@ module _ {A : Type 0} {O : Ops A} (L : Laws O) (M₁ M₂ : Model A) where
         go : (t : ℕ) × (t ≤ K * (2 - 1)) × First (Unlowered (preserves_test O l) M₁.states M₂.states R) t → PreservesTable O M₁ M₂ l (R K) (R (suc K))
         go w = le_ind (λ t. PreservesTable O M₁ M₂ l (R t) (R (suc t))) (λ q₁ a q₂ b. preserves_out O l _ _ (w.2.here q₁ a q₂ b)) (λ t m s q₁ a q₂ b. preserves l j _ _ s q₁ q₂) K (rw mul-one at w.1)
 
-    -- the round after round N1-as-N2 equals it
+    -- the round after round N1·N2 equals it
     pub rounds-same : SameTable O M₁ M₂ (roundOf O M₁ M₂ G (suc (M₁.states * M₂.states))) (roundOf O M₁ M₂ G (M₁.states * M₂.states))
     rounds-same q₁ a q₂ b =
         let e : (r : ℕ) → Element O (R r q₁ q₂) = λ r. rounds-element L M₁ M₂ G preserves-mono element r q₁ q₂ in
