@@ -130,6 +130,10 @@ BY_HAND = {
     "is-model": "is_model_lem", "join-code": "join_code_lem", "meet-code": "meet_code_lem", "part-at": "part_at_lem",
     "settled-round": "settled_round_lem", "from-formulas": "from_formulas_lem", "from-lattice": "from_lattice_lem",
     "lattice-form": "lattice_form_lem", "top-code": "top_code_lem", "settled-part": "settled_part_lem",
+    # names of inner modules
+    "meetBefore": "meet_before", "lookedAt": "looked_at", "roundOf": "round_of", "scoreIn": "score_in", "postFixedIn": "post_fixed_in",
+    "post-fixed-in": "post_fixed_in_lem", "perCent-nearest-even": "per_cent_nearest_even", "perCent-most": "per_cent_most",
+    "perCent-as-before": "per_cent_as_before", "allNext-preserves": "all_next_preserves", "someNext-preserves": "some_next_preserves",
     "withU16": "with_u16", "u16Then": "u16_then", "u16At": "u16_at",
 }
 # Constructors that are named as variants, and names that the library has too.
@@ -182,7 +186,7 @@ def main():
     found, new = table()
     for n in KEPT:
         new.pop(n, None)
-    new.update({a: b for a, b in BY_HAND.items() if a in found})
+    new.update(BY_HAND)
     target = collections.defaultdict(list)
     for n in found:
         target[new.get(n, n)].append(n)

@@ -7,7 +7,7 @@ use Rattle.std.proofs.Common.{sym, ap, ◌∙◌, ⊎_elim, arith}
 use Rattle.std.proofs.lemmas.Bool.{not-false}
 use Rattle.theory.specs.Lattice.{Laws}
 use Rattle.theory.specs.Formula.{Formula, UniversalSentence}
-use Rattle.theory.specs.Preservation.{bounded_by_round, bounded_at_T, score_by_round, score_at_T}
+use Rattle.theory.proofs.Preservation.{bounded_by_round, bounded_at_T, score_by_round, score_at_T}
 use Rattle.refusal.specs.declared.Refusal.{Refusal}
 use Rattle.formula.specs.declared.FormulaFacts.{FormulaFacts}
 use Rattle.formula.specs.Answer.{facts_of}

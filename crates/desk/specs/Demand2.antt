@@ -13,8 +13,8 @@ use Rattle.theory.specs.Value.{SameMap, eval, enough, value_at, whole_value}
 use Rattle.theory.specs.Calculus.{Calculus}
 use Rattle.theory.specs.Simulation.{SameTable, GreatestSimulation}
 use Rattle.theory.specs.Folds.{big_meet_cong}
-use Rattle.theory.specs.Fixpoint.{calculus, value_is}
-use Rattle.theory.specs.Rounds.{F_cong}
+use Rattle.theory.proofs.Fixpoint.{calculus, value_is}
+use Rattle.theory.proofs.Rounds.{F_cong}
 use Rattle.formula.specs.Answer.{facts_of}
 use Rattle.formula.specs.RoundTrip.{formula_part}
 use Rattle.casefile.specs.Reading.{Content, content, store_reading}

@@ -8,9 +8,9 @@ use Rattle.std.proofs.Common.{sym, ap, ◌∙◌, subst, inl, arith}
 use Rattle.theory.specs.Value.{value_at, whole_value}
 use Rattle.theory.specs.Simulation.{score, share}
 use Rattle.theory.specs.Height.{longest_chain}
-use Rattle.theory.specs.Rounds.{T_at_most, settled_greatest, below-rounds, fixed_below}
-use Rattle.theory.specs.RoundLowerings.{lowerings_most}
-use Rattle.theory.specs.Sharp.{T_sharp}
+use Rattle.theory.proofs.Rounds.{T_at_most, settled_greatest, below-rounds, fixed_below}
+use Rattle.theory.proofs.RoundLowerings.{lowerings_most}
+use Rattle.theory.proofs.Sharp.{T_sharp}
 use Rattle.refusal.specs.declared.Refusal.TheVariants.{ShortDesk, SpoiledDesk, ShortBuffer}
 use Rattle.formula.specs.Answer.{facts_of}
 use Rattle.casefile.specs.Reading.{Content}

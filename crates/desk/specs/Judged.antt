@@ -9,8 +9,8 @@ use Rattle.std.proofs.Common.{sym, ap, ◌∙◌, arith, ltb-true}
 use Rattle.theory.specs.Lattice.{Element}
 use Rattle.theory.specs.Formula.{Formula, UniversalSentence}
 use Rattle.theory.specs.Simulation.{SameTable, AtMostTable, AllPairs, Simulation, GreatestSimulation, PostFixedBy}
-use Rattle.theory.specs.Rounds.{F_cong, F_element, fixed_below, round_element, post_fixed_le, round_post_fixed_exactly}
-use Rattle.theory.specs.Preservation.{bounded-table}
+use Rattle.theory.proofs.Rounds.{F_cong, F_element, fixed_below, round_element, post_fixed_le, round_post_fixed_exactly}
+use Rattle.theory.proofs.Preservation.{bounded-table}
 use Rattle.theory.specs.Loop.{tab_at, tab-length}
 use Rattle.theory.specs.TestLaws.{false_true, not_passed}
 use Rattle.refusal.specs.declared.Refusal.{Refusal}

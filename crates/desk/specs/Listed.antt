@@ -11,7 +11,7 @@ use mathlib.Core.List.{List, [], ◌∷◌, ◌++◌}
 use native.Mathlib.Omega.{arith}
 use Rattle.theory.specs.Simulation.{indicator}
 use Rattle.theory.specs.Height.{longest_chain}
-use Rattle.theory.specs.Rounds.{T_exists}
+use Rattle.theory.proofs.Rounds.{T_exists}
 use Rattle.theory.specs.TestLaws.{false_true}
 use Rattle.casefile.specs.Reading.{Content, content}
 use Rattle.casefile.specs.Content.{content_sound}

@@ -9,8 +9,8 @@ use Rattle.std.proofs.Math.Path.{refl, ap}
 use Rattle.std.proofs.Common.{sym, ◌∙◌, subst, inl, inr, ⊎_elim, arith, ltb-true, eq-eqb}
 use Rattle.std.proofs.Math.Option.{Option, none, some}
 use Rattle.theory.specs.Simulation.{SameTable, AtMostTable}
-use Rattle.theory.specs.Rounds.{T_at_most-size}
-use Rattle.theory.specs.RoundLowerings.{lowerings_most-size}
+use Rattle.theory.proofs.Rounds.{T_at_most-size}
+use Rattle.theory.proofs.RoundLowerings.{lowerings_most-size}
 use Rattle.theory.specs.TestLaws.{false_true}
 use Rattle.refusal.specs.declared.Refusal.{Refusal}
 use Rattle.refusal.specs.Number.{number_of}

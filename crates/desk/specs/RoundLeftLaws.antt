@@ -11,7 +11,7 @@ use Rattle.std.proofs.Math.Bool.{true, false, or-false, or_assoc}
 use mathlib.Core.List.{List, [], ◌∷◌}
 use native.Mathlib.Omega.{arith}
 use Rattle.std.proofs.Math.ListN.{get_or}
-use Rattle.theory.specs.Rounds.{F_element}
+use Rattle.theory.proofs.Rounds.{F_element}
 use Rattle.theory.specs.TestLaws.{false_true, cond_true, cond_false}
 use Rattle.casefile.specs.Reading.{Content}
 use Rattle.casefile.specs.Content.{ContentSound, content_sound}

@@ -7,7 +7,7 @@ use borrow.Author.Tests.{eqb-true, eqb-false}
 use Rattle.std.proofs.Math.Dec.{eqb}
 use Rattle.theory.specs.Lattice.{Element}
 use Rattle.theory.specs.Simulation.{SameTable}
-use Rattle.theory.specs.Rounds.{F_element}
+use Rattle.theory.proofs.Rounds.{F_element}
 use Rattle.theory.specs.Lowerings.{differing_cong, lowerings-more}
 use Rattle.theory.specs.TestLaws.{false_true, cond_true, cond_false}
 use Rattle.casefile.specs.Reading.{Content}

@@ -6,8 +6,8 @@ use Rattle.std.specs.Prelude.{ℕ, zero, suc, ◌+◌, ◌*◌, ◌/◌, ◌%◌
 use Rattle.std.proofs.Common.{ap, ap₂, ◌∙◌, mod-lt, div-lt_iff_lt-mul, mod-eq_of_lt, add-zero, arith}
 use Rattle.std.proofs.Math.Nat.{mul-add-div_right, mul-add-mod_self_right, div-eq_of_lt}
 use Rattle.theory.specs.Simulation.{AllPairs, SameTable}
-use Rattle.theory.specs.Rounds.{score_cong}
-use Rattle.theory.specs.Share.{share_cong}
+use Rattle.theory.proofs.Rounds.{score_cong}
+use Rattle.theory.proofs.Share.{share_cong}
 use Rattle.theory.specs.Loop.{tab_at}
 use Rattle.casefile.specs.Reading.{Content}
 use Rattle.rounds.specs.Round.{cell_lt}

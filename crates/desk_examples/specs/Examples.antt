@@ -9,7 +9,7 @@
 use Rattle.std.specs.Prelude.{ℕ, ◌≡◌, refl, false, true, List, [], ◌∷◌, ◌++◌, map, replicate}
 use Rattle.theory.specs.Lattice.{imp, iff, big_meet, big_join}
 use Rattle.theory.specs.Value.{iterate, bind, all_next, some_next, eval, value_at, whole_value}
-use Rattle.theory.specs.Simulation.{proposition_part, successor_part, F, roundOf, score, count, share, sum, differing}
+use Rattle.theory.specs.Simulation.{proposition_part, successor_part, F, round_of, score, count, share, sum, differing}
 use Rattle.theory.specs.Part.{is_meet, is_join, meet_of, join_of, top_of, bot_of, element}
 use Rattle.theory.specs.Formula.{closed_under, over_props, nested_binders, nested_AX, fixpoint_free, universal}
 use Rattle.theory.specs.Test.{all_below, first_below}
@@ -159,5 +159,5 @@ AlteredAnswer =
 -- ---- they hold
 
 pub examples-answer : AnswersAs calls1 × AnswersAs calls4 × LeavesCase × AlteredAnswer
-unfolding imp iff big_meet big_join iterate bind all_next some_next eval value_at whole_value proposition_part successor_part F roundOf score count share sum differing is_meet is_join meet_of join_of top_of bot_of element closed_under over_props nested_binders nested_AX fixpoint_free universal all_below first_below is_panel lattice_of explicit_form lattice_form reflexive antisymmetric transitive partial_order meets_and_joins distributive complement_rules require part_reading lattice_reading elements_only model_test by_code parse formula_reading part_start part_size placed misplaced parts_from formulas_reading models_reading case_reading pairs joined gapless tab row_same changed_below row_at_most post_fixed_test short rules_obeyed spoiled examined accepted opened worked stepped answer moved lent_after perform run replies
+unfolding imp iff big_meet big_join iterate bind all_next some_next eval value_at whole_value proposition_part successor_part F round_of score count share sum differing is_meet is_join meet_of join_of top_of bot_of element closed_under over_props nested_binders nested_AX fixpoint_free universal all_below first_below is_panel lattice_of explicit_form lattice_form reflexive antisymmetric transitive partial_order meets_and_joins distributive complement_rules require part_reading lattice_reading elements_only model_test by_code parse formula_reading part_start part_size placed misplaced parts_from formulas_reading models_reading case_reading pairs joined gapless tab row_same changed_below row_at_most post_fixed_test short rules_obeyed spoiled examined accepted opened worked stepped answer moved lent_after perform run replies
 examples-answer = (refl, refl, refl, (refl, refl, refl))

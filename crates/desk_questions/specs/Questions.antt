@@ -10,7 +10,7 @@ use Rattle.std.proofs.Math.Option.{Option, none, some}
 use Rattle.theory.specs.Model.{Model}
 use Rattle.theory.specs.Part.{model_of}
 use Rattle.theory.specs.Simulation.{share}
-use Rattle.theory.specs.Share.{share_cong}
+use Rattle.theory.proofs.Share.{share_cong}
 use Rattle.theory.specs.TestLaws.{and_l, and_r, cond_true, cond_false}
 use Rattle.formula.specs.declared.FormulaFacts.{FormulaFacts}
 use Rattle.formula.specs.Bytes.{read, formula_reading}
@@ -20,7 +20,7 @@ use Rattle.casefile.specs.Directory.{part_count, part_at}
 use Rattle.casefile.specs.Conditions.{Placed}
 use Rattle.valuer.specs.Values.{ModelOver, ValueAt, WholeValue}
 use Rattle.entries.specs.Table.{Shaped}
-use Rattle.rounds.specs.Table.{scoreIn, postFixedIn}
+use Rattle.rounds.specs.Table.{score_in, post_fixed_in}
 use Rattle.rounds.specs.Round.{byte_at}
 use Rattle.share.specs.ShareIn.{share_in, share_in_is}
 use Rattle.desk.specs.Desk.{Desk, Question, Call, Reply, whole_table}
@@ -44,10 +44,10 @@ pub record Readable (w : List ℕ) (l : Lattice) (b table : List ℕ) : Type 0 w
 
 -- the score of a table, and whether it is at or below F of it, for the models of the case b, by the codes w and the numbers l of a lattice
 abbrev pub case_score : List ℕ → Lattice → List ℕ → List ℕ → ℕ
-case_score w l b table = scoreIn w l (part_at b 1) (part_at b 2) table
+case_score w l b table = score_in w l (part_at b 1) (part_at b 2) table
 
 abbrev pub case_post_fixed : List ℕ → Lattice → List ℕ → List ℕ → Bool
-case_post_fixed w l b table = postFixedIn w l (part_at b 1) (part_at b 2) table
+case_post_fixed w l b table = post_fixed_in w l (part_at b 1) (part_at b 2) table
 
 abbrev pub range_test : ℕ → ℕ → ℕ → Bool
 range_test f m formulas = ltb f formulas && is_model m

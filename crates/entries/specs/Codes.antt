@@ -16,8 +16,8 @@ use Rattle.theory.specs.Loop.{fold}
 use Rattle.theory.specs.Part.{model_of, ModelShape}
 use Rattle.theory.specs.Simulation.{proposition_part, F}
 use Rattle.theory.specs.Value.{some_next}
-use Rattle.theory.specs.Pairs.{is_bottom, is_top, meetBefore, join_before}
-use Rattle.theory.specs.PairLaws.{meet_whole, join_whole}
+use Rattle.theory.specs.Pairs.{is_bottom, is_top, meet_before, join_before}
+use Rattle.theory.proofs.PairLaws.{meet_whole, join_whole}
 use Rattle.theory.specs.TestLaws.{bool_same}
 use Rattle.elements.specs.declared.Lattice.{Lattice}
 use Rattle.elements.specs.Words.{code_in, negated_code_in, decode_in, ops_in, Coded}
@@ -152,8 +152,8 @@ module _ {w : List ℕ} {l : Lattice} (c : Coded w l) (m₁ m₂ s : List ℕ) w
 
   module _ (q₁ q₂ : ℕ) where
     -- the meet so far, from the inner joins J
-    pub meets-of : {J : ℕ → ℕ → ℕ} → InnerCoded w l m₁ m₂ s J q₂ → (k : ℕ) → k ≤ get_or m₁ 0 0 → CodeOf w (meet_before_code w top m₁ m₂ J q₁ q₂ k) (meetBefore (ops_in w l) (model_of m₁) (model_of m₂) (table_of s (get_or m₂ 0 0)) q₁ q₂ k)
-    unfolding meetBefore imp
+    pub meets-of : {J : ℕ → ℕ → ℕ} → InnerCoded w l m₁ m₂ s J q₂ → (k : ℕ) → k ≤ get_or m₁ 0 0 → CodeOf w (meet_before_code w top m₁ m₂ J q₁ q₂ k) (meet_before (ops_in w l) (model_of m₁) (model_of m₂) (table_of s (get_or m₂ 0 0)) q₁ q₂ k)
+    unfolding meet_before imp
     meets-of h k b =
         rw (fold_from (propositions_within w top m₁ m₂ q₁ q₂) _ k)
         (meet_of_lem c (propositions_of q₁ q₂)

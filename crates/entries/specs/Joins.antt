@@ -16,7 +16,7 @@ use Rattle.std.specs.Int.Bits.{bit_and, bit_or, or_comm}
 use Rattle.std.proofs.lemmas.Nat.{and_comm}
 use Rattle.theory.specs.Loop.{fold}
 use Rattle.theory.specs.Simulation.{indicator, count}
-use Rattle.theory.specs.PairLaws.{count_first}
+use Rattle.theory.proofs.PairLaws.{count_first}
 use Rattle.theory.specs.TestLaws.{below_suc}
 use Rattle.elements.specs.Folds.{or_within, or_member, or_stays}
 use Rattle.elements.specs.Laws.{Within, within-refl, within_trans, within_antisym, and_left}

@@ -16,8 +16,8 @@ use Rattle.std.proofs.lemmas.List.{length-replicate, get_or-replicate}
 use Rattle.theory.specs.Lists.{Filled, tab, written}
 use Rattle.theory.specs.Loop.{fold, fold_cong, count_cong, tab_at, tab-length}
 use Rattle.theory.specs.Simulation.{count}
-use Rattle.theory.specs.Pairs.{count_pairs, lookedAt, pairs}
-use Rattle.theory.specs.PairLaws.{count_pairs_cong, count_pairs_none, count_pairs_more, count_pairs_stop}
+use Rattle.theory.specs.Pairs.{count_pairs, looked_at, pairs}
+use Rattle.theory.proofs.PairLaws.{count_pairs_cong, count_pairs_none, count_pairs_more, count_pairs_stop}
 use Rattle.theory.specs.Part.{model_of}
 use Rattle.theory.specs.Written.{written_after}
 use Rattle.elements.specs.declared.Lattice.{Lattice}
@@ -147,8 +147,8 @@ module _ {w : List ℕ} {l : Lattice} (c : Coded w l) {m₁ m₂ s : List ℕ} {
       ap (λ (x : ℕ). meet_code x top_code left row table (get_or m₂ 0 0) k) (p.alike_are.at q₂ here)
       ∙ fold_cong bit_and (propositions_code w top_code m₁ m₂ q₁ q₂) _ _ k (λ i h. ap (λ (x : ℕ). bit_or x (J i q₂)) (p.left_is.at i (omega arith)))
 
-  looked_is : (i k : ℕ) → i < get_or m₁ 0 0 → k < get_or m₂ 0 0 → open_pair (get_or alike q₂ 0) top_code left row table (get_or m₂ 0 0) i k ≡ lookedAt (ops_in w l) (model_of m₁) (model_of m₂) (table_of s (get_or m₂ 0 0)) q₁ q₂ i k
-  unfolding lookedAt
+  looked_is : (i k : ℕ) → i < get_or m₁ 0 0 → k < get_or m₂ 0 0 → open_pair (get_or alike q₂ 0) top_code left row table (get_or m₂ 0 0) i k ≡ looked_at (ops_in w l) (model_of m₁) (model_of m₂) (table_of s (get_or m₂ 0 0)) q₁ q₂ i k
+  unfolding looked_at
   looked_is i k a b =
       ap₂ (λ (x y : Bool). not x && not y)
       (ap (λ (x : ℕ). eqb x 0) (meet_is i (omega arith)) ∙ sym (bottom_test c (meets-of c m₁ m₂ s q₁ q₂ inner i (omega arith))))

@@ -4,7 +4,7 @@
 use Rattle.std.specs.Prelude.{ℕ, ◌≤◌, ◌<◌, ◌≡◌, refl, true, false, ◌&&◌, List, ltb, get_or, take}
 use Rattle.std.proofs.Common.{sym, ap, ap₂, ◌∙◌, arith, ltb-true}
 use Rattle.theory.specs.Part.{model_of}
-use Rattle.theory.specs.PairLaws.{pairs_most}
+use Rattle.theory.proofs.PairLaws.{pairs_most}
 use Rattle.theory.specs.TestLaws.{and_l, and_r, cond_true, cond_false}
 use Rattle.elements.specs.Words.{ops_in}
 use Rattle.refusal.specs.declared.Refusal.{Refusal}

@@ -5,7 +5,7 @@
 use Rattle.std.specs.Prelude.{ℕ, ◌+◌, ◌*◌, ◌-◌, ◌/◌, ◌%◌, min, max, ◌≤◌, ◌<◌, ◌≡◌, refl, Bool, true, false, ◌&&◌, List, [], ◌∷◌, ltb, leb, eqb, length, get_or}
 use Rattle.std.proofs.Common.{sym, ap, ap₂, ◌∙◌, le_refl, le_antisymm, arith, ltb-true, lt-ltb, leb-true, le-leb}
 use Rattle.theory.specs.Lattice.{Ops, Laws}
-use Rattle.theory.specs.Descent.{all_map}
+use Rattle.theory.proofs.Descent.{all_map}
 use Rattle.theory.specs.Simulation.{indicator}
 use Rattle.theory.specs.Part.{ops_of, explicit_part}
 use Rattle.theory.specs.TestLaws.{and_l, and_r, and_in, all_in}

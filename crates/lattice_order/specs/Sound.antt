@@ -10,7 +10,7 @@ use Rattle.std.proofs.Math.Dec.{eqb}
 use Rattle.theory.specs.Test.{all_below}
 use Rattle.theory.specs.TestLaws.{and_l, and_r, ⇒-elim, all_at}
 use Rattle.theory.specs.Lattice.{Laws}
-use Rattle.theory.specs.Descent.{all_map}
+use Rattle.theory.proofs.Descent.{all_map}
 use Rattle.theory.specs.Height.{distinct_le}
 use Rattle.theory.specs.Part.{LatticePart, meet_of, join_of, top_of, bot_of, element, ops_of}
 use Rattle.lattice_order.specs.Tests.{distributive, complement_rules}

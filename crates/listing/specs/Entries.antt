@@ -5,7 +5,7 @@ use mathlib.Core.List.{List, ◌++◌}
 use Rattle.theory.specs.Lattice.{Ops}
 use Rattle.theory.specs.Model.{Model}
 use Rattle.theory.specs.Simulation.{SameTable}
-use Rattle.theory.specs.Rounds.{score_cong}
+use Rattle.theory.proofs.Rounds.{score_cong}
 use Rattle.listing.specs.Text.{blank, line_end, row_label, rounds_label, score_label, item, last_item, heading, row_text, rows_text, table_text}
 use Rattle.listing.specs.Writing.{each_cong}
 

@@ -3,7 +3,7 @@ use Rattle.std.specs.Prelude.{ℕ, ◌≡◌, refl, List, [], ◌∷◌}
 use Rattle.std.proofs.Common.{ap, ◌∙◌}
 use Rattle.theory.specs.Lattice.{imp, iff, big_meet, big_join}
 use Rattle.theory.specs.Value.{iterate, bind, all_next, some_next, eval, value_at, whole_value}
-use Rattle.theory.specs.Simulation.{proposition_part, successor_part, F, roundOf, score}
+use Rattle.theory.specs.Simulation.{proposition_part, successor_part, F, round_of, score}
 use Rattle.theory.specs.Part.{is_meet, is_join, meet_of, join_of, top_of, bot_of, element}
 use Rattle.theory.specs.Test.{all_below, first_below}
 use Rattle.casefile.specs.Reading.{case_reading}
@@ -22,7 +22,7 @@ report_text =
 
 -- 'On example 1 with formula p, the bytes .. print exactly'
 pub report_prints : listing_text report_case ≡ report_text
-unfolding imp iff big_meet big_join iterate bind all_next some_next eval value_at whole_value proposition_part successor_part F roundOf score is_meet is_join meet_of join_of top_of bot_of element all_below first_below row_same simulation_test decimal_within decimal each row_text table_text formula_text formula_line formulas_text accepted_text settled_round
+unfolding imp iff big_meet big_join iterate bind all_next some_next eval value_at whole_value proposition_part successor_part F round_of score is_meet is_join meet_of join_of top_of bot_of element all_below first_below row_same simulation_test decimal_within decimal each row_text table_text formula_text formula_line formulas_text accepted_text settled_round
 report_prints = ap text_of report_reading ∙ refl
 
 -- 'refused 1 255 for empty input'

@@ -10,7 +10,7 @@ use Rattle.theory.specs.Value.{whole_value}
 use Rattle.theory.specs.Calculus.{Calculus}
 use Rattle.theory.specs.Simulation.{SameTable, GreatestSimulation}
 use Rattle.theory.specs.Folds.{big_meet_cong}
-use Rattle.theory.specs.Rounds.{F_element, round_element, settled_greatest}
+use Rattle.theory.proofs.Rounds.{F_element, round_element, settled_greatest}
 use Rattle.formula.specs.RoundTrip.{formula_part}
 use Rattle.casefile.specs.Reading.{Content, content, case_reading}
 use Rattle.casefile.specs.Content.{ContentSound, content_sound}

@@ -6,8 +6,8 @@ use Rattle.std.proofs.Math.ListN.{length-append}
 use Rattle.theory.specs.Value.{whole_value}
 use Rattle.theory.specs.Simulation.{score}
 use Rattle.theory.specs.Folds.{big_meet-element}
-use Rattle.theory.specs.Rounds.{round_element}
-use Rattle.theory.specs.Sharp.{T_sharp}
+use Rattle.theory.proofs.Rounds.{round_element}
+use Rattle.theory.proofs.Sharp.{T_sharp}
 use Rattle.casefile.specs.Reading.{Content, content, case_reading}
 use Rattle.casefile.specs.Content.{ContentSound, content_sound, parts_are}
 use Rattle.casefile.specs.Placed.{accepted_placed}

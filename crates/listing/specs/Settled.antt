@@ -4,7 +4,7 @@ use Rattle.std.specs.Prelude.{◌≡◌, refl, true, List}
 use Rattle.std.proofs.Common.{sym, subst, ◌∙◌, arith}
 use Rattle.std.proofs.Math.Path.{ap}
 use Rattle.theory.specs.Simulation.{SameTable}
-use Rattle.theory.specs.Rounds.{round_next, T_at_most-size, T_exists}
+use Rattle.theory.proofs.Rounds.{round_next, T_at_most-size, T_exists}
 use Rattle.theory.specs.Height.{longest_chain}
 use Rattle.theory.specs.TestLaws.{FirstAt, first_unique, not_passed}
 use Rattle.casefile.specs.Reading.{Content, content, case_reading}

@@ -11,9 +11,9 @@ use Rattle.theory.specs.Lattice.{Ops, Laws}
 use Rattle.theory.specs.Model.{Model}
 use Rattle.theory.specs.Part.{model_of, ModelShape}
 use Rattle.theory.specs.Simulation.{F, round, SameTable, FirstUnchanged}
-use Rattle.theory.specs.Fixpoint.{chain-size}
-use Rattle.theory.specs.Rounds.{F_mono, F_element, exists-T, T_unique}
-use Rattle.theory.specs.Sharp.{T_sharp}
+use Rattle.theory.proofs.Fixpoint.{chain-size}
+use Rattle.theory.proofs.Rounds.{F_mono, F_element, exists-T, T_unique}
+use Rattle.theory.proofs.Sharp.{T_sharp}
 use Rattle.theory.specs.TestLaws.{false_true}
 use Rattle.elements.specs.declared.Lattice.{Lattice}
 use Rattle.elements.specs.Words.{ops_in, Coded}

@@ -16,7 +16,7 @@ use Rattle.elements.specs.Folds.{decode_in_lem, code_of, negated_of, meet_of_lem
 use Rattle.entries.specs.Table.{table_of}
 use Rattle.entries.specs.Words.{Rows, low_at}
 use Rattle.entries.specs.Codes.{table_code, codes_of_table, inner_code, TableCoded, InnerCoded, inner_of}
-use Rattle.rounds.specs.Table.{scoreIn}
+use Rattle.rounds.specs.Table.{score_in}
 
 -- entry (q1, q2) of a table of codes that has 64 to a row, and of one that has 64 to a column
 abbrev pub by_row : List ℕ → ℕ → ℕ → ℕ
@@ -68,7 +68,7 @@ score_join w m₂ s q n₂ before f e fits g =
     (λ i k. ap₂ bit_and (f.at i (omega (arith, g))) (low_at (λ i. code_in w (get_or s (q * n₂ + i) 0)) n₂ before e fits i k)))
 
 module _ {w : List ℕ} {l : Lattice} (c : Coded w l) (m₁ m₂ s : List ℕ) where
-  pub score_decoded : decode_in w (fold bit_and (code_in w l.top.0) (score_part w m₁ m₂ s) (get_or m₁ 0 0)) ≡ scoreIn w l m₁ m₂ s
+  pub score_decoded : decode_in w (fold bit_and (code_in w l.top.0) (score_part w m₁ m₂ s) (get_or m₁ 0 0)) ≡ score_in w l m₁ m₂ s
   unfolding score imp
   score_decoded =
       decode_in_lem c

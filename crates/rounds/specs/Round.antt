@@ -18,8 +18,8 @@ use borrow.Author.Tests.{eq-eqb, eqb-true}
 use Rattle.theory.specs.Lattice.{Ops, Element}
 use Rattle.theory.specs.Model.{Model}
 use Rattle.theory.specs.Part.{model_of}
-use Rattle.theory.specs.Simulation.{F, roundOf, SameTable, FixedBy, PostFixedBy}
-use Rattle.theory.specs.Rounds.{F_cong}
+use Rattle.theory.specs.Simulation.{F, round_of, SameTable, FixedBy, PostFixedBy}
+use Rattle.theory.proofs.Rounds.{F_cong}
 use Rattle.theory.specs.Loop.{tab_at, tab-length}
 use Rattle.theory.specs.Lists.{tab}
 use Rattle.theory.specs.Written.{written-length, written_at, written-before, written_after, written_all}
@@ -86,8 +86,8 @@ module _ (O : Ops ℕ) (M₁ M₂ : Model ℕ) (G : (ℕ → ℕ → ℕ) → �
   -- ---- a table by its bytes
 
   -- round 0, from bytes that are all top
-  pub top_round : (s : List ℕ) → ((i : ℕ) → i < M₁.states * M₂.states → get_or s i 0 ≡ O.top) → SameTable O M₁ M₂ (table_of s M₂.states) (roundOf O M₁ M₂ G 0)
-  unfolding roundOf
+  pub top_round : (s : List ℕ) → ((i : ℕ) → i < M₁.states * M₂.states → get_or s i 0 ≡ O.top) → SameTable O M₁ M₂ (table_of s M₂.states) (round_of O M₁ M₂ G 0)
+  unfolding round_of
   top_round s h q₁ l q₂ m = h _ (cell_lt M₁.states M₂.states q₁ q₂ l m)
 
   -- byte i is the entry whose row and column are i divided by N2 and what remains
@@ -104,8 +104,8 @@ module _ (O : Ops ℕ) (M₁ M₂ : Model ℕ) (G : (ℕ → ℕ → ℕ) → �
   -- ---- a round by its rows
 
   -- after all rows of round r the table is round r + 1
-  pub worked_round : ReadsPairs O M₁ M₂ G → (r : ℕ) (S : ℕ → ℕ → ℕ) (before out : List ℕ) → SameTable O M₁ M₂ S (roundOf O M₁ M₂ G r) → Worked M₁ M₂ G S before M₁.states out → SameTable O M₁ M₂ (table_of out M₂.states) (roundOf O M₁ M₂ G (suc r))
-  unfolding roundOf
+  pub worked_round : ReadsPairs O M₁ M₂ G → (r : ℕ) (S : ℕ → ℕ → ℕ) (before out : List ℕ) → SameTable O M₁ M₂ S (round_of O M₁ M₂ G r) → Worked M₁ M₂ G S before M₁.states out → SameTable O M₁ M₂ (table_of out M₂.states) (round_of O M₁ M₂ G (suc r))
+  unfolding round_of
   worked_round cong r S before out h w q₁ l q₂ m = w.rows q₁ l q₂ m ∙ cong _ _ h q₁ q₂
 
   -- a row of G has elements alone, where G gives elements
@@ -141,8 +141,8 @@ module _ (O : Ops ℕ) (M₁ M₂ : Model ℕ) (G : (ℕ → ℕ → ℕ) → �
   unfolding changed_below simulation_test
   unchanged_simulation S = (λ e. (simulation_test_lem S).0 (not-false _ e), λ s. ap not ((simulation_test_lem S).1 s))
 
-  pub unchanged_round : ReadsPairs O M₁ M₂ G → (r : ℕ) (S : ℕ → ℕ → ℕ) → SameTable O M₁ M₂ S (roundOf O M₁ M₂ G r) → (changed_below M₁ M₂ G S M₁.states ≡ false) ↔ SameTable O M₁ M₂ (roundOf O M₁ M₂ G (suc r)) (roundOf O M₁ M₂ G r)
-  unfolding roundOf
+  pub unchanged_round : ReadsPairs O M₁ M₂ G → (r : ℕ) (S : ℕ → ℕ → ℕ) → SameTable O M₁ M₂ S (round_of O M₁ M₂ G r) → (changed_below M₁ M₂ G S M₁.states ≡ false) ↔ SameTable O M₁ M₂ (round_of O M₁ M₂ G (suc r)) (round_of O M₁ M₂ G r)
+  unfolding round_of
   unchanged_round cong r S h = (
     λ e q₁ l q₂ m. sym (cong _ _ h q₁ q₂) ∙ sym ((unchanged_simulation S).0 e q₁ l q₂ m) ∙ h q₁ l q₂ m,
     λ s. (unchanged_simulation S).1 (λ q₁ l q₂ m. h q₁ l q₂ m ∙ sym (s q₁ l q₂ m) ∙ sym (cong _ _ h q₁ q₂)),
@@ -185,10 +185,10 @@ round_test u = ap not u.changed_is ∙ not_not _
 
 -- what all rows of a round have made of round r: round r + 1, with nothing changed exactly when the two are equal
 pub record RoundDone (O : Ops ℕ) (M₁ M₂ : Model ℕ) (G : (ℕ → ℕ → ℕ) → ℕ → ℕ → ℕ) (r : ℕ) (out : List ℕ) (changed : Bool) : Type 0 where
-  pub holds : SameTable O M₁ M₂ (table_of out M₂.states) (roundOf O M₁ M₂ G (suc r))
-  pub unchanged : (changed ≡ false) ↔ SameTable O M₁ M₂ (roundOf O M₁ M₂ G (suc r)) (roundOf O M₁ M₂ G r)
+  pub holds : SameTable O M₁ M₂ (table_of out M₂.states) (round_of O M₁ M₂ G (suc r))
+  pub unchanged : (changed ≡ false) ↔ SameTable O M₁ M₂ (round_of O M₁ M₂ G (suc r)) (round_of O M₁ M₂ G r)
 
-pub round_done : (O : Ops ℕ) {M₁ M₂ : Model ℕ} {G : (ℕ → ℕ → ℕ) → ℕ → ℕ → ℕ} {S : ℕ → ℕ → ℕ} {before out : List ℕ} {changed : Bool} → ReadsPairs O M₁ M₂ G → (r : ℕ) → SameTable O M₁ M₂ S (roundOf O M₁ M₂ G r) → RoundSoFar M₁ M₂ G S before M₁.states out changed → RoundDone O M₁ M₂ G r out changed
+pub round_done : (O : Ops ℕ) {M₁ M₂ : Model ℕ} {G : (ℕ → ℕ → ℕ) → ℕ → ℕ → ℕ} {S : ℕ → ℕ → ℕ} {before out : List ℕ} {changed : Bool} → ReadsPairs O M₁ M₂ G → (r : ℕ) → SameTable O M₁ M₂ S (round_of O M₁ M₂ G r) → RoundSoFar M₁ M₂ G S before M₁.states out changed → RoundDone O M₁ M₂ G r out changed
 round_done O {M₁} {M₂} {G} {S} {before} {out} {changed} cong r h u =
     record {
       holds = worked_round O M₁ M₂ G cong r S before out h u.worked;

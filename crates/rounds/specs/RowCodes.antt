@@ -1,6 +1,6 @@
 -- A row of F from the codes of its entries. Rests on Table, Row and Codes, and entries' Table and Codes.
 --   row_in: the row that is written, and whether it differs
---   row_within, row_within_lem: whether a row of the table is at or below it, by codes; post_fixed_in: whether all are
+--   row_within, row_within_lem: whether a row of the table is at or below it, by codes; post_fixed_in_lem: whether all are
 use Rattle.std.specs.Prelude.{ℕ, ◌+◌, ◌<◌, ◌≡◌, Bool, eqb}
 use Rattle.std.proofs.Common.{sym, ◌∙◌, le_refl, arith}
 use Rattle.std.proofs.Math.Path.{ap}
@@ -15,7 +15,7 @@ use Rattle.elements.specs.declared.Lattice.{Lattice}
 use Rattle.elements.specs.Words.{code_in, decode_in, within, Coded}
 use Rattle.entries.specs.Table.{entry_in}
 use Rattle.entries.specs.Codes.{codes_of_table, entry_code, entry_of, entry-decoded}
-use Rattle.rounds.specs.Table.{row_same, row_at_most, post_fixed_test, RowIn, postFixedIn}
+use Rattle.rounds.specs.Table.{row_same, row_at_most, post_fixed_test, RowIn, post_fixed_in}
 use Rattle.rounds.specs.Row.{RowAt, RowSoFar, RowOut, row_written_lem}
 use Rattle.rounds.specs.Codes.{by_row, JoinsOf, joins-inner}
 
@@ -51,9 +51,9 @@ pub row_within_lem : (w : List ℕ) (top : ℕ) (m₁ m₂ s joins codes : List 
 row_within_lem w top m₁ m₂ s joins codes {n₂ = n₂} {at = at} a e f g =
     g ∙ all_cong n₂ _ _ (λ q k. ap (within (code_in w (get_or s (at + q) 0))) (f.at q (omega (arith, e)))) ∙ rw (a.here, e)
 
--- the code of an entry of F is that of its element, so that the test of all rows by codes is `postFixedIn`
-pub post_fixed_in : {w : List ℕ} {l : Lattice} (c : Coded w l) {m₁ m₂ s joins : List ℕ} → JoinsOf w m₁ m₂ s joins
-    → all_below (get_or m₁ 0 0) (row_within w (code_in w l.top.0) m₁ m₂ s joins) ≡ postFixedIn w l m₁ m₂ s
+-- the code of an entry of F is that of its element, so that the test of all rows by codes is `post_fixed_in`
+pub post_fixed_in_lem : {w : List ℕ} {l : Lattice} (c : Coded w l) {m₁ m₂ s joins : List ℕ} → JoinsOf w m₁ m₂ s joins
+    → all_below (get_or m₁ 0 0) (row_within w (code_in w l.top.0) m₁ m₂ s joins) ≡ post_fixed_in w l m₁ m₂ s
 unfolding post_fixed_test row_at_most
-post_fixed_in {w} c {m₁} {m₂} {s} j =
+post_fixed_in_lem {w} c {m₁} {m₂} {s} j =
     all_cong _ _ _ (λ q₁ _. all_cong _ _ _ (λ q₂ m. ap (within (codes_of_table w m₂ s q₁ q₂)) (entry_of c m₁ m₂ s q₁ q₂ (joins-inner c j q₂ m)).eq))

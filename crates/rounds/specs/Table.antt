@@ -5,8 +5,8 @@
 --   row_written, entry_same, row_same, row_changed, changed_below, simulation_test: a row in its place, what it changes, S = G(S)
 --   entry_at_most, row_at_most, post_fixed_test: S at or below G(S)
 --   bytes_differing: in how many entries two tables differ
---   scoreIn: score
---   RowIn, postFixedIn: what working a row does, the test on bytes
+--   score_in: score
+--   RowIn, post_fixed_in: what working a row does, the test on bytes
 use Rattle.std.specs.Prelude.{ℕ, ◌*◌, ◌≤◌, ◌≡◌, Bool, not, List, eqb, length, get_or}
 use Rattle.theory.specs.Lattice.{Ops}
 use Rattle.theory.specs.Model.{Model}
@@ -67,8 +67,8 @@ bytes_differing a b n₁ n₂ = differing eqb n₁ n₂ (table_of a n₂) (table
 module _ (w : List ℕ) (l : Lattice) (m₁ m₂ : List ℕ) where
   module _ (s : List ℕ) where
     -- the score of the table s
-    abbrev pub scoreIn : ℕ
-    scoreIn = score (ops_in w l) (model_of m₁) (model_of m₂) (table_of s (get_or m₂ 0 0))
+    abbrev pub score_in : ℕ
+    score_in = score (ops_in w l) (model_of m₁) (model_of m₂) (table_of s (get_or m₂ 0 0))
 
     -- row q₁ of F of s is written into `before`, which gives `out`; `changed` says whether it differs from that of s
     abbrev pub RowIn : ℕ → List ℕ → List ℕ → Bool → Type 0
@@ -77,5 +77,5 @@ module _ (w : List ℕ) (l : Lattice) (m₁ m₂ : List ℕ) where
         × (changed ≡ row_changed (model_of m₁) (model_of m₂) (FIn w l m₁ m₂) (table_of s (get_or m₂ 0 0)) q₁)
 
     -- s is at or below F of s
-    abbrev pub postFixedIn : Bool
-    postFixedIn = post_fixed_test (ops_in w l) (model_of m₁) (model_of m₂) (FIn w l m₁ m₂) (table_of s (get_or m₂ 0 0))
+    abbrev pub post_fixed_in : Bool
+    post_fixed_in = post_fixed_test (ops_in w l) (model_of m₁) (model_of m₂) (FIn w l m₁ m₂) (table_of s (get_or m₂ 0 0))

@@ -12,7 +12,7 @@ ghost use Rattle.theory.specs.Part.{ModelShape};
 ghost use Rattle.elements.specs.Words.{Coded};
 ghost use Rattle.entries.specs.Table.{Shaped};
 ghost use Rattle.entries.specs.Words.{row_words};
-ghost use Rattle.rounds.specs.Table.{Room, RowIn, scoreIn, postFixedIn, bytes_differing};
+ghost use Rattle.rounds.specs.Table.{Room, RowIn, score_in, post_fixed_in, bytes_differing};
 ghost use Rattle.rounds.specs.Round.{RoundIn};
 ghost use Rattle.rounds.specs.Row.{RowOut};
 ghost use Rattle.rounds.specs.Codes.{initial_code, join_of, JoinsOf};
@@ -129,7 +129,7 @@ fn inner_joins(w: &Codes, top: u64, m1: &[u8], m2: &[u8], s: &[u8], joins: &mut 
 // element.
 pub fn is_post_fixed(w: &Codes, l: Lattice, m1: &[u8], m2: &[u8], s: &[u8]) -> bool
     requires { Coded w.now l × Shaped m1.now m2.now s.now }
-    ensures { result ≡ postFixedIn w.now l m1.now m2.now s.now }
+    ensures { result ≡ post_fixed_in w.now l m1.now m2.now s.now }
 {
     let n1 = model::states(m1);
     let n2 = model::states(m2);
@@ -189,7 +189,7 @@ fn joined(row: &[u64; 64], codes: &[u64], n: usize) -> u64
 // The meet over q1 of its initial value → the join over q2 of its initial value met with entry (q1, q2) of s.
 pub fn score(w: &Codes, l: Lattice, m1: &[u8], m2: &[u8], s: &[u8]) -> Element
     requires { Coded w.now l × Shaped m1.now m2.now s.now }
-    ensures { result.0 ≡ scoreIn w.now l m1.now m2.now s.now }
+    ensures { result.0 ≡ score_in w.now l m1.now m2.now s.now }
 {
     let n1 = model::states(m1);
     let n2 = model::states(m2);

@@ -4,7 +4,7 @@ use Rattle.std.specs.Prelude.{ℕ, ◌<◌, ◌≤◌, ◌≡◌, refl, List, ge
 use Rattle.std.proofs.Common.{ap, arith}
 use Rattle.theory.specs.Simulation.{count, per_cent, share}
 use Rattle.theory.specs.Loop.{Counted}
-use Rattle.theory.specs.Share.{perCent-most}
+use Rattle.theory.proofs.Share.{per_cent_most}
 use Rattle.elements.specs.declared.Lattice.{Lattice}
 use Rattle.elements.specs.Words.{at_most_in, ops_in}
 
@@ -24,4 +24,4 @@ share_counted w e s n c u = ap (λ (x : ℕ). per_cent x n) u.eq
 
 -- a per cent fits a byte
 pub per_cent-fits : {x c t : ℕ} → 0 < t → c ≤ t → x ≡ per_cent c t → x < 256
-per_cent-fits {x} {c} {t} some m e = omega (arith, e, perCent-most c t some m)
+per_cent-fits {x} {c} {t} some m e = omega (arith, e, per_cent_most c t some m)

@@ -1,7 +1,7 @@
 -- Request 103: how many pairs (q1', q2') working one entry of F looks at. Rests on Lattice, Model, Value and Simulation. What is proved of it
 -- stands in PairLaws.
 --   count_pairs: how many pairs pass a test; is_bottom, is_top: an element is bottom, or top, as tests
---   meetBefore, join_before, lookedAt, pairs: the count
+--   meet_before, join_before, looked_at, pairs: the count
 use Rattle.std.specs.Prelude.{ℕ, zero, suc, ◌+◌, Bool, not, ◌&&◌}
 use Rattle.theory.specs.Lattice.{Ops, imp, big_meet, big_join}
 use Rattle.theory.specs.Model.{Model}
@@ -28,13 +28,13 @@ module _ {A : Type 0} (O : Ops A) where
 
   module _ (M₁ M₂ : Model A) (S : ℕ → ℕ → A) (q₁ q₂ : ℕ) where
     -- 'the meet over the propositions and all smaller q1''
-    unfoldable pub meetBefore : ℕ → A
-    meetBefore q₁' = O.meet (proposition_part O M₁ M₂ q₁ q₂) (big_meet O q₁' (λ i. imp O (M₁.transition q₁ i) (some_next O M₂ (S i) q₂)))
+    unfoldable pub meet_before : ℕ → A
+    meet_before q₁' = O.meet (proposition_part O M₁ M₂ q₁ q₂) (big_meet O q₁' (λ i. imp O (M₁.transition q₁ i) (some_next O M₂ (S i) q₂)))
 
     -- 'the meet over the propositions and all smaller q1' isn't bottom and, for that q1', the join over smaller q2' isn't top'
-    unfoldable pub lookedAt : ℕ → ℕ → Bool
-    lookedAt q₁' q₂' = not (is_bottom (meetBefore q₁')) && not (is_top (join_before M₂ S q₂ q₁' q₂'))
+    unfoldable pub looked_at : ℕ → ℕ → Bool
+    looked_at q₁' q₂' = not (is_bottom (meet_before q₁')) && not (is_top (join_before M₂ S q₂ q₁' q₂'))
 
     -- 'how many pairs (q1', q2') it looked at: exactly those'
     unfoldable pub pairs : ℕ
-    pairs = count_pairs M₁.states M₂.states lookedAt
+    pairs = count_pairs M₁.states M₂.states looked_at

@@ -1,7 +1,7 @@
 -- The simulation operator F, its rounds, the first round that changes nothing, score, share and lowerings. Rests on Lattice, Model, Formula, Value.
 --   proposition_part, successor_part, F: the operator on tables, and its two parts
 --   AllPairs, SameTable, AtMostTable, Bounds: tables at the pairs of states
---   round, FirstUnchanged, Simulation, GreatestSimulation: the rounds, T, and the simulations; of any operator roundOf, FirstUnchangedOf,
+--   round, FirstUnchanged, Simulation, GreatestSimulation: the rounds, T, and the simulations; of any operator round_of, FirstUnchangedOf,
 --     FixedBy, GreatestFixedBy
 --   PostFixedBy: S at or below G(S), for any operator G
 --   score; BoundsWhole: an element bounds the whole values of a formula; share, by indicator, count, goes_up and per_cent
@@ -49,15 +49,15 @@ module _ {A : Type 0} (O : Ops A) (M₁ M₂ : Model A) where
 
   module _ (G : (ℕ → ℕ → A) → ℕ → ℕ → A) where
     -- 'Round 0 is all top; round r + 1 is F of round r.'
-    unfoldable pub roundOf : ℕ → ℕ → ℕ → A
-    roundOf zero q₁ q₂ = O.top
-    roundOf (suc r) q₁ q₂ = G (roundOf r) q₁ q₂
+    unfoldable pub round_of : ℕ → ℕ → ℕ → A
+    round_of zero q₁ q₂ = O.top
+    round_of (suc r) q₁ q₂ = G (round_of r) q₁ q₂
 
     -- 'T is the least t above 0 for which round t equals round t − 1.'
     pub record FirstUnchangedOf (T : ℕ) : Type 0 where
       pub above0 : 0 < T
-      pub unchanged : SameTable (roundOf T) (roundOf (T - 1))
-      pub least : (t : ℕ) → 0 < t → t < T → SameTable (roundOf t) (roundOf (t - 1)) → ⊥
+      pub unchanged : SameTable (round_of T) (round_of (T - 1))
+      pub least : (t : ℕ) → 0 < t → t < T → SameTable (round_of t) (round_of (t - 1)) → ⊥
 
     -- S = G(S); and the greatest such: 'it meets their equation, and every other table that does lies at or below it'
     abbrev pub FixedBy : (ℕ → ℕ → A) → Type 0
@@ -72,7 +72,7 @@ module _ {A : Type 0} (O : Ops A) (M₁ M₂ : Model A) where
     PostFixedBy S = AtMostTable S (G S)
 
   abbrev pub round : ℕ → ℕ → ℕ → A
-  round = roundOf F
+  round = round_of F
 
   abbrev pub FirstUnchanged : ℕ → Type 0
   FirstUnchanged = FirstUnchangedOf F

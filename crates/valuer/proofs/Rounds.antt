@@ -10,7 +10,7 @@ use native.Mathlib.Omega.{arith}
 use borrow.Author.Tests.{eqb-true}
 use lib.Dec.{eqb}
 use lib.ListN.{get_or, replicate}
-use Rattle.theory.specs.Fixpoint.{body_cong, iterate_stays}
+use Rattle.theory.proofs.Fixpoint.{body_cong, iterate_stays}
 use Rattle.theory.specs.Formula.{Formula}
 use Rattle.theory.specs.Part.{model_of}
 use Rattle.theory.specs.Test.{all_below}

@@ -11,7 +11,7 @@ use Rattle.theory.specs.Model.{Valued}
 use Rattle.theory.specs.Formula.{Formula}
 use Rattle.theory.specs.Value.{value_at, whole_value}
 use Rattle.theory.specs.Calculus.{Calculus}
-use Rattle.theory.specs.Fixpoint.{value_is, value_element}
+use Rattle.theory.proofs.Fixpoint.{value_is, value_element}
 use Rattle.theory.specs.Part.{model_of}
 use Rattle.elements.specs.Words.{ops_in}
 use Rattle.elements.specs.declared.Lattice.{Lattice}

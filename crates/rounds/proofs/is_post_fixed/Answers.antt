@@ -6,11 +6,11 @@ use borrow.Author.Tests.{not-true, not-false}
 use Rattle.theory.specs.Loop.{Passed, passed_none, passed_more, passed_stop, passed_all}
 use Rattle.theory.specs.Test.{all_below}
 use Rattle.model.specs.Places.{prod_le}
-use Rattle.rounds.specs.Table.{postFixedIn}
+use Rattle.rounds.specs.Table.{post_fixed_in}
 use Rattle.rounds.specs.Row.{row_at}
 use Rattle.entries.specs.Codes.{model_pair}
 use Rattle.rounds.specs.Early.{top_of}
-use Rattle.rounds.specs.RowCodes.{row_within, row_within_lem, post_fixed_in}
+use Rattle.rounds.specs.RowCodes.{row_within, row_within_lem, post_fixed_in_lem}
 use borrow.Author.Rules.{rules}
 use native.Mathlib.Omega.{arith}
 use Rattle.rounds.proofs.is_post_fixed.Goals as goal
@@ -26,8 +26,8 @@ row-found c =
 
 -- the test of all rows by codes is that of the table
 all-rows : (c : After-inner_joins) → let a = c.args in
-    all_below (get_or a.m1.now 0 0) (row_within a.w.now c.code-top.result a.m1.now a.m2.now a.s.now c.inner_joins.new.joins) ≡ postFixedIn a.w.now a.l a.m1.now a.m2.now a.s.now
-all-rows c = rw c.code-top.ensures (post_fixed_in c.requires.0 c.inner_joins.ensures)
+    all_below (get_or a.m1.now 0 0) (row_within a.w.now c.code-top.result a.m1.now a.m2.now a.s.now c.inner_joins.new.joins) ≡ post_fixed_in a.w.now a.l a.m1.now a.m2.now a.s.now
+all-rows c = rw c.code-top.ensures (post_fixed_in_lem c.requires.0 c.inner_joins.ensures)
 
 pub loop-q1-init : goal.loop-q1-init
 loop-q1-init c = (omega arith, passed_none)

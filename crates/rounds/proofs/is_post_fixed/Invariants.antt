@@ -5,11 +5,11 @@ use borrow.Author.Tests.{not-true, not-false}
 use Rattle.theory.specs.Loop.{Passed, passed_none, passed_more, passed_stop, passed_all}
 use Rattle.theory.specs.Test.{all_below}
 use Rattle.model.specs.Places.{prod_le}
-use Rattle.rounds.specs.Table.{postFixedIn}
+use Rattle.rounds.specs.Table.{post_fixed_in}
 use Rattle.rounds.specs.Row.{row_at}
 use Rattle.entries.specs.Codes.{model_pair}
 use Rattle.rounds.specs.Early.{top_of}
-use Rattle.rounds.specs.RowCodes.{row_within, row_within_lem, post_fixed_in}
+use Rattle.rounds.specs.RowCodes.{row_within, row_within_lem, post_fixed_in_lem}
 use borrow.Author.Rules.{rules}
 use native.Mathlib.Omega.{arith}
 use Rattle.rounds.proofs.is_post_fixed.Given as goal

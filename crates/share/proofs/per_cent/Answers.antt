@@ -2,7 +2,7 @@
 use Prim.Native.Nat.{◌*◌}
 use native.Mathlib.Nat.{mod-lt}
 use native.Mathlib.Omega.{arith}
-use Rattle.theory.specs.Share.{per_cent_up, per_cent_down}
+use Rattle.theory.proofs.Share.{per_cent_up, per_cent_down}
 use Rattle.share.specs.ShareIn.{per_cent-fits}
 use borrow.Author.Rules.{rules}
 use Rattle.share.proofs.per_cent.Goals as goal

@@ -13,14 +13,14 @@ use Rattle.theory.specs.Lattice.{Ops, Laws, AtMost, Element, big_meet, big_join}
 use Rattle.theory.specs.Model.{Model}
 use Rattle.theory.specs.Value.{all_next, some_next}
 use Rattle.theory.specs.Simulation.{proposition_part, successor_part, F, indicator, count}
-use Rattle.theory.specs.Pairs.{count_pairs, is_bottom, is_top, meetBefore, join_before, lookedAt, pairs}
+use Rattle.theory.specs.Pairs.{count_pairs, is_bottom, is_top, meet_before, join_before, looked_at, pairs}
 use Rattle.theory.specs.Folds.{big_meet-element}
 use Rattle.theory.specs.Loop.{count_most, count_cong}
 use Rattle.theory.specs.TestLaws.{below_suc, false_true}
 
 module _ {A : Type 0} (O : Ops A) (M₁ M₂ : Model A) (S : ℕ → ℕ → A) (q₁ q₂ : ℕ) where
-  pub meet_whole : meetBefore O M₁ M₂ S q₁ q₂ M₁.states ≡ F O M₁ M₂ S q₁ q₂
-  unfolding meetBefore F successor_part all_next
+  pub meet_whole : meet_before O M₁ M₂ S q₁ q₂ M₁.states ≡ F O M₁ M₂ S q₁ q₂
+  unfolding meet_before F successor_part all_next
   meet_whole = refl
 
 module _ {A : Type 0} (O : Ops A) (M₂ : Model A) (S : ℕ → ℕ → A) (q₂ : ℕ) where
@@ -133,13 +133,13 @@ module _ {A : Type 0} {O : Ops A} (L : Laws O) (M₁ M₂ : Model A) (S : ℕ �
   low_exactly = bottom_exactly L (big_meet-element L M₁.propositions _)
 
   -- a meet with what is bottom is bottom, so that no pair is looked at
-  none_looked_at : low → (i j : ℕ) → lookedAt O M₁ M₂ S q₁ q₂ i j ≡ false
-  unfolding lookedAt meetBefore
+  none_looked_at : low → (i j : ℕ) → looked_at O M₁ M₂ S q₁ q₂ i j ≡ false
+  unfolding looked_at meet_before
   none_looked_at h i j = ap (λ (b : Bool). not b && not (is_top O (join_before O M₂ S q₂ i j))) (trans (meet_l _ _) h)
 
   -- the first pair is looked at unless it is
-  first_pair : lookedAt O M₁ M₂ S q₁ q₂ 0 0 ≡ false → low
-  unfolding lookedAt meetBefore join_before big_meet big_join
+  first_pair : looked_at O M₁ M₂ S q₁ q₂ 0 0 ≡ false → low
+  unfolding looked_at meet_before join_before big_meet big_join
   first_pair e = ⊎_elim (λ h. trans (meet_glb (rfl _) (top_max _)) h) (λ h. trans (top_max _) h) (one_passed _ _ e)
 
   pub pairs_none : 0 < M₁.states → 0 < M₂.states → (pairs O M₁ M₂ S q₁ q₂ ≡ 0) ↔ (proposition_part O M₁ M₂ q₁ q₂ ≡ O.bot)

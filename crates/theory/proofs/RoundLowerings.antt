@@ -6,9 +6,9 @@ use Rattle.std.proofs.Common.{sym, ◌∙◌, subst, add-zero, not-suc-le-zero, 
 use Rattle.theory.specs.Lattice.{Ops, Laws, LongestChain}
 use Rattle.theory.specs.Model.{Model}
 use Rattle.theory.specs.Simulation.{F, round, SameTable, FirstUnchanged, differing, lowerings}
-use Rattle.theory.specs.Monotone.{chain-size}
+use Rattle.theory.proofs.Monotone.{chain-size}
 use Rattle.theory.specs.Lowerings.{lowerings-more, differing-zero, differing_passes}
-use Rattle.theory.specs.Rounds.{F_mono, F_element, rounds-lower}
+use Rattle.theory.proofs.Rounds.{F_mono, F_element, rounds-lower}
 
 -- for any test that equal elements pass
 module _ {A : Type 0} {O : Ops A} (L : Laws O) (M₁ M₂ : Model A) (same : A → A → Bool) (alike : (a : A) → same a a ≡ true) where

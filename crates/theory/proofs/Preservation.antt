@@ -11,11 +11,11 @@ use Rattle.theory.specs.Lattice.{Ops, Laws, AtMost, imp, big_meet, big_join}
 use Rattle.theory.specs.Model.{Model}
 use Rattle.theory.specs.Formula.{Formula, bottom, top, prop, negated, var, or, and, AX, EX, mu, nu, closed_under, universal, fixpoint_free, over_props, nested_AX, UniversalSentence}
 use Rattle.theory.specs.Value.{iterate, bind, all_next, some_next, eval, enough, value_at, whole_value}
-use Rattle.theory.specs.Simulation.{proposition_part, successor_part, F, roundOf, round, PostFixedBy, Bounds, BoundsWhole, FirstUnchanged, score}
+use Rattle.theory.specs.Simulation.{proposition_part, successor_part, F, round_of, round, PostFixedBy, Bounds, BoundsWhole, FirstUnchanged, score}
 use Rattle.theory.specs.Folds.{big_meet_le, big_meet_mono, big_join_lub, join-big_meet, meet_mono, join_mono, imp_mono, imp-meet, imp-join, imp-bot, imp-top, imp-neg, iff_l, iff_r, de_morgan_join}
 use Rattle.theory.specs.TestLaws.{and_l, and_r, false_true}
-use Rattle.theory.specs.Fixpoint.{applications_le}
-use Rattle.theory.specs.Rounds.{settled_below}
+use Rattle.theory.proofs.Fixpoint.{applications_le}
+use Rattle.theory.proofs.Rounds.{settled_below}
 
 module _ {A : Type 0} {O : Ops A} (L : Laws O) (M₁ M₂ : Model A) where
   open O use {meet as ◌⊓◌, join as ◌⊔◌, neg}
@@ -53,7 +53,7 @@ module _ {A : Type 0} {O : Ops A} (L : Laws O) (M₁ M₂ : Model A) where
   -- ---- by rounds: no fixpoint, and fewer nested AX than rounds
 
   eval_by_round : (K J : ℕ) (e d : ℕ → ℕ → A) (φ : Formula) → closed_under 0 φ ≡ true → universal φ ≡ true → over_props M₁.propositions φ ≡ true → fixpoint_free φ ≡ true → (r : ℕ) → nested_AX φ < r → Bounds O M₁ M₂ (round O M₁ M₂ r) (eval O M₁ K φ e) (eval O M₂ J φ d)
-  unfolding eval roundOf nested_AX closed_under universal over_props fixpoint_free
+  unfolding eval round_of nested_AX closed_under universal over_props fixpoint_free
   eval_by_round K J e d bottom c u o x r h q₁ l q₂ m = imp-bot L _ _
   eval_by_round K J e d top c u o x r h q₁ l q₂ m = imp-top L _ _
   eval_by_round K J e d (prop p) c u o x zero h q₁ l q₂ m = absurd (not-suc-le-zero h)

@@ -17,12 +17,13 @@ use native.Mathlib.Omega.{arith}
 use Rattle.theory.specs.Lattice.{Ops, Laws, AtMost, Element, Chain, LongestChain, imp}
 use Rattle.theory.specs.Model.{Model}
 use Rattle.theory.specs.Value.{some_next}
-use Rattle.theory.specs.Simulation.{successor_part, F, round, roundOf, SameTable, AtMostTable, FixedBy, PostFixedBy, GreatestFixedBy, FirstUnchangedOf, FirstUnchanged, GreatestSimulation, score, lowerings}
+use Rattle.theory.specs.Simulation.{successor_part, F, round, round_of, SameTable, AtMostTable, FixedBy, PostFixedBy, GreatestFixedBy, FirstUnchangedOf, FirstUnchanged, GreatestSimulation, score, lowerings}
 use Rattle.theory.specs.Folds.{meet_mono, big_meet_cong, big_join_cong}
 use Rattle.theory.specs.Finite.{First}
-use Rattle.theory.specs.Descent.{Unlowered, first-unlowered, lowerings-le, downwards, apart-most}
+use Rattle.theory.specs.Descent.{Unlowered, downwards}
+use Rattle.theory.proofs.Descent.{first-unlowered, lowerings-le, apart-most}
 use Rattle.theory.specs.Lowerings.{lowerings-mono}
-use Rattle.theory.specs.Monotone.{all_next_cong, some_next_cong, all_next_mono, some_next_mono, chain-size}
+use Rattle.theory.proofs.Monotone.{all_next_cong, some_next_cong, all_next_mono, some_next_mono, chain-size}
 
 -- ---- F and score read a table only at the pairs of states
 
@@ -37,7 +38,7 @@ module _ {A : Type 0} (O : Ops A) (M₁ M₂ : Model A) where
 
   -- round r + 1 is F of round r
   pub round_next : (r q₁ q₂ : ℕ) → round O M₁ M₂ (suc r) q₁ q₂ ≡ F O M₁ M₂ (round O M₁ M₂ r) q₁ q₂
-  unfolding roundOf
+  unfolding round_of
   round_next r q₁ q₂ = refl
 
   -- T is one number, for any operator on tables
@@ -51,19 +52,19 @@ module _ {A : Type 0} (O : Ops A) (M₁ M₂ : Model A) where
 
   module _ (G : (ℕ → ℕ → A) → ℕ → ℕ → A) (cong : (S U : ℕ → ℕ → A) → SameTable O M₁ M₂ S U → (q₁ q₂ : ℕ) → G S q₁ q₂ ≡ G U q₁ q₂) where
     -- after a round that equals the one before, none differs
-    pub stays : (T : ℕ) → FirstUnchangedOf O M₁ M₂ G T → (r : ℕ) → T ≤ r → SameTable O M₁ M₂ (roundOf O M₁ M₂ G r) (roundOf O M₁ M₂ G T)
-    unfolding roundOf
+    pub stays : (T : ℕ) → FirstUnchangedOf O M₁ M₂ G T → (r : ℕ) → T ≤ r → SameTable O M₁ M₂ (round_of O M₁ M₂ G r) (round_of O M₁ M₂ G T)
+    unfolding round_of
     stays zero f r l = absurd (not-suc-le-zero f.above0)
-    stays (suc t) f r l = le_ind (λ r. SameTable O M₁ M₂ (roundOf O M₁ M₂ G r) (roundOf O M₁ M₂ G (suc t))) (λ q₁ l q₂ m. refl) next r l
+    stays (suc t) f r l = le_ind (λ r. SameTable O M₁ M₂ (round_of O M₁ M₂ G r) (round_of O M₁ M₂ G (suc t))) (λ q₁ l q₂ m. refl) next r l
       where
-        same : SameTable O M₁ M₂ (roundOf O M₁ M₂ G (suc t)) (roundOf O M₁ M₂ G t)
-        same = subst (λ (n : ℕ). SameTable O M₁ M₂ (roundOf O M₁ M₂ G (suc t)) (roundOf O M₁ M₂ G n)) (sub-one (suc t)) f.unchanged
+        same : SameTable O M₁ M₂ (round_of O M₁ M₂ G (suc t)) (round_of O M₁ M₂ G t)
+        same = subst (λ (n : ℕ). SameTable O M₁ M₂ (round_of O M₁ M₂ G (suc t)) (round_of O M₁ M₂ G n)) (sub-one (suc t)) f.unchanged
 
-        next : (r : ℕ) → suc t ≤ r → SameTable O M₁ M₂ (roundOf O M₁ M₂ G r) (roundOf O M₁ M₂ G (suc t)) → SameTable O M₁ M₂ (roundOf O M₁ M₂ G (suc r)) (roundOf O M₁ M₂ G (suc t))
+        next : (r : ℕ) → suc t ≤ r → SameTable O M₁ M₂ (round_of O M₁ M₂ G r) (round_of O M₁ M₂ G (suc t)) → SameTable O M₁ M₂ (round_of O M₁ M₂ G (suc r)) (round_of O M₁ M₂ G (suc t))
         next r l h q₁ k q₂ m = cong _ _ (λ x a y b. h x a y b ∙ same x a y b) q₁ q₂
 
-    pub fixed-at-T : (T : ℕ) → FirstUnchangedOf O M₁ M₂ G T → FixedBy O M₁ M₂ G (roundOf O M₁ M₂ G T)
-    unfolding roundOf
+    pub fixed-at-T : (T : ℕ) → FirstUnchangedOf O M₁ M₂ G T → FixedBy O M₁ M₂ G (round_of O M₁ M₂ G T)
+    unfolding round_of
     fixed-at-T T f q₁ l q₂ m = sym (stays T f (suc T) (omega arith) q₁ l q₂ m)
 
 module _ {A : Type 0} {O : Ops A} (L : Laws O) (M₁ M₂ : Model A) where
@@ -81,43 +82,43 @@ module _ {A : Type 0} {O : Ops A} (L : Laws O) (M₁ M₂ : Model A) where
   -- ---- a monotone operator
 
   module _ (G : (ℕ → ℕ → A) → ℕ → ℕ → A) (mono : (S U : ℕ → ℕ → A) → AtMostTable O M₁ M₂ S U → (q₁ q₂ : ℕ) → AtMost O (G S q₁ q₂) (G U q₁ q₂)) where
-    pub descend : (r q₁ q₂ : ℕ) → AtMost O (roundOf O M₁ M₂ G (suc r) q₁ q₂) (roundOf O M₁ M₂ G r q₁ q₂)
-    unfolding roundOf
+    pub descend : (r q₁ q₂ : ℕ) → AtMost O (round_of O M₁ M₂ G (suc r) q₁ q₂) (round_of O M₁ M₂ G r q₁ q₂)
+    unfolding round_of
     descend zero q₁ q₂ = L.top_max _
     descend (suc r) q₁ q₂ = mono _ _ (λ q₁' l q₂' m. descend r q₁' q₂') q₁ q₂
 
     -- a table that G does not lower lies at or below every round
-    pub below-every : (S : ℕ → ℕ → A) → PostFixedBy O M₁ M₂ G S → (r : ℕ) → AtMostTable O M₁ M₂ S (roundOf O M₁ M₂ G r)
-    unfolding roundOf
+    pub below-every : (S : ℕ → ℕ → A) → PostFixedBy O M₁ M₂ G S → (r : ℕ) → AtMostTable O M₁ M₂ S (round_of O M₁ M₂ G r)
+    unfolding round_of
     below-every S h zero q₁ l q₂ m = L.top_max _
     below-every S h (suc r) q₁ l q₂ m = L.trans (h q₁ l q₂ m) (mono _ _ (below-every S h r) q₁ q₂)
 
     module _ (element : (S : ℕ → ℕ → A) (q₁ q₂ : ℕ) → Element O (G S q₁ q₂)) where
-      pub rounds-element : (r q₁ q₂ : ℕ) → Element O (roundOf O M₁ M₂ G r q₁ q₂)
-      unfolding roundOf
+      pub rounds-element : (r q₁ q₂ : ℕ) → Element O (round_of O M₁ M₂ G r q₁ q₂)
+      unfolding round_of
       rounds-element zero q₁ q₂ = L.top-element
       rounds-element (suc r) q₁ q₂ = element _ q₁ q₂
 
       -- a round that the next one does not lower equals it
-      unlowered-same : (r : ℕ) → AtMostTable O M₁ M₂ (roundOf O M₁ M₂ G r) (roundOf O M₁ M₂ G (suc r)) → SameTable O M₁ M₂ (roundOf O M₁ M₂ G (suc r)) (roundOf O M₁ M₂ G (suc r - 1))
+      unlowered-same : (r : ℕ) → AtMostTable O M₁ M₂ (round_of O M₁ M₂ G r) (round_of O M₁ M₂ G (suc r)) → SameTable O M₁ M₂ (round_of O M₁ M₂ G (suc r)) (round_of O M₁ M₂ G (suc r - 1))
       unlowered-same r h =
-          subst (λ (n : ℕ). SameTable O M₁ M₂ (roundOf O M₁ M₂ G (suc r)) (roundOf O M₁ M₂ G n)) (sym (sub-one (suc r)))
+          subst (λ (n : ℕ). SameTable O M₁ M₂ (round_of O M₁ M₂ G (suc r)) (round_of O M₁ M₂ G n)) (sym (sub-one (suc r)))
           (λ q₁ l q₂ m. L.antisym (rounds-element (suc r) q₁ q₂) (rounds-element r q₁ q₂) (descend r q₁ q₂) (h q₁ l q₂ m))
 
       -- the rounds together lower at most N1·N2·(h − 1) entries, by any test that equal elements pass
       pub rounds-lower : (same : A → A → Bool) → ((a : A) → same a a ≡ true) → (h : ℕ) → ((l : List A) → Chain O l → length l ≤ h) → (t : ℕ)
-          → lowerings same M₁.states M₂.states (roundOf O M₁ M₂ G) t ≤ M₁.states * M₂.states * (h - 1)
+          → lowerings same M₁.states M₂.states (round_of O M₁ M₂ G) t ≤ M₁.states * M₂.states * (h - 1)
       rounds-lower same alike h longest t =
           le_trans
-          (lowerings-mono O.at_most M₁.states M₂.states (roundOf O M₁ M₂ G) same
+          (lowerings-mono O.at_most M₁.states M₂.states (round_of O M₁ M₂ G) same
           (λ i q₁ l q₂ m e. rw (L.antisym (rounds-element (suc i) q₁ q₂) (rounds-element i q₁ q₂) (descend i q₁ q₂) e) (alike _)) t)
-          (lowerings-le (downwards L) h (apart-most L h longest) M₁.states M₂.states (roundOf O M₁ M₂ G) (λ t q₁ l q₂ m. descend t q₁ q₂) t)
+          (lowerings-le (downwards L) h (apart-most L h longest) M₁.states M₂.states (round_of O M₁ M₂ G) (λ t q₁ l q₂ m. descend t q₁ q₂) t)
 
       -- T exists within the limit that the chains give
       pub exists-T : (h : ℕ) → ((l : List A) → Chain O l → length l ≤ h) → (T : ℕ) × (T ≤ M₁.states * M₂.states * (h - 1) + 1) × FirstUnchangedOf O M₁ M₂ G T
-      exists-T h longest = go (first-unlowered (downwards L) h (apart-most L h longest) M₁.states M₂.states (roundOf O M₁ M₂ G) (λ t q₁ l q₂ m. descend t q₁ q₂))
+      exists-T h longest = go (first-unlowered (downwards L) h (apart-most L h longest) M₁.states M₂.states (round_of O M₁ M₂ G) (λ t q₁ l q₂ m. descend t q₁ q₂))
         where
-          go : (t : ℕ) × (t ≤ M₁.states * M₂.states * (h - 1)) × First (Unlowered O.at_most M₁.states M₂.states (roundOf O M₁ M₂ G)) t → (T : ℕ) × (T ≤ M₁.states * M₂.states * (h - 1) + 1) × FirstUnchangedOf O M₁ M₂ G T
+          go : (t : ℕ) × (t ≤ M₁.states * M₂.states * (h - 1)) × First (Unlowered O.at_most M₁.states M₂.states (round_of O M₁ M₂ G)) t → (T : ℕ) × (T ≤ M₁.states * M₂.states * (h - 1) + 1) × FirstUnchangedOf O M₁ M₂ G T
           go w = (
             suc w.0,
             omega (arith, w.1),
@@ -128,11 +129,11 @@ module _ {A : Type 0} {O : Ops A} (L : Laws O) (M₁ M₂ : Model A) where
             },
           )
             where
-              earlier : (t : ℕ) → 0 < t → t < suc w.0 → SameTable O M₁ M₂ (roundOf O M₁ M₂ G t) (roundOf O M₁ M₂ G (t - 1)) → ⊥
+              earlier : (t : ℕ) → 0 < t → t < suc w.0 → SameTable O M₁ M₂ (round_of O M₁ M₂ G t) (round_of O M₁ M₂ G (t - 1)) → ⊥
               earlier zero p l s = not-suc-le-zero p
               earlier (suc t) p l s =
                   w.2.earlier t (omega arith)
-                  (λ q₁ k q₂ m. subst (λ (n : ℕ). AtMost O (roundOf O M₁ M₂ G n q₁ q₂) (roundOf O M₁ M₂ G (suc t) q₁ q₂)) (sub-one (suc t)) (rw (← s q₁ k q₂ m) (L.rfl _)))
+                  (λ q₁ k q₂ m. subst (λ (n : ℕ). AtMost O (round_of O M₁ M₂ G n q₁ q₂) (round_of O M₁ M₂ G (suc t) q₁ q₂)) (sub-one (suc t)) (rw (← s q₁ k q₂ m) (L.rfl _)))
 
       -- and so with n for h
       pub exists-T-size : (T : ℕ) × (T ≤ M₁.states * M₂.states * (O.size - 1) + 1) × FirstUnchangedOf O M₁ M₂ G T
@@ -150,17 +151,17 @@ module _ {A : Type 0} {O : Ops A} (L : Laws O) (M₁ M₂ : Model A) where
             let w = exists-T-size in
             λ q₁ l q₂ m. L.trans (below-every S h w.0 q₁ l q₂ m) (g.greatest _ (fixed-at-T O M₁ M₂ G cong w.0 w.2) q₁ l q₂ m)
 
-        pub unlowered-exactly : (T : ℕ) → FirstUnchangedOf O M₁ M₂ G T → (r : ℕ) → PostFixedBy O M₁ M₂ G (roundOf O M₁ M₂ G r) ↔ (T ≤ r + 1)
-        unfolding roundOf
+        pub unlowered-exactly : (T : ℕ) → FirstUnchangedOf O M₁ M₂ G T → (r : ℕ) → PostFixedBy O M₁ M₂ G (round_of O M₁ M₂ G r) ↔ (T ≤ r + 1)
+        unfolding round_of
         unlowered-exactly T f r = (late, late-enough)
           where
-            late : PostFixedBy O M₁ M₂ G (roundOf O M₁ M₂ G r) → T ≤ r + 1
+            late : PostFixedBy O M₁ M₂ G (round_of O M₁ M₂ G r) → T ≤ r + 1
             late h = let x : ¬ (suc r < T) = λ l. f.least (suc r) (omega arith) l (unlowered-same r h) in omega arith
 
-            late-enough : T ≤ r + 1 → PostFixedBy O M₁ M₂ G (roundOf O M₁ M₂ G r)
+            late-enough : T ≤ r + 1 → PostFixedBy O M₁ M₂ G (round_of O M₁ M₂ G r)
             late-enough l q₁ k q₂ m = rw (same q₁ k q₂ m) (L.rfl _)
               where
-                same : SameTable O M₁ M₂ (roundOf O M₁ M₂ G (suc r)) (roundOf O M₁ M₂ G r)
+                same : SameTable O M₁ M₂ (round_of O M₁ M₂ G (suc r)) (round_of O M₁ M₂ G r)
                 same =
                     ⊎_elim
                     (λ (e : T ≡ suc r). let z : T - 1 ≡ r = omega arith in rw (z, e) at f.unchanged)
