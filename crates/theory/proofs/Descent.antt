@@ -2,7 +2,7 @@
 -- The general part of theorem 4. Rests on Lattice, Simulation (lowerings), Test, Finite, Lowerings.
 --   lowerings-le: a descending sequence of m by n tables lowers at most m * n * (h - 1) entries
 --   first-unlowered: so there is a first step that lowers none
-use Prim.Native.Nat.{ℕ, zero, suc, ◌+◌, ◌*◌, ◌-◌, ◌≤◌, ◌<◌, zero-le}
+use Prim.Native.Nat.{ℕ, zero, suc, ◌+◌, ◌*◌, ◌≤◌, ◌<◌, zero-le}
 use Rattle.std.specs.Prelude.{◌≡◌, Bool, not, ◌⊎◌, length}
 use Rattle.std.proofs.Math.Path.{refl}
 use Rattle.std.proofs.Math.Bool.{true, false}
@@ -15,9 +15,9 @@ use Rattle.theory.specs.Lattice.{Ops, Laws, AtMost, Chain, All, Pairwise}
 use Rattle.theory.specs.Simulation.{indicator, count, lowerings}
 use Rattle.theory.specs.TestLaws.{decide, false_true}
 use Rattle.theory.specs.Finite.{sum_le, scan, First, first_exists, pairwise_map, all_image, pairwise_under}
-use Rattle.theory.specs.Lowerings.{Passes, lowered, lowerings-entries, lowerings-more, differing_some}
+use Rattle.theory.specs.Lowerings.{lowered, lowerings-entries, lowerings-more, differing_some}
 pub use Rattle.theory.specs.Finite.{all_map}
-use Rattle.theory.specs.Descent.{steps, Preorder, Apart, Unlowered, downwards, upwards}
+use Rattle.theory.specs.Descent.{steps, Preorder, Apart, Unlowered}
 
 -- ---- a chain of h elements has h − 1 steps from one of them to the next
 

@@ -2,7 +2,7 @@
 -- Rests on Examples, Test, Descent, Height, Monotone.
 --   examples_hold: every worked example holds
 --   limit_met: T is N1·N2·(h − 1) + 1 in example 2
-use Rattle.std.specs.Prelude.{ℕ, zero, suc, ◌+◌, ◌*◌, ◌-◌, ◌<◌, ◌≡◌, refl, Bool, true, not, ◌&&◌, [], ◌∷◌, ltb, eqb}
+use Rattle.std.specs.Prelude.{ℕ, zero, suc, ◌+◌, ◌*◌, ◌-◌, ◌<◌, ◌≡◌, refl, true, not, [], ◌∷◌, ltb}
 use Rattle.std.proofs.Common.{inl, arith, lit≤}
 use borrow.Author.Tests.{ltb-true, lt-ltb, eqb-true, eq-eqb, not-true}
 use Rattle.theory.specs.Lattice.{Ops, All, LongestChain, imp, iff, big_meet, big_join}

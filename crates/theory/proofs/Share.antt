@@ -3,7 +3,7 @@
 --   per_cent_nearest_even, share_nearest_even, per_cent_most, share_most: per_cent and share are that, and at most 100
 --   goes_up_is, per_cent_up, per_cent_down: goes_up and per_cent by one comparison
 --   share_cong: share reads no more than the entries that it counts
-use Rattle.std.specs.Prelude.{ℕ, zero, suc, ◌+◌, ◌*◌, ◌-◌, ◌/◌, ◌%◌, ◌<◌, ◌≤◌, ◌≡◌, Bool, true, false, ◌&&◌, ◌||◌, ◌↔◌, ◌⊎◌, ltb, eqb}
+use Rattle.std.specs.Prelude.{ℕ, zero, suc, ◌+◌, ◌*◌, ◌/◌, ◌%◌, ◌<◌, ◌≤◌, ◌≡◌, Bool, true, false, ◌&&◌, ◌||◌, ◌↔◌, ◌⊎◌, ltb, eqb}
 use Rattle.std.proofs.Math.Path.{refl, sym, ap}
 use Rattle.std.proofs.Common.{◌∙◌, inl, inr, add-zero, le_refl, suc-mul, add-mul, mul_comm, mul_assoc, mul_left_comm, mul-le-mul_right, mod-lt, arith}
 use Rattle.std.proofs.Math.Nat.{div-add-mod, div-eq_of_lt-le}
@@ -12,8 +12,6 @@ use Rattle.theory.specs.Lattice.{Ops}
 use Rattle.theory.specs.Simulation.{indicator, count, goes_up, per_cent, share}
 use Rattle.theory.specs.Loop.{count_most, count_cong}
 use Rattle.theory.specs.Share.{distance, Nearest, NearestEven, halves_up}
-
-
 
 -- ---- one comparison
 

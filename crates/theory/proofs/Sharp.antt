@@ -11,7 +11,7 @@ use Rattle.std.proofs.lemmas.List.{length-map}
 use Rattle.theory.specs.Lattice.{Ops, Laws, AtMost, Element, Pairwise, imp, iff, big_meet, big_join}
 use Rattle.theory.specs.Model.{Model}
 use Rattle.theory.specs.Value.{all_next, some_next}
-use Rattle.theory.specs.Simulation.{proposition_part, successor_part, F, round_of, AllPairs, SameTable, AtMostTable, FirstUnchangedOf, FirstUnchanged, indicator}
+use Rattle.theory.specs.Simulation.{proposition_part, successor_part, F, round_of, SameTable, AtMostTable, FirstUnchangedOf, FirstUnchanged, indicator}
 use Rattle.theory.specs.Test.{◌⇒◌, all_below, first_below}
 use Rattle.theory.specs.TestLaws.{⇒-in, ⇒-elim}
 use Rattle.theory.specs.Part.{is_meet, is_join, meet_of, join_of, top_of, bot_of, element, ops_of, explicit_part, model_of}

@@ -4,20 +4,11 @@
 --   Preorder: a decided preorder; downwards, upwards: those of a lattice
 --   Apart: in order, and not both ways; apart-most, apart-most-up: no list of values apart is longer than a chain
 --   Unlowered: a step that lowers no entry
-use Prim.Native.Nat.{ℕ, zero, suc, ◌+◌, ◌*◌, ◌-◌, ◌≤◌, ◌<◌, zero-le}
-use Rattle.std.specs.Prelude.{◌≡◌, Bool, not, ◌⊎◌, length}
-use Rattle.std.proofs.Math.Path.{refl}
-use Rattle.std.proofs.Math.Bool.{true, false}
-use Rattle.std.proofs.Common.{inl, inr, le_refl, le_trans, mul_assoc}
-use Rattle.std.proofs.Math.Logic.{⊎_swap, ⊎_map}
-use mathlib.Core.List.{List, [], ◌∷◌, map}
-use native.Mathlib.Omega.{arith}
-use Rattle.std.proofs.lemmas.List.{length-map}
-use Rattle.theory.specs.Lattice.{Ops, Laws, AtMost, Chain, All, Pairwise}
-use Rattle.theory.specs.Simulation.{indicator, count, lowerings}
-use Rattle.theory.specs.TestLaws.{decide, false_true}
-use Rattle.theory.specs.Finite.{sum_le, scan, First, first_exists, pairwise_map, all_image, pairwise_under}
-use Rattle.theory.specs.Lowerings.{Passes, lowered, lowerings-entries, lowerings-more, differing_some}
+use Prim.Native.Nat.{ℕ, suc, ◌-◌}
+use Rattle.std.specs.Prelude.{◌≡◌, Bool, ◌⊎◌}
+use Rattle.std.proofs.Math.Bool.{true}
+use Rattle.theory.specs.Lattice.{Ops, Laws}
+use Rattle.theory.specs.Lowerings.{Passes}
 
 abbrev pub steps : ℕ → ℕ
 steps h = h - 1

@@ -1,13 +1,7 @@
 -- Join-irreducible elements. Rests on Lattice, TestLaws, Finite.
 --   JoinIrreducible: the definition, which a reader of Sharp's theorem on any operator must believe (T_sharp itself does not speak of them)
-use Prim.Native.Nat.{ℕ, zero, suc, ◌+◌, ◌<◌}
-use Rattle.std.specs.Prelude.{◌≡◌, ◌⊎◌, ◌≢◌, List, [], ◌∷◌, length}
-use Rattle.std.proofs.Common.{sym, ◌∙◌, inl, inr, arith}
-use Rattle.std.proofs.Math.Logic.{⊎_elim}
-use Rattle.std.proofs.Math.Nat.{le_refl}
-use Rattle.theory.specs.Lattice.{Ops, Laws, AtMost, Element, All, Pairwise, big_join}
-use Rattle.theory.specs.TestLaws.{decide}
-use Rattle.theory.specs.Finite.{all_map}
+use Rattle.std.specs.Prelude.{◌≢◌}
+use Rattle.theory.specs.Lattice.{Ops, Element}
 
 -- request 108: 'a join-irreducible element l, that is, one that isn't bottom and is no join of two elements both unlike it'
 pub record JoinIrreducible {A : Type 0} (O : Ops A) (l : A) : Type 0 where

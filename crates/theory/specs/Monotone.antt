@@ -1,17 +1,10 @@
 -- Theorem 2, its first part: a value reads maps and environments only at the states and the variables in scope, and is monotone in them.
 -- Rests on Value, Folds.
 --   SameEnv, AtMostEnv: environments that agree, or are in order; bind_mono: with one more variable
-use Prim.Native.Nat.{ℕ, zero, suc, ◌≤◌, ◌<◌}
-use Rattle.std.specs.Prelude.{◌≡◌, true, List, length}
-use Rattle.std.proofs.Math.Path.{refl, ap₂}
-use Rattle.std.proofs.Common.{◌∙◌, arith, ltb-true}
-use Rattle.std.proofs.Math.Decide.{le_ind}
-use Rattle.theory.specs.Lattice.{Ops, Laws, AtMost, Chain}
+use Prim.Native.Nat.{ℕ, ◌<◌}
+use Rattle.theory.specs.Lattice.{Ops, Laws}
 use Rattle.theory.specs.Model.{Model}
-use Rattle.theory.specs.Formula.{Formula, bottom, top, prop, negated, var, or, and, AX, EX, mu, nu, closed_under}
-use Rattle.theory.specs.Value.{iterate, bind, all_next, some_next, eval, SameMap, AtMostMap}
-use Rattle.theory.specs.Folds.{meet_mono, join_mono, imp_mono, big_meet_mono, big_join_mono, big_meet_cong, big_join_cong}
-use Rattle.theory.specs.TestLaws.{and_l, and_r}
+use Rattle.theory.specs.Value.{SameMap, AtMostMap}
 
 module _ {A : Type 0} (O : Ops A) (M : Model A) where
   -- two environments agree at the variables below d

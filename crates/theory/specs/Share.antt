@@ -3,14 +3,7 @@
 --   distance, Nearest: no whole number of per cent is nearer to c of t; nearest-exactly: twice its distance is at most one per cent
 --   NearestEven: a nearest one, and the even one where two are; nearest-even-unique: there is no other
 --   halves_up: the rule of document 01 that request 101 replaces; per_cent_as_before: it gives the same where no half is exact
-use Rattle.std.specs.Prelude.{ℕ, zero, suc, ◌+◌, ◌*◌, ◌-◌, ◌/◌, ◌%◌, ◌<◌, ◌≤◌, ◌≡◌, Bool, true, false, ◌&&◌, ◌||◌, ◌↔◌, ◌⊎◌, ltb, eqb}
-use Rattle.std.proofs.Math.Path.{refl, sym, ap}
-use Rattle.std.proofs.Common.{◌∙◌, inl, inr, add-zero, le_refl, suc-mul, add-mul, mul_comm, mul_assoc, mul_left_comm, mul-le-mul_right, mod-lt, arith}
-use Rattle.std.proofs.Math.Nat.{div-add-mod, div-eq_of_lt-le}
-use borrow.Author.Tests.{ltb-true, ltb-false, lt-ltb, le-ltb, eqb-true, eqb-false}
-use Rattle.theory.specs.Lattice.{Ops}
-use Rattle.theory.specs.Simulation.{indicator, count, goes_up, per_cent, share}
-use Rattle.theory.specs.Loop.{count_most, count_cong}
+use Rattle.std.specs.Prelude.{ℕ, ◌+◌, ◌*◌, ◌-◌, ◌/◌, ◌%◌, ◌≤◌, ◌≡◌}
 
 module _ (c t : ℕ) where
   -- how far p per cent is from it, in parts of which t are one per cent: |100 c − p t|

@@ -2,25 +2,11 @@
 -- only on which entries of round r it is at or below, and each round has these among the ones before. For F, and for any operator like it.
 -- Rests on Irreducible, Simulation, Descent, Height, Rounds; that the limit is attained, on Examples.
 --   Preserves, PreservesTable, OperatorPreserves: l at or below an entry of one table is at or below that of another, and an operator that preserves this
-use Rattle.std.specs.Prelude.{ℕ, suc, ◌+◌, ◌*◌, ◌-◌, ◌≤◌, ◌<◌, ◌≡◌, refl, Bool, true, false, List, map, length}
-use Rattle.std.proofs.Common.{sym, subst, ⊎_elim, sub-one, arith}
-use Rattle.std.proofs.Math.Nat.{mul-one}
-use Rattle.std.proofs.Math.Decide.{le_ind}
-use Rattle.std.proofs.lemmas.List.{length-map}
-use Rattle.theory.specs.Lattice.{Ops, Laws, AtMost, Element, Pairwise, imp, iff, big_meet, big_join}
+use Rattle.std.specs.Prelude.{ℕ}
+use Rattle.theory.specs.Lattice.{Ops, AtMost}
 use Rattle.theory.specs.Model.{Model}
-use Rattle.theory.specs.Value.{all_next, some_next}
-use Rattle.theory.specs.Simulation.{proposition_part, successor_part, F, round_of, AllPairs, SameTable, AtMostTable, FirstUnchangedOf, FirstUnchanged, indicator}
-use Rattle.theory.specs.Test.{◌⇒◌, all_below, first_below}
-use Rattle.theory.specs.TestLaws.{⇒-in, ⇒-elim}
-use Rattle.theory.specs.Part.{is_meet, is_join, meet_of, join_of, top_of, bot_of, element, ops_of, explicit_part, model_of}
-use Rattle.theory.specs.Folds.{big_meet_le, big_meet_glb, big_join_ge}
-use Rattle.theory.specs.Finite.{First, all_image, pairwise_under}
-use Rattle.theory.specs.Descent.{Preorder, Apart, Unlowered}
-use Rattle.theory.specs.Height.{distinct_le}
+use Rattle.theory.specs.Simulation.{AllPairs}
 use Rattle.theory.specs.Irreducible.{JoinIrreducible}
-use Rattle.theory.specs.Examples.{L2, loop2, still2}
-use Rattle.theory.specs.ExamplesHold.{unchanged_test}
 
 -- if l is at or below a, it is at or below b
 abbrev pub Preserves : {A : Type 0} → Ops A → A → A → A → Type 0
