@@ -9,7 +9,7 @@ use Rattle.desk.specs.Case.{IsT}
 use Rattle.desk.specs.Perform.{After}
 use Rattle.desk.specs.Run.{run, replies, LastOpening, answers_since}
 use Rattle.desk.specs.Demand3.{Claim}
-use Rattle.desk.specs.Demand3Holds.{listed}
+use Rattle.desk.proofs.Demand3Holds.{listed}
 use Rattle.desk_check.specs.Answer.{DoesWith}
 
 -- a call, with its reply, the desk that it leaves, and what it leaves in the buffers that it is lent

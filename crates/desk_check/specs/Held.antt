@@ -23,8 +23,10 @@ use Rattle.desk.specs.Case.{table_size}
 use Rattle.desk.specs.View.{View, view_of}
 use Rattle.desk.specs.Refused.{short, table_obeys, rules_obeyed, obeys_for, spoiled, conditions, first_refusal, after_rules, of_store, examined, refused_reply, number_reply}
 use Rattle.desk.specs.Perform.{answer_to, answer, moved, lent_after}
-use Rattle.desk.specs.RefusedLaws.{Unspoiled, is_short, is_spoiled, in_store, outcome, Outcome, too_short_lem, broken, outside, inside, other_accepted, perform_refused, perform_accepted}
-use Rattle.desk.specs.RulesLaws.{Long, long-enough, rules_out}
+use Rattle.desk.specs.RefusedLaws.{Unspoiled, Outcome, too_short_lem, broken, outside, inside}
+use Rattle.desk.proofs.RefusedLaws.{is_short, is_spoiled, in_store, outcome, other_accepted, perform_refused, perform_accepted}
+use Rattle.desk.specs.RulesLaws.{Long}
+use Rattle.desk.proofs.RulesLaws.{long-enough, rules_out}
 use Rattle.desk_check.specs.declared.Examined.{Examined}
 use Rattle.desk_check.specs.declared.Examined.TheVariants.{Refused, Held}
 use Rattle.desk_check.specs.Answer.{examined_answer, DeskExamined, Does, DoesWith}

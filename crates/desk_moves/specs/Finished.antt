@@ -16,7 +16,8 @@ use Rattle.desk.specs.Refused.{examined, number_reply}
 use Rattle.desk.specs.Moved.{next_round, step_answer}
 use Rattle.desk.specs.Perform.{After}
 use Rattle.desk.specs.RoundLeft.{left_in, steps_left, Finishes}
-use Rattle.desk.specs.RoundLeftLaws.{one_finished, rest-finished, ended_from, ended}
+use Rattle.desk.specs.RoundLeftLaws.{ended_from, ended}
+use Rattle.desk.proofs.RoundLeftLaws.{one_finished, rest-finished}
 use Rattle.desk_check.specs.declared.Examined.{Examined}
 use Rattle.desk_check.specs.declared.Examined.TheVariants.{Refused}
 use Rattle.desk_check.specs.Answer.{examined_answer, DeskExamined}

@@ -20,7 +20,7 @@ use Rattle.desk.specs.Desk.{Desk, Standing, Call, Reply}
 use Rattle.desk.specs.Refused.{short, number_reply}
 use Rattle.desk.specs.Moved.{opened}
 use Rattle.desk.specs.Perform.{After, answer, moved, lent_after}
-use Rattle.desk.specs.RefusedLaws.{is_short, open_long, perform_refused, perform_accepted}
+use Rattle.desk.proofs.RefusedLaws.{is_short, open_long, perform_refused, perform_accepted}
 use Rattle.desk_check.specs.Answer.{Does}
 
 -- ---- filling a table

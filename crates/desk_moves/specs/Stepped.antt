@@ -22,7 +22,7 @@ use Rattle.desk.specs.Case.{lattice_size, model1, model2, N1, N2, operator, tabl
 use Rattle.desk.specs.View.{shown_table}
 use Rattle.desk.specs.Moved.{row_worked, changed_now, lowered_now, moved_on, worked, stepped, step_answer}
 use Rattle.desk.specs.Perform.{After, answer, moved, lent_after}
-use Rattle.desk.specs.RefusedLaws.{in_store, perform_accepted}
+use Rattle.desk.proofs.RefusedLaws.{in_store, perform_accepted}
 use Rattle.desk_check.specs.Answer.{Does}
 use Rattle.desk_check.specs.Held.{HeldDesk}
 

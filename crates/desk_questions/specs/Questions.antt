@@ -26,7 +26,8 @@ use Rattle.share.specs.ShareIn.{share_in, share_in_is}
 use Rattle.desk.specs.Desk.{Desk, Question, Call, Reply, whole_table}
 use Rattle.desk.specs.Case.{ops, lattice_size, model1, model2, N1, N2, table_size, model_in, formula_in, operator, entry_at}
 use Rattle.desk.specs.View.{shown_table}
-use Rattle.desk.specs.CaseParts.{FormulaOnModel, model_part, model_valued, formula_part, parts_formula_on_model}
+use Rattle.desk.specs.CaseParts.{FormulaOnModel}
+use Rattle.desk.proofs.CaseParts.{model_part, model_valued, formula_part, parts_formula_on_model}
 use Rattle.elements.specs.declared.Lattice.{Lattice}
 use Rattle.elements.specs.Words.{Coded}
 use Rattle.desk.specs.Refused.{table_obeys, is_model, number_reply}

@@ -18,8 +18,9 @@ use Rattle.desk.specs.Desk.{Desk, Call, Reply, whole_table}
 use Rattle.desk.specs.Case.{table_size}
 use Rattle.desk.specs.Refused.{examined, accepted}
 use Rattle.desk.specs.Perform.{After, answer, moved, lent_after}
-use Rattle.desk.specs.RefusedLaws.{Unspoiled, perform_refused, perform_accepted, other_accepted, accepted_content, refused_refusal}
-use Rattle.desk.specs.RulesLaws.{long-enough}
+use Rattle.desk.specs.RefusedLaws.{Unspoiled}
+use Rattle.desk.proofs.RefusedLaws.{perform_refused, perform_accepted, other_accepted, accepted_content, refused_refusal}
+use Rattle.desk.proofs.RulesLaws.{long-enough}
 use Rattle.exports.specs.declared.Answer.{Answer}
 use Rattle.exports.specs.declared.Shown.{Shown}
 use Rattle.exports.specs.declared.DeskSizes.{DeskSizes}

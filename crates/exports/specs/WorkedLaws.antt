@@ -16,7 +16,7 @@ use Rattle.entries.specs.Table.{table_of, EntryIs}
 use Rattle.desk.specs.Desk.{Desk, Call, whole_table}
 use Rattle.desk.specs.Case.{N1, N2}
 use Rattle.desk.specs.Refused.{examined}
-use Rattle.desk.specs.RefusedLaws.{in_store}
+use Rattle.desk.proofs.RefusedLaws.{in_store}
 use Rattle.desk_check.specs.declared.Examined.{Examined}
 use Rattle.desk_check.specs.declared.Examined.TheVariants.{Refused}
 use Rattle.desk_check.specs.Answer.{examined_answer, DeskExamined}

@@ -20,7 +20,8 @@ use Rattle.casefile.specs.Directory.{part_at}
 use Rattle.casefile.specs.Reading.{Content, refused, content, case_reading}
 use Rattle.casefile.specs.Caller.{AcceptedCase}
 use Rattle.valuer.specs.Values.{ModelOver, WholeValue}
-use Rattle.desk.specs.CaseParts.{FormulaOnModel, model_part, model_valued, formula_part, parts_formula_on_model}
+use Rattle.desk.specs.CaseParts.{FormulaOnModel}
+use Rattle.desk.proofs.CaseParts.{model_part, model_valued, formula_part, parts_formula_on_model}
 use Rattle.desk.specs.Refused.{is_model}
 use Rattle.desk.specs.Case.{ops, model1, model2, model_in, formula_in, round_in}
 use Rattle.listing.specs.Text.{each, formula_line, formulas_text, table_text, refused_text, settled_round, accepted_text, listing_text, Lists}

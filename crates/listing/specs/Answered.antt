@@ -16,11 +16,11 @@ use Rattle.desk.specs.Desk.{Desk, Question, Call, Reply}
 use Rattle.desk.specs.Case.{ops, model1, model2, N1, N2, model_in, formula_in, round_in, table_bytes, IsT}
 use Rattle.desk.specs.Perform.{asked, show_answer}
 use Rattle.desk.specs.Run.{run, LastOpening, answers_since, round_after}
-use Rattle.desk.specs.RefusedLaws.{open_accepted}
-use Rattle.desk.specs.ViewLaws.{bytes_table}
-use Rattle.desk.specs.Listed.{opening_T}
+use Rattle.desk.proofs.RefusedLaws.{open_accepted}
+use Rattle.desk.proofs.ViewLaws.{bytes_table}
+use Rattle.desk.proofs.Listed.{opening_T}
 use Rattle.desk.specs.Demand3.{Claim}
-use Rattle.desk.specs.Demand3Holds.{same_shown, listed, ranges, whole_next, score_next}
+use Rattle.desk.proofs.Demand3Holds.{same_shown, listed, ranges, whole_next, score_next}
 use Rattle.listing.specs.Text.{rounds_label, score_label, last_item, each, rows_text, table_text, formula_text, formula_line, formulas_text, accepted_text, listing_text}
 use Rattle.listing.specs.Writing.{each_cong}
 use Rattle.listing.specs.Entries.{rows_cong}

@@ -24,11 +24,11 @@ use Rattle.theory.specs.ExamplesHold.{unchanged_test}
 -- ---- T by a test that is computed
 
 module _ (O : Ops ℕ) (M₁ M₂ : Model ℕ) where
-  passed : (t : ℕ) → 0 < t → SameTable O M₁ M₂ (round O M₁ M₂ t) (round O M₁ M₂ (t - 1)) → (unchanged_test O M₁ M₂) t ≡ true
+  passed : (t : ℕ) → 0 < t → SameTable O M₁ M₂ (round O M₁ M₂ t) (round O M₁ M₂ (t - 1)) → unchanged_test O M₁ M₂ t ≡ true
   unfolding unchanged_test
   passed t p s = and_in _ _ (lt-ltb 0 t p) (all_in _ _ (λ q₁ l. all_in _ _ (λ q₂ m. eq-eqb _ _ (s q₁ l q₂ m))))
 
-  pub settles_by_test : (T : ℕ) → (unchanged_test O M₁ M₂) T ≡ true → all_below T (λ t. not ((unchanged_test O M₁ M₂) t)) ≡ true → FirstUnchanged O M₁ M₂ T
+  pub settles_by_test : (T : ℕ) → unchanged_test O M₁ M₂ T ≡ true → all_below T (λ t. not (unchanged_test O M₁ M₂ t)) ≡ true → FirstUnchanged O M₁ M₂ T
   unfolding unchanged_test
   settles_by_test T e w =
       record {

@@ -28,37 +28,37 @@ use Rattle.theory.specs.Fixpoint.{body}
 module _ {A : Type 0} {O : Ops A} (L : Laws O) (M : Model A) where
   -- ---- the value of a least fixpoint: the body sends it to itself, and whatever the body does not raise lies above it
 
-  pub mu_falls : (K : ℕ) → enough O M ≤ K → (f : Formula) (e : ℕ → ℕ → A) → AtMostMap O M ((body L M) K f e (eval O M K (mu f) e)) (eval O M K (mu f) e)
+  pub mu_falls : (K : ℕ) → enough O M ≤ K → (f : Formula) (e : ℕ → ℕ → A) → AtMostMap O M (body L M K f e (eval O M K (mu f) e)) (eval O M K (mu f) e)
   unfolding eval
   mu_falls K w f e =
-      iterate_fixed (upwards L) M.states O.bot L.bot_min ((body L M) K f e) (λ x y. body_mono L M K f e y x) O.size
-      (first-unlowered (upwards L) O.size (apart-most-up L O.size (chain-size L)) M.states 1 _ (steps-down (upwards L) M.states O.bot L.bot_min ((body L M) K f e) (λ x y. body_mono L M K f e y x)))
+      iterate_fixed (upwards L) M.states O.bot L.bot_min (body L M K f e) (λ x y. body_mono L M K f e y x) O.size
+      (first-unlowered (upwards L) O.size (apart-most-up L O.size (chain-size L)) M.states 1 _ (steps-down (upwards L) M.states O.bot L.bot_min (body L M K f e) (λ x y. body_mono L M K f e y x)))
       K w
 
-  pub mu_rises : (K : ℕ) (f : Formula) (e : ℕ → ℕ → A) → AtMostMap O M (eval O M K (mu f) e) ((body L M) K f e (eval O M K (mu f) e))
+  pub mu_rises : (K : ℕ) (f : Formula) (e : ℕ → ℕ → A) → AtMostMap O M (eval O M K (mu f) e) (body L M K f e (eval O M K (mu f) e))
   unfolding eval
-  mu_rises K f e = iterate-falls (upwards L) M.states O.bot L.bot_min ((body L M) K f e) (λ x y. body_mono L M K f e y x) K
+  mu_rises K f e = iterate-falls (upwards L) M.states O.bot L.bot_min (body L M K f e) (λ x y. body_mono L M K f e y x) K
 
-  pub mu_le : (K : ℕ) (f : Formula) (e : ℕ → ℕ → A) (y : ℕ → A) → AtMostMap O M ((body L M) K f e y) y → AtMostMap O M (eval O M K (mu f) e) y
+  pub mu_le : (K : ℕ) (f : Formula) (e : ℕ → ℕ → A) (y : ℕ → A) → AtMostMap O M (body L M K f e y) y → AtMostMap O M (eval O M K (mu f) e) y
   unfolding eval
-  mu_le K f e y w = iterate-greatest (upwards L) M.states O.bot L.bot_min ((body L M) K f e) (λ x y. body_mono L M K f e y x) y w K
+  mu_le K f e y w = iterate-greatest (upwards L) M.states O.bot L.bot_min (body L M K f e) (λ x y. body_mono L M K f e y x) y w K
 
   -- ---- the value of a greatest fixpoint: likewise
 
-  pub nu_rises : (K : ℕ) → enough O M ≤ K → (f : Formula) (e : ℕ → ℕ → A) → AtMostMap O M (eval O M K (nu f) e) ((body L M) K f e (eval O M K (nu f) e))
+  pub nu_rises : (K : ℕ) → enough O M ≤ K → (f : Formula) (e : ℕ → ℕ → A) → AtMostMap O M (eval O M K (nu f) e) (body L M K f e (eval O M K (nu f) e))
   unfolding eval
   nu_rises K w f e =
-      iterate_fixed (downwards L) M.states O.top L.top_max ((body L M) K f e) (body_mono L M K f e) O.size
-      (first-unlowered (downwards L) O.size (apart-most L O.size (chain-size L)) M.states 1 _ (steps-down (downwards L) M.states O.top L.top_max ((body L M) K f e) (body_mono L M K f e)))
+      iterate_fixed (downwards L) M.states O.top L.top_max (body L M K f e) (body_mono L M K f e) O.size
+      (first-unlowered (downwards L) O.size (apart-most L O.size (chain-size L)) M.states 1 _ (steps-down (downwards L) M.states O.top L.top_max (body L M K f e) (body_mono L M K f e)))
       K w
 
-  pub nu_falls : (K : ℕ) (f : Formula) (e : ℕ → ℕ → A) → AtMostMap O M ((body L M) K f e (eval O M K (nu f) e)) (eval O M K (nu f) e)
+  pub nu_falls : (K : ℕ) (f : Formula) (e : ℕ → ℕ → A) → AtMostMap O M (body L M K f e (eval O M K (nu f) e)) (eval O M K (nu f) e)
   unfolding eval
-  nu_falls K f e = iterate-falls (downwards L) M.states O.top L.top_max ((body L M) K f e) (body_mono L M K f e) K
+  nu_falls K f e = iterate-falls (downwards L) M.states O.top L.top_max (body L M K f e) (body_mono L M K f e) K
 
-  pub nu_ge : (K : ℕ) (f : Formula) (e : ℕ → ℕ → A) (y : ℕ → A) → AtMostMap O M y ((body L M) K f e y) → AtMostMap O M y (eval O M K (nu f) e)
+  pub nu_ge : (K : ℕ) (f : Formula) (e : ℕ → ℕ → A) (y : ℕ → A) → AtMostMap O M y (body L M K f e y) → AtMostMap O M y (eval O M K (nu f) e)
   unfolding eval
-  nu_ge K f e y w = iterate-greatest (downwards L) M.states O.top L.top_max ((body L M) K f e) (body_mono L M K f e) y w K
+  nu_ge K f e y w = iterate-greatest (downwards L) M.states O.top L.top_max (body L M K f e) (body_mono L M K f e) y w K
 
   -- ---- the count of applications does not matter, where it is enough; J and K may come from models of different sizes
 
@@ -107,11 +107,11 @@ module _ {A : Type 0} {O : Ops A} (L : Laws O) (M : Model A) where
       values : (φ : Formula) → closed_under d φ ≡ true → over_props M.propositions φ ≡ true → ToElements O M (eval O M K φ e)
       values φ c p = eval-element K d φ c p e h
 
-      inside : (x : ℕ → A) → ToElements O M x → ToElements O M ((body L M) K f e x)
+      inside : (x : ℕ → A) → ToElements O M x → ToElements O M (body L M K f e x)
       inside x v = eval-element K (suc d) f b o _ (bind-element d e x v h)
 
       -- the value of a least fixpoint; that it lies at or below every prefixed map, too, is mu-le
-      pub least-fixpoint : LeastFixpoint O M ((body L M) K f e) (eval O M K (mu f) e)
+      pub least-fixpoint : LeastFixpoint O M (body L M K f e) (eval O M K (mu f) e)
       unfolding closed_under over_props
       least-fixpoint =
           record {
@@ -121,7 +121,7 @@ module _ {A : Type 0} {O : Ops A} (L : Laws O) (M : Model A) where
           }
 
       -- and of a greatest; for postfixed maps: nu-ge
-      pub greatest-fixpoint : GreatestFixpoint O M ((body L M) K f e) (eval O M K (nu f) e)
+      pub greatest-fixpoint : GreatestFixpoint O M (body L M K f e) (eval O M K (nu f) e)
       unfolding closed_under over_props
       greatest-fixpoint =
           record {

@@ -28,7 +28,7 @@ module _ {A : Type 0} (O : Ops A) (M : Model A) where
   unfolding some_next
   some_next_cong f g h q = big_join_cong O M.states _ _ (λ r l. rw (h r l))
 
-  bind_cong : (d : ℕ) (e e' : ℕ → ℕ → A) (x y : ℕ → A) → SameMap O M x y → (SameEnv O M) d e e' → (SameEnv O M) (suc d) (bind x e) (bind y e')
+  bind_cong : (d : ℕ) (e e' : ℕ → ℕ → A) (x y : ℕ → A) → SameMap O M x y → SameEnv O M d e e' → SameEnv O M (suc d) (bind x e) (bind y e')
   unfolding bind
   bind_cong d e e' x y b h zero l = b
   bind_cong d e e' x y b h (suc v) l = h v (omega arith)
@@ -38,7 +38,7 @@ module _ {A : Type 0} (O : Ops A) (M : Model A) where
   iterate_cong g g' h x zero q l = refl
   iterate_cong g g' h x (suc t) q l = h _ _ (iterate_cong g g' h x t) q l
 
-  pub eval_cong : (K d : ℕ) (φ : Formula) → closed_under d φ ≡ true → (e e' : ℕ → ℕ → A) → (SameEnv O M) d e e' → SameMap O M (eval O M K φ e) (eval O M K φ e')
+  pub eval_cong : (K d : ℕ) (φ : Formula) → closed_under d φ ≡ true → (e e' : ℕ → ℕ → A) → SameEnv O M d e e' → SameMap O M (eval O M K φ e) (eval O M K φ e')
   unfolding eval closed_under
   eval_cong K d bottom b e e' h q l = refl
   eval_cong K d top b e e' h q l = refl
@@ -75,7 +75,7 @@ module _ {A : Type 0} {O : Ops A} (L : Laws O) where
   some_next_mono M h q = big_join_mono L M.states (λ r l. meet_mono L (L.rfl _) (h r l))
 
 module _ {A : Type 0} {O : Ops A} (L : Laws O) (M : Model A) where
-  pub bind_mono : (e d : ℕ → ℕ → A) (x y : ℕ → A) → AtMostMap O M x y → (AtMostEnv L M) e d → (AtMostEnv L M) (bind x e) (bind y d)
+  pub bind_mono : (e d : ℕ → ℕ → A) (x y : ℕ → A) → AtMostMap O M x y → AtMostEnv L M e d → AtMostEnv L M (bind x e) (bind y d)
   unfolding bind
   bind_mono e d x y b h zero = b
   bind_mono e d x y b h (suc v) = h v
@@ -87,7 +87,7 @@ module _ {A : Type 0} {O : Ops A} (L : Laws O) (M : Model A) where
 
   -- ---- values are monotone in the environment
 
-  pub eval_mono : (K : ℕ) (φ : Formula) (e d : ℕ → ℕ → A) → (AtMostEnv L M) e d → AtMostMap O M (eval O M K φ e) (eval O M K φ d)
+  pub eval_mono : (K : ℕ) (φ : Formula) (e d : ℕ → ℕ → A) → AtMostEnv L M e d → AtMostMap O M (eval O M K φ e) (eval O M K φ d)
   unfolding eval
   eval_mono K bottom e d h q l = L.rfl _
   eval_mono K top e d h q l = L.rfl _

@@ -8,7 +8,8 @@ use Rattle.casefile.specs.Caller.{when_accepted, when_refused}
 use Rattle.desk.specs.Desk.{Desk}
 use Rattle.desk.specs.Refused.{short, rules_obeyed}
 use Rattle.desk_check.specs.Read.{desk_of}
-use Rattle.desk.specs.RulesLaws.{Long, long-enough}
+use Rattle.desk.specs.RulesLaws.{Long}
+use Rattle.desk.proofs.RulesLaws.{long-enough}
 use Rattle.desk_check.specs.Held.{short-examined, unread_examined, spoiled-examined, held-examined}
 use Rattle.desk_check.proofs.examine.Goals as goal
 use Rattle.desk_check.proofs.examine.Goals.{Else-too_short, In-Accepted}

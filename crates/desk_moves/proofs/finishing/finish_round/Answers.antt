@@ -2,7 +2,7 @@
 use mathlib.Core.Path.{sym}
 use lib.Seq.{length-take-le}
 use Rattle.desk.specs.Desk.{Desk}
-use Rattle.desk.specs.RoundLeftLaws.{settled_finished}
+use Rattle.desk.proofs.RoundLeftLaws.{settled_finished}
 use Rattle.desk_check.specs.Read.{desk_of}
 use Rattle.desk_check.specs.Held.{HeldDesk, when_held}
 use Rattle.desk_moves.specs.Stepped.{workable, movable}

@@ -5,7 +5,8 @@ use native.Mathlib.Omega.{arith}
 use Rattle.casefile.specs.Caller.{when_accepted, when_refused}
 use Rattle.desk.specs.Desk.{Desk}
 use Rattle.desk.specs.Refused.{short}
-use Rattle.desk.specs.RulesLaws.{Long, long-enough}
+use Rattle.desk.specs.RulesLaws.{Long}
+use Rattle.desk.proofs.RulesLaws.{long-enough}
 use Rattle.desk_check.specs.Read.{desk_of}
 use Rattle.desk_check.specs.Held.{case_few}
 use Rattle.desk_moves.specs.Opened.{short_open, refused_open, accepted_open}

@@ -23,14 +23,18 @@ use Rattle.desk.specs.Moved.{opened}
 use Rattle.desk.specs.View.{View, given_table}
 use Rattle.desk.specs.Perform.{perform, asked, show_answer, answer_to, moved}
 use Rattle.desk.specs.Run.{run, openings, LastOpening, answers_since, round_after, answer_after, view_after}
-use Rattle.desk.specs.RefusedLaws.{perform_accepted, OpenAccepted, open_long, open_accepted, answered_reply}
-use Rattle.desk.specs.RulesLaws.{spoiled_exactly}
-use Rattle.desk.specs.Stands.{known-sound, Stands, opening_starts}
-use Rattle.desk.specs.Next.{same_number, at, stands_unspoiled, never_11_or_12, ranges_are, shows, below_shown, show_is, answered_from}
-use Rattle.desk.specs.Covered.{shown_by_round, shown_at_T, scored_by_round, scored_at_T, promised_by_facts}
-use Rattle.desk.specs.Judged.{PostFixed, judge-yes, judge-no, passes_exactly, passed_le, passed_bounds, simulation_passes, round-passes-exactly}
-use Rattle.desk.specs.WrittenBack.{written_opens}
-use Rattle.desk.specs.Listed.{run_append, last_opening, opening_T, Since, since}
+use Rattle.desk.specs.RefusedLaws.{OpenAccepted}
+use Rattle.desk.proofs.RefusedLaws.{perform_accepted, open_long, open_accepted, answered_reply}
+use Rattle.desk.proofs.RulesLaws.{spoiled_exactly}
+use Rattle.desk.specs.Stands.{Stands}
+use Rattle.desk.proofs.Stands.{known-sound, opening_starts}
+use Rattle.desk.proofs.Next.{same_number, at, stands_unspoiled, never_11_or_12, ranges_are, shows, below_shown, show_is, answered_from}
+use Rattle.desk.proofs.Covered.{shown_by_round, shown_at_T, scored_by_round, scored_at_T, promised_by_facts}
+use Rattle.desk.specs.Judged.{PostFixed}
+use Rattle.desk.proofs.Judged.{judge-yes, judge-no, passes_exactly, passed_le, passed_bounds, simulation_passes, round-passes-exactly}
+use Rattle.desk.proofs.WrittenBack.{written_opens}
+use Rattle.desk.specs.Listed.{Since}
+use Rattle.desk.proofs.Listed.{run_append, last_opening, opening_T, since}
 use Rattle.desk.specs.Demand3.{SaysYes, Claim, Demand3}
 
 -- show's answer leaves no choice of its bytes

@@ -11,11 +11,12 @@ use Rattle.desk.specs.Case.{N1, IsT}
 use Rattle.desk.specs.Refused.{examined}
 use Rattle.desk.specs.Perform.{perform, moved}
 use Rattle.desk.specs.Run.{run, LastOpening, answers_since, round_after}
-use Rattle.desk.specs.RefusedLaws.{perform_accepted, open_accepted}
-use Rattle.desk.specs.Stands.{Stands, Known, some_states, opening_starts}
-use Rattle.desk.specs.Next.{at, ranges_are}
-use Rattle.desk.specs.Listed.{step_stands}
-use Rattle.desk.specs.Demand3Holds.{listed}
+use Rattle.desk.proofs.RefusedLaws.{perform_accepted, open_accepted}
+use Rattle.desk.specs.Stands.{Stands, Known}
+use Rattle.desk.proofs.Stands.{some_states, opening_starts}
+use Rattle.desk.proofs.Next.{at, ranges_are}
+use Rattle.desk.proofs.Listed.{step_stands}
+use Rattle.desk.proofs.Demand3Holds.{listed}
 
 pub accepted_steps_settle : (ks : List Call) (d : Desk) (l : LastOpening ks d) (T : ℕ) → IsT l.holds T → T * N1 l.holds ≤ length (answers_since l) → (run ks d).standing.settled ≡ true
 accepted_steps_settle ks d l T t h =

@@ -19,9 +19,10 @@ use Rattle.desk.specs.Refused.{InRange, accepted, number_reply}
 use Rattle.desk.specs.View.{View}
 use Rattle.desk.specs.Perform.{asked, answer_to}
 use Rattle.desk.specs.Run.{round_after, view_after}
-use Rattle.desk.specs.RefusedLaws.{unrefused_accepted}
-use Rattle.desk.specs.Stands.{known-sound, Stands}
-use Rattle.desk.specs.Next.{shown_below, answered_from}
+use Rattle.desk.proofs.RefusedLaws.{unrefused_accepted}
+use Rattle.desk.specs.Stands.{Stands}
+use Rattle.desk.proofs.Stands.{known-sound}
+use Rattle.desk.proofs.Next.{shown_below, answered_from}
 use Rattle.desk.specs.Demand3.{FactsAnswered, by_value, by_whole, BoundedBy, ScoreBounds, PromisedByRound, PromisedAtT, PromisedByFacts}
 
 formula_value_accepted : (q : Question) (d : Desk) (e : ℕ) (x : FormulaFacts) → asked q d ≡ Reply.FormulaValue e x → accepted (Call.Ask q) d ≡ true

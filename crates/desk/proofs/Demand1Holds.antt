@@ -16,8 +16,9 @@ use Rattle.desk.specs.View.{view_of}
 use Rattle.desk.specs.Refused.{short, Rules, call_conditions, refusals_of, OneOf, examined, refused_reply}
 use Rattle.desk.specs.Perform.{perform, answer}
 use Rattle.desk.specs.Demand1.{InStore, Demand1}
-use Rattle.desk.specs.RefusedLaws.{perform_refused, perform_accepted, is_short, open_long, in_store, open_accepted, other_accepted, Outcome, too_short_lem, broken, outside, inside, outcome, opens_or_not, accepted_content, content_accepted}
-use Rattle.desk.specs.RulesLaws.{range_exactly, refusal_one}
+use Rattle.desk.specs.RefusedLaws.{Outcome, too_short_lem, broken, outside, inside}
+use Rattle.desk.proofs.RefusedLaws.{perform_refused, perform_accepted, is_short, open_long, in_store, open_accepted, other_accepted, outcome, opens_or_not, accepted_content, content_accepted}
+use Rattle.desk.proofs.RulesLaws.{range_exactly, refusal_one}
 
 refused_numbered : (k : Call) (r : Refusal) → is_show k ≡ false → refused_reply k r ≡ Reply.Refused (number_of r) (part_of r)
 refused_numbered (Call.Open b) r e = refl

@@ -26,11 +26,16 @@ use Rattle.desk.specs.View.{view_of, shown_table}
 use Rattle.desk.specs.Refused.{Rules, conditions, call_conditions, first_refusal, no_refusal, after_rules, examined, is_content, accepted}
 use Rattle.desk.specs.Perform.{perform, show_answer, answer, moved, lent_after}
 use Rattle.desk.specs.Run.{round_after, view_after, AnsweredFrom}
-use Rattle.desk.specs.RefusedLaws.{Unspoiled, opens_or_not, open_long, in_store, perform_refused, perform_accepted}
-use Rattle.desk.specs.RulesLaws.{Long, long_not_short, range_exactly, broken_exactly, refusal_one}
-use Rattle.desk.specs.ViewLaws.{SameView, conditions_cong, answer_cong}
-use Rattle.desk.specs.Stands.{known-sound, DeskBeforeT, DeskAtT, Stands, sizes_most}
-use Rattle.desk.specs.Position.{Position, position}
+use Rattle.desk.specs.RefusedLaws.{Unspoiled}
+use Rattle.desk.proofs.RefusedLaws.{opens_or_not, open_long, in_store, perform_refused, perform_accepted}
+use Rattle.desk.specs.RulesLaws.{Long}
+use Rattle.desk.proofs.RulesLaws.{long_not_short, range_exactly, broken_exactly, refusal_one}
+use Rattle.desk.specs.ViewLaws.{SameView}
+use Rattle.desk.proofs.ViewLaws.{conditions_cong, answer_cong}
+use Rattle.desk.specs.Stands.{DeskBeforeT, DeskAtT, Stands}
+use Rattle.desk.proofs.Stands.{known-sound, sizes_most}
+use Rattle.desk.specs.Position.{Position}
+use Rattle.desk.proofs.Position.{position}
 
 -- a number equals itself, as a test
 pub same_number : (a : ℕ) → eqb a a ≡ true

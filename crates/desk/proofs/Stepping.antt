@@ -17,7 +17,8 @@ use Rattle.rounds.specs.Round.{RoundSoFar, RoundDone, round_none, round_more, ro
 use Rattle.desk.specs.Desk.{Standing, Desk, whole_table, other_table}
 use Rattle.desk.specs.Case.{ops, model1, model2, N1, N2, table_size, operator, round_in, differing_in, lowerings_in}
 use Rattle.desk.specs.Moved.{row_worked, changed_now, lowered_now, next_row, next_round, worked, stepped}
-use Rattle.desk.specs.Stands.{Known, known-sound, SizesAre, BeforeT, AtT, Progress, DeskBeforeT, DeskAtT, ProgressAt, Stands, sizes_most, some_states}
+use Rattle.desk.specs.Stands.{Known, SizesAre, BeforeT, AtT, Progress, DeskBeforeT, DeskAtT, ProgressAt, Stands}
+use Rattle.desk.proofs.Stands.{known-sound, sizes_most, some_states}
 
 -- the same of equal tables
 progress_with : {c : Content} {T s : ℕ} {x : Standing} {whole other whole' other' : List ℕ} → whole' ≡ whole → other' ≡ other → Progress c T s x whole other → Progress c T s x whole' other'
