@@ -1,2 +1,0 @@
--- What the proofs of `lent_examples` share.
-pub mod Lending
