@@ -19,7 +19,7 @@ use Rattle.lattice.specs.Reading.{LatticeReading, lattice_reading, lattice_of, l
 use Rattle.lattice.specs.Numbered.{explicit_out}
 use Rattle.model.specs.Places.{prod_le}
 use Rattle.model.specs.Reading.{model_test}
-use Rattle.model.specs.Accepted.{accepted_shape}
+use Rattle.model.proofs.Accepted.{accepted_shape}
 use Rattle.formula.specs.RoundTrip.{formula_part}
 use Rattle.casefile.specs.Directory.{part_count, part_size, part_at, parts_from, parts_of}
 use Rattle.casefile.specs.Reading.{Content, content_parts, FormulasReading, formulas_reading, after_formulas, models_reading, after_lattice, parts_reading, case_reading, store_reading, refused, content, refused_at, read}

@@ -10,7 +10,7 @@ use Rattle.theory.specs.Part.{ops_of, model_of, ModelShape}
 use Rattle.lattice_order.specs.Sound.{LatticeSound}
 use Rattle.lattice.specs.Accepted.{accepted_is_lattice, accepted_sound}
 use Rattle.model.specs.Places.{prod_le}
-use Rattle.model.specs.Accepted.{accepted_shape, accepted_valued}
+use Rattle.model.proofs.Accepted.{accepted_shape, accepted_valued}
 use Rattle.casefile.specs.Directory.{part_count, part_at}
 use Rattle.casefile.specs.Reading.{Content, content_parts, case_reading, content}
 use Rattle.casefile.specs.Placed.{part_of}

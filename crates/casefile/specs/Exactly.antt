@@ -6,7 +6,7 @@ use Rattle.theory.specs.Part.{LatticePart}
 use Rattle.lattice.specs.Reading.{LatticeReading, lattice_reading, lattice_of, lattice_form}
 use Rattle.lattice.specs.Accepted.{accepted_sound, lattice_exactly}
 use Rattle.lattice.specs.DeMorgan.{DeMorganLattice}
-use Rattle.model.specs.Accepted.{model_exactly}
+use Rattle.model.proofs.Accepted.{model_exactly}
 use Rattle.formula.specs.RoundTrip.{reading_exactly}
 use Rattle.casefile.specs.Directory.{parts_of}
 use Rattle.casefile.specs.Reading.{Content, content_parts, case_reading, content}

@@ -15,7 +15,7 @@ use Rattle.lattice.specs.Reading.{LatticeReading, lattice_reading, lattice_of}
 use Rattle.lattice.specs.Numbered.{form_exactly, lattice_refused}
 use Rattle.lattice.specs.Accepted.{accepted_sound, lattice_exactly}
 use Rattle.model.specs.Reading.{model_test}
-use Rattle.model.specs.Accepted.{model_exactly}
+use Rattle.model.proofs.Accepted.{model_exactly}
 use Rattle.casefile.specs.Directory.{part_count, placed, size_test, directory_test, misplaced, part_at, parts_from}
 use Rattle.casefile.specs.Reading.{CaseReading, FormulasReading, formulas_reading, after_formulas, models_reading, after_lattice, case_reading, refused, refused_at, read}
 use Rattle.casefile.specs.Conditions.{HasDirectory, Placed, PartPlaced}

@@ -12,7 +12,7 @@ use Rattle.lattice.specs.Reading.{is_panel, lattice_of, lattice_form}
 use Rattle.lattice.specs.Conditions.{ExplicitForm}
 use Rattle.lattice.specs.Numbered.{explicit_out, panel_is}
 use Rattle.model.specs.Places.{row_le}
-use Rattle.model.specs.Accepted.{cell}
+use Rattle.model.proofs.Accepted.{cell}
 use Rattle.formula.specs.Bytes.{bytes_of}
 use Rattle.casefile.specs.Reading.{Content, content_parts, case_reading, content}
 use Rattle.casefile.specs.Conditions.{CaseOf, SameModel, SameCase}

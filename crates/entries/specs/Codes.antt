@@ -21,8 +21,9 @@ use Rattle.theory.proofs.PairLaws.{meet_whole, join_whole}
 use Rattle.theory.specs.TestLaws.{bool_same}
 use Rattle.elements.specs.declared.Lattice.{Lattice}
 use Rattle.elements.specs.Words.{code_in, negated_code_in, decode_in, ops_in, Coded}
-use Rattle.elements.specs.Coded.{code_element, meet_lt}
-use Rattle.elements.specs.Folds.{CodeOf, decode_in_lem, code_of, negated_of, bottom_of, meet_of_lem, join_of_lem, fold_meets, fold_joins, fold_within}
+use Rattle.elements.proofs.Coded.{code_element, meet_lt}
+use Rattle.elements.specs.Folds.{CodeOf}
+use Rattle.elements.proofs.Folds.{decode_in_lem, code_of, negated_of, bottom_of, meet_of_lem, join_of_lem, fold_meets, fold_joins, fold_within}
 use Rattle.elements.specs.Laws.{Within, within-refl, within_antisym, and_assoc}
 use Rattle.model.specs.Reading.{leaving_code}
 use Rattle.entries.specs.Table.{table_of, Shaped, entry_in}

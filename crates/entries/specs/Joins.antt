@@ -18,7 +18,7 @@ use Rattle.theory.specs.Loop.{fold}
 use Rattle.theory.specs.Simulation.{indicator, count}
 use Rattle.theory.proofs.PairLaws.{count_first}
 use Rattle.theory.specs.TestLaws.{below_suc}
-use Rattle.elements.specs.Folds.{or_within, or_member, or_stays}
+use Rattle.elements.proofs.Folds.{or_within, or_member, or_stays}
 use Rattle.elements.specs.Laws.{Within, within-refl, within_trans, within_antisym, and_left}
 use Rattle.entries.specs.Codes.{WithinTop}
 

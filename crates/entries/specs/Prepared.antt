@@ -21,7 +21,7 @@ use Rattle.theory.proofs.PairLaws.{count_pairs_cong, count_pairs_none, count_pai
 use Rattle.theory.specs.Part.{model_of}
 use Rattle.theory.specs.Written.{written_after}
 use Rattle.elements.specs.declared.Lattice.{Lattice}
-use Rattle.elements.specs.Folds.{decode_in_lem, bottom_of, fold_within, top_same, and_stays}
+use Rattle.elements.proofs.Folds.{decode_in_lem, bottom_of, fold_within, top_same, and_stays}
 use Rattle.elements.specs.Laws.{Within}
 use Rattle.elements.specs.Words.{code_in, decode_in, ops_in, Coded}
 use Rattle.model.specs.Reading.{leaving_code}

@@ -11,8 +11,9 @@ use Rattle.theory.specs.Part.{LatticePart, meet_of, join_of, ops_of, explicit_pa
 use Rattle.refusal.specs.declared.Refusal.{Refusal}
 use Rattle.lattice_order.specs.DeMorgan.{DeMorganLattice}
 use Rattle.lattice_order.specs.Ordered.{Formed, ordered_out, ordered_in, meets_and_joins_out, meets_and_joins_in}
-use Rattle.lattice_order.specs.Sound.{LatticeSound, laws_of}
-use Rattle.lattice_order.specs.Exactly.{lattice_ordered, lattice_meets_and_joins, lattice_distributive, lattice_complements, sound_lattice}
+use Rattle.lattice_order.specs.Sound.{LatticeSound}
+use Rattle.lattice_order.proofs.Sound.{laws_of}
+use Rattle.lattice_order.proofs.Exactly.{lattice_ordered, lattice_meets_and_joins, lattice_distributive, lattice_complements, sound_lattice}
 use Rattle.lattice.specs.Panel.{panel_part}
 use Rattle.lattice.specs.Numbered.{explicit_out}
 use Rattle.lattice.specs.Reading.{LatticeReading, accepted, is_panel, lattice_of, explicit_form, lattice_form, partial_order, meets_and_joins, distributive, complement_rules, require, part_reading, lattice_reading}

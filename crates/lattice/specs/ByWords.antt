@@ -25,7 +25,8 @@ use Rattle.lattice_codes.specs.Tests.{words_in, codes_by, down_of, all_of, is_wo
 use Rattle.lattice_codes.specs.Cong.{is_word_cong, closed_cong, irreducibles_cong, ordered_cong}
 use Rattle.lattice_codes.specs.Order.{ordered_exactly}
 use Rattle.lattice_codes.specs.MeetsJoinsFound.{meets_and_joins_exactly}
-use Rattle.lattice_codes.specs.Accepting.{DistributiveLattice, lattice_sound, lattice_exactly}
+use Rattle.lattice_codes.specs.Accepting.{DistributiveLattice}
+use Rattle.lattice_codes.proofs.Accepting.{lattice_sound, lattice_exactly}
 
 -- ---- the tests on lists of words
 

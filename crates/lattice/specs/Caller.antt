@@ -10,9 +10,10 @@ use Rattle.theory.specs.Part.{LatticePart, ops_of}
 use Rattle.elements.specs.declared.Lattice.{Lattice}
 use Rattle.elements.specs.Words.{ops_in, Coded}
 use Rattle.refusal.specs.declared.Refusal.{Refusal}
-use Rattle.lattice_order.specs.Sound.{LatticeSound, laws_of}
+use Rattle.lattice_order.specs.Sound.{LatticeSound}
+use Rattle.lattice_order.proofs.Sound.{laws_of}
 use Rattle.lattice_codes.specs.Accepting.{DistributiveLattice}
-use Rattle.lattice_codes.specs.Held.{held-ops, held-coded}
+use Rattle.lattice_codes.proofs.Held.{held-ops, held-coded}
 use Rattle.lattice.specs.declared.LatticeCheck.TheVariants.{Refused, Accepted}
 use Rattle.lattice.specs.Reading.{LatticeReading, refused, accepted, lattice_of, lattice_reading}
 use Rattle.lattice.specs.Answer.{top_and_bottom, CodesOf, Answered}

@@ -13,7 +13,7 @@ use Rattle.lattice.specs.declared.LatticeCheck.TheVariants.{Refused}
 use Rattle.lattice.specs.Reading.{LatticeReading, refused, require, lattice_of, lattice_form, lattice_reading, part_reading}
 use Rattle.lattice.specs.Accepted.{formed}
 use Rattle.lattice_codes.specs.Tests.{words_in, codes_by, down_of, irreducibles, code_of, lattice_test}
-use Rattle.lattice_codes.specs.Accepting.{lattice_sound}
+use Rattle.lattice_codes.proofs.Accepting.{lattice_sound}
 use Rattle.lattice.specs.Answer.{Answered}
 use Rattle.lattice.specs.ByWords.{lattice_by, reason_by, mask_is, codes_are, lattice_by_lem, reading-reason}
 use Rattle.lattice.specs.Filling.{LatticeWords, answered_refused}

@@ -24,7 +24,8 @@ use Rattle.elements.specs.Words.{within}
 use Rattle.lattice_codes.specs.Tests.{words_in, down_of, is_word, irreducibles, code_of, FoundAt}
 use Rattle.lattice_codes.specs.Cong.{is_word_cong}
 use Rattle.lattice_codes.specs.Accepting.{DistributiveLattice}
-use Rattle.lattice_codes.specs.Held.{CodesOf, complement-exactly, top-is_word, top_found, bottom_is_word, bottom_found}
+use Rattle.lattice_codes.specs.Held.{CodesOf}
+use Rattle.lattice_codes.proofs.Held.{complement-exactly, top-is_word, top_found, bottom_is_word, bottom_found}
 use Rattle.lattice.specs.Answer.{Answered}
 use Rattle.lattice.specs.ByWords.{reading_lattice}
 

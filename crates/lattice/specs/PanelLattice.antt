@@ -14,7 +14,7 @@ use Rattle.lattice.specs.Reading.{is_panel, lattice_of, lattice_form, accepted, 
 use Rattle.lattice_order.specs.Searched.{indicator-test}
 use Rattle.theory.specs.Height.{distinct_le}
 use Rattle.lattice.specs.Accepted.{lattice_is_accepted}
-use Rattle.lattice_order.specs.Exactly.{ops_lattice}
+use Rattle.lattice_order.proofs.Exactly.{ops_lattice}
 use Rattle.lattice.specs.Form.{part_explicit, form-last}
 use Rattle.lattice_order.specs.Agree.{ops_cong}
 

@@ -9,7 +9,6 @@ pub mod MeetsJoinsFound
 -- codes say the order; distributive exactly where the | of two codes is a code
 pub mod Birkhoff
 -- the elements with a bit are the join-irreducible ones
-pub mod Irreducible
 -- one test for what is accepted
 pub mod Accepting
 -- the codes of a lattice and of its complements hold its operations

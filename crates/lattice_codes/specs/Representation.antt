@@ -2,7 +2,6 @@
 --   has_bit: bit e of a word
 --   Represented: bit e of a's code is set exactly when e is join-irreducible and at or below a; codes say the order, meet is &, join is |, and
 --     every set of join-irreducible elements that has those below its own is one element's code
---   birkhoff: every distributive lattice is so; code_unique: no two elements have one code
 use Rattle.std.specs.Prelude.{ℕ, ◌^◌, ◌<◌, ◌≡◌, refl, Bool, true, ◌&&◌, ◌↔◌, eqb}
 use Rattle.std.proofs.Common.{sym, ap, ◌∙◌}
 use Rattle.std.specs.Int.Bits.{bit_and, bit_or}
@@ -14,9 +13,8 @@ use Rattle.elements.specs.Bits.{bits, bits_at}
 use Rattle.elements.specs.Words.{within}
 use Rattle.lattice_codes.specs.Tests.{ordered, closed, is_word, down_of, irreducible, irreducibles, code_of, lattice_test}
 use Rattle.lattice_codes.specs.MeetsJoinsFound.{meets_and_joins-meets}
-use Rattle.lattice_codes.specs.Birkhoff.{below, code_bits, code-order, code-distinct, code_meet, code-join}
-use Rattle.lattice_codes.specs.Irreducible.{irreducible-exactly}
-use Rattle.lattice_codes.specs.Accepting.{DistributiveLattice, CodeAt, DownSet, set_code, test_complete}
+use Rattle.lattice_codes.specs.Birkhoff.{below}
+use Rattle.lattice_codes.specs.Accepting.{DistributiveLattice, CodeAt, DownSet}
 
 -- bit e of the word x
 abbrev pub has_bit : ℕ → ℕ → Bool
@@ -28,28 +26,3 @@ pub record Represented (P : LatticePart) : Type 0 where
   pub meet : (a b : ℕ) → a < P.size → b < P.size → code_of P (meet_of P a b) ≡ bit_and (code_of P a) (code_of P b)
   pub join : (a b : ℕ) → a < P.size → b < P.size → code_of P (join_of P a b) ≡ bit_or (code_of P a) (code_of P b)
   pub every : (p : ℕ → Bool) → DownSet P p → CodeAt P (bits P.size p)
-
-module _ (P : LatticePart) (f : Formed P) (D : DistributiveLattice P) where
-  bit_is : (a e : ℕ) → e < P.size → has_bit (code_of P a) e ≡ below P a e
-  bit_is a e l = ap (λ (x : ℕ). has_bit x e) (code_bits P a) ∙ bits_at P.size (below P a) e l
-
-  abbrev tested : Bool
-  tested = ordered P.size (down_of P) (code_of P) && closed P.size (code_of P) (irreducibles P.size (down_of P)) true
-
-  pub code_unique : (a b : ℕ) → a < P.size → b < P.size → code_of P a ≡ code_of P b → a ≡ b
-  code_unique = code-distinct P D.order (meets_and_joins-meets P D.meets_and_joins_lem)
-
-  pub birkhoff : Represented P
-  birkhoff =
-      let t = test_complete P f.some D in
-      let u = and_l tested _ t in
-      record {
-        bit = λ a e l. (
-          λ t. let s = sym (bit_is a e l) ∙ t in ((irreducible-exactly P f D.order D.meets_and_joins_lem e l).0 (and_r (P.order e a) _ s), and_l (P.order e a) _ s),
-          λ j. bit_is a e l ∙ and_in _ _ j.1 ((irreducible-exactly P f D.order D.meets_and_joins_lem e l).1 j.0),
-        );
-        order = code-order P D.order (meets_and_joins-meets P D.meets_and_joins_lem);
-        meet = λ a b l m. code_meet P D.order a b (meet_of P a b) l m (D.meets_and_joins_lem.meet_lt a b l m) (meet_at P D.meets_and_joins_lem a b l m);
-        join = code-join P D.order D.meets_and_joins_lem D.distributes;
-        every = set_code P (and_l (ordered P.size (down_of P) (code_of P)) _ u) (and_r (ordered P.size (down_of P) (code_of P)) _ u) (and_r tested _ t);
-      }

@@ -12,7 +12,7 @@ use Rattle.theory.specs.Part.{model_of}
 use Rattle.theory.specs.Simulation.{score}
 use Rattle.elements.specs.declared.Lattice.{Lattice}
 use Rattle.elements.specs.Words.{code_in, negated_code_in, decode_in, Coded}
-use Rattle.elements.specs.Folds.{decode_in_lem, code_of, negated_of, meet_of_lem, join_of_lem, big_meet_lt, fold_meets, fold_joins}
+use Rattle.elements.proofs.Folds.{decode_in_lem, code_of, negated_of, meet_of_lem, join_of_lem, big_meet_lt, fold_meets, fold_joins}
 use Rattle.entries.specs.Table.{table_of}
 use Rattle.entries.specs.Words.{Rows, low_at}
 use Rattle.entries.specs.Codes.{table_code, codes_of_table, inner_code, TableCoded, InnerCoded, inner_of}

@@ -11,7 +11,7 @@ use Rattle.theory.specs.Lists.{Filled}
 use Rattle.theory.specs.Loop.{fold}
 use Rattle.elements.specs.declared.Lattice.{Lattice}
 use Rattle.elements.specs.Words.{code_in, Coded}
-use Rattle.elements.specs.Folds.{or_stays, and_stays}
+use Rattle.elements.proofs.Folds.{or_stays, and_stays}
 use Rattle.elements.specs.Laws.{Within, within_trans, and_left, and_right, or_left, or_right}
 use Rattle.entries.specs.Words.{RowFolded}
 use Rattle.entries.specs.Codes.{WithinTop, code_within}

@@ -14,7 +14,7 @@ use lib.ListN.{length, get_or, replicate, length-append}
 use Rattle.theory.specs.Formula.{Formula, closed_under, over_props}
 use Rattle.theory.specs.Part.{model_of}
 use Rattle.theory.specs.Value.{eval, value_at, whole_value}
-use Rattle.elements.specs.Folds.{decode_in_lem, big_meet_lt}
+use Rattle.elements.proofs.Folds.{decode_in_lem, big_meet_lt}
 use Rattle.elements.specs.Words.{decode_in, ops_in}
 use Rattle.elements.specs.declared.Lattice.{Lattice}
 use Rattle.model.specs.declared.Proposition.{Proposition}

@@ -7,7 +7,7 @@ use Rattle.std.proofs.Math.Bool.{true, false, cond}
 use Rattle.theory.specs.Part.{LatticePart}
 use Rattle.elements.specs.Words.{Coded}
 use Rattle.elements.specs.declared.Lattice.{Lattice}
-use Rattle.model.specs.Accepted.{accepted_shape, accepted_valued}
+use Rattle.model.proofs.Accepted.{accepted_shape, accepted_valued}
 use Rattle.model.specs.Reading.{model_test, model_answer}
 use Rattle.model.specs.declared.ModelCheck.{ModelCheck}
 use Rattle.model.specs.declared.ModelCheck.TheVariants.{Refused, Accepted}

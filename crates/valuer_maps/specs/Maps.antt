@@ -16,8 +16,9 @@ use Rattle.theory.specs.Part.{model_of}
 use Rattle.theory.specs.Value.{all_next, some_next}
 use Rattle.elements.specs.declared.Lattice.{Lattice}
 use Rattle.elements.specs.Words.{code_in, negated_code_in, decode_in, ops_in, Coded}
-use Rattle.elements.specs.Coded.{meet_lt, join_lt, complement_lt}
-use Rattle.elements.specs.Folds.{CodeOf, decode_in_lem, code_of, negated_of, bottom_of, meet_of_lem, join_of_lem, big_meet_lt, big_join_lt, fold_meets, fold_joins}
+use Rattle.elements.proofs.Coded.{meet_lt, join_lt, complement_lt}
+use Rattle.elements.specs.Folds.{CodeOf}
+use Rattle.elements.proofs.Folds.{decode_in_lem, code_of, negated_of, bottom_of, meet_of_lem, join_of_lem, big_meet_lt, big_join_lt, fold_meets, fold_joins}
 use Rattle.valuer_maps.specs.Code.{join_or_meet_code, start_code, next_code, Literals, Combined, NextMap}
 
 -- the first n words of x are the codes of the elements that f gives

@@ -18,7 +18,7 @@ use Rattle.theory.specs.TestLaws.{false_true}
 use Rattle.elements.specs.Words.{code_in, negated_code_in}
 use Rattle.elements.specs.declared.Lattice.{Lattice}
 use Rattle.elements.specs.Laws.{within-refl}
-use Rattle.elements.specs.Folds.{fold_within, top_same}
+use Rattle.elements.proofs.Folds.{fold_within, top_same}
 use Rattle.valuer_maps.specs.Code.{join_or_meet_code, all_next_code, some_next_code, first_code, step_code, next_code}
 
 -- Of a transition's value e: it is not passed over, as it would be where its code is 0 and that of its complement the top's.

@@ -9,7 +9,7 @@ use borrow.Author.Tests.{eq-eqb, ne_eqb}
 use lib.Dec.{eqb}
 use lib.ListN.{get_or}
 use Rattle.theory.specs.TestLaws.{first_unique}
-use Rattle.elements.specs.Coded.{guess_is}
+use Rattle.elements.proofs.Coded.{guess_is}
 use borrow.Author.Rules.{rules}
 use Rattle.elements.proofs.decode.Goals as goal
 

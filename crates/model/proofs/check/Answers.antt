@@ -8,7 +8,7 @@ use borrow.Author.Tests.{not-true, not-false}
 use Rattle.theory.specs.TestLaws.{false_true}
 use Rattle.model.specs.Places.{prod_le}
 use Rattle.model.specs.Reading.{elements_only}
-use Rattle.model.specs.Accepted.{answers_accepted, answers_refused}
+use Rattle.model.proofs.Accepted.{answers_accepted, answers_refused}
 use Rattle.model.proofs.check.Goals as goal
 use Rattle.model.proofs.check.Goals.{After-below, After-index-k}
 

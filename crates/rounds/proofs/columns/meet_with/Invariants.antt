@@ -3,7 +3,7 @@ use Prim.Native.Nat.{ℕ, ◌+◌, ◌≤◌, ◌-◌}
 use lib.Bits.{bit_and, bit_or}
 use lib.ListN.{length, get_or, length-set}
 use Rattle.entries.specs.Words.{Replaced, replaced_none, replaced_more, replaced_all, replaced_same}
-use Rattle.elements.specs.Folds.{top_same}
+use Rattle.elements.proofs.Folds.{top_same}
 use Rattle.entries.specs.Codes.{WithinTop}
 use Rattle.rounds.specs.Early.{upper_none, upper_more, at_bottom}
 use Rattle.theory.specs.TestLaws.{false_true}

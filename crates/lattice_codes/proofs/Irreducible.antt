@@ -11,7 +11,8 @@ use Rattle.lattice_order.specs.DeMorgan.{reversed, MeetAt}
 use Rattle.lattice_order.specs.Ordered.{Formed, Ordered, MeetsJoinsFound, ordered-reversed, meets_and_joins-reversed, join_at, top_is, top_found}
 use Rattle.elements.specs.Bits.{without, without_in, without_l, without_r}
 use Rattle.lattice_codes.specs.Tests.{down_of, irreducible}
-use Rattle.lattice_codes.specs.Birkhoff.{Irreducible, irreducible_in, irreducible_out}
+use Rattle.lattice_codes.specs.Birkhoff.{Irreducible}
+use Rattle.lattice_codes.proofs.Birkhoff.{irreducible_in, irreducible_out}
 
 module _ (P : LatticePart) (f : Formed P) (o : Ordered P) (w : MeetsJoinsFound P) where
   bot_at : TopAt (reversed P) (bot_of P)

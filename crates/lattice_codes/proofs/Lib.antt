@@ -1,0 +1,5 @@
+pub mod Representation
+pub mod Irreducible
+pub mod Held
+pub mod Accepting
+pub mod Birkhoff
