@@ -11,7 +11,7 @@ use Rattle.std.proofs.Math.Seq.{drop_at}
 use Rattle.theory.specs.Lattice.{All}
 use Rattle.casefile.specs.Directory.{part_count, directory_end, part_start, part_size, end_before, part_at, parts_from}
 use Rattle.casefile.specs.Reading.{parts_reading, case_reading}
-use Rattle.casefile.specs.Gapless.{u16_then, pairs, joined, directory, gapless}
+use Rattle.casefile.specs.Gapless.{u16_then, pairs, joined, gapless}
 use Rattle.casefile.specs.Placed.{placed_reading}
 use Rattle.casefile.specs.Conditions.{PartPlaced, Placed}
 

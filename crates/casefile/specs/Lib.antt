@@ -9,14 +9,10 @@ pub mod RefusedAs  -- which refusal a case is given, 1 to 10, and exactly when
 -- ---- theorems
 pub mod Placed  -- a case whose parts stand where they may
 pub mod ModelsRead  -- what comes of the models: refusal 9, or the formulas
-pub mod FirstParts  -- the parts that refusals 3 and 10 name
 pub mod Numbered  -- the refusals 1 to 10 are given so
 pub mod Unread  -- bytes outside the directory and the parts change nothing
 pub mod Laid  -- a gapless case is read as its parts
-pub mod FormulaParts  -- which parts are read as which formulas
 pub mod Accepted  -- what holds of an accepted case, and of its gapless form
-pub mod Exactly  -- which strings of bytes are cases, and with which content
-pub mod Same  -- accepted cases that say the same have the same bytes
 pub mod Content  -- the lattice, the models and the formulas of an accepted case
 pub mod Caller  -- what a caller of the check learns from the answer
 pub mod Examples  -- the case of document 01's report example
@@ -24,6 +20,5 @@ pub mod Examples  -- the case of document 01's report example
 pub mod Steps  -- what the steps of the check answer, and what those of the writer leave in a buffer
 pub mod Misplaced  -- the loop over the directory
 pub mod Formulas  -- the loop over the formula parts
-pub mod Answered  -- the steps of the check give the answer of the reading
 pub mod Appended  -- bytes that are written one after the other
 pub mod Writer  -- the loops that write a gapless case, and the one that counts its bytes

@@ -8,9 +8,10 @@ use Rattle.refusal.specs.declared.Refusal.{Refusal}
 use Rattle.refusal.specs.declared.Refusal.TheVariants.{ShortDesk, SpoiledDesk, OutOfRange}
 use Rattle.refusal.specs.Number.{number_of, part_of}
 use Rattle.casefile.specs.Reading.{Content, CaseReading, refused, content, case_reading}
-use Rattle.casefile.specs.Accepted.{refused_content}
-use Rattle.casefile.specs.Exactly.{content_exactly}
-use Rattle.casefile.specs.Numbered.{CaseRefused, case-number, refused_as}
+use Rattle.casefile.proofs.Accepted.{refused_content}
+use Rattle.casefile.proofs.Exactly.{content_exactly}
+use Rattle.casefile.specs.Numbered.{CaseRefused}
+use Rattle.casefile.proofs.Numbered.{case-number, refused_as}
 use Rattle.desk.specs.Desk.{Desk, Call, Reply, is_open, is_show}
 use Rattle.desk.specs.View.{view_of}
 use Rattle.desk.specs.Refused.{short, Rules, call_conditions, refusals_of, OneOf, examined, refused_reply}

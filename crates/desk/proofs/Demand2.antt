@@ -18,7 +18,8 @@ use Rattle.theory.proofs.Rounds.{F_cong}
 use Rattle.formula.specs.Answer.{facts_of}
 use Rattle.formula.specs.RoundTrip.{formula_part}
 use Rattle.casefile.specs.Reading.{Content, content, store_reading}
-use Rattle.casefile.specs.Content.{ContentSound, content_sound}
+use Rattle.casefile.specs.Content.{ContentSound}
+use Rattle.casefile.proofs.Content.{content_sound}
 use Rattle.desk.specs.Desk.{Desk, Question, Call, Reply, is_open}
 use Rattle.desk.specs.Case.{ops, model1, model2, model_in, formula_in, round_in}
 use Rattle.desk.specs.Refused.{examined, accepted}

@@ -14,8 +14,8 @@ use Rattle.theory.proofs.Sharp.{T_sharp}
 use Rattle.refusal.specs.declared.Refusal.TheVariants.{ShortDesk, SpoiledDesk, ShortBuffer}
 use Rattle.formula.specs.Answer.{facts_of}
 use Rattle.casefile.specs.Reading.{Content}
-use Rattle.casefile.specs.Accepted.{gapless_most}
-use Rattle.casefile.specs.Content.{content_sound}
+use Rattle.casefile.proofs.Accepted.{gapless_most}
+use Rattle.casefile.proofs.Content.{content_sound}
 use Rattle.desk.specs.Desk.{Desk, Question, Call, Reply}
 use Rattle.desk.specs.Case.{ops, model1, model2, table_size, model_in, formula_in, operator, round_in, IsT, entry_at, table_bytes}
 use Rattle.desk.specs.Refused.{InRange, accepted}

@@ -13,7 +13,7 @@ use Rattle.theory.specs.Height.{longest_chain}
 use Rattle.theory.proofs.Rounds.{T_exists}
 use Rattle.theory.specs.TestLaws.{false_true}
 use Rattle.casefile.specs.Reading.{Content, content}
-use Rattle.casefile.specs.Content.{content_sound}
+use Rattle.casefile.proofs.Content.{content_sound}
 use Rattle.desk.specs.Desk.{Desk, Call, Reply, is_open, is_step}
 use Rattle.desk.specs.Case.{ops, model1, model2, IsT}
 use Rattle.desk.specs.Refused.{examined, accepted}

@@ -15,9 +15,10 @@ use Rattle.theory.specs.TestLaws.{false_true}
 use Rattle.refusal.specs.declared.Refusal.{Refusal}
 use Rattle.refusal.specs.Number.{number_of}
 use Rattle.casefile.specs.Reading.{Content, content, refused, store_reading}
-use Rattle.casefile.specs.Accepted.{store_reads}
+use Rattle.casefile.proofs.Accepted.{store_reads}
 use Rattle.casefile.specs.Content.{ContentSound}
-use Rattle.casefile.specs.Numbered.{CaseNumber, case-number}
+use Rattle.casefile.specs.Numbered.{CaseNumber}
+use Rattle.casefile.proofs.Numbered.{case-number}
 use Rattle.rounds.specs.Table.{changed_below}
 use Rattle.rounds.specs.Round.{changed_none, shown_bytes}
 use Rattle.desk.specs.Desk.{Desk, Question, Call, Reply, Answered, whole_table, is_open}

@@ -11,7 +11,7 @@ use Rattle.theory.specs.TestLaws.{false_true, not_failed}
 use Rattle.refusal.specs.declared.Refusal.{Refusal}
 use Rattle.refusal.specs.declared.Refusal.TheVariants.{ShortDesk, SpoiledDesk}
 use Rattle.casefile.specs.Reading.{Content, CaseReading, refused, content, case_reading, store_reading}
-use Rattle.casefile.specs.Accepted.{refused_content}
+use Rattle.casefile.proofs.Accepted.{refused_content}
 use Rattle.desk.specs.Desk.{Desk, Question, Call, Reply, is_open, call_lent_buffers}
 use Rattle.desk.specs.View.{View, view_of}
 use Rattle.desk.specs.Refused.{short, obeys_for, spoiled_as, spoiled, call_conditions, first_refusal, after_rules, of_store, after_short, examined, is_content, accepted, number_reply, refused_reply}

@@ -13,7 +13,8 @@ use Rattle.std.proofs.Math.ListN.{get_or}
 use Rattle.theory.proofs.Rounds.{F_element}
 use Rattle.theory.specs.TestLaws.{false_true, cond_true, cond_false}
 use Rattle.casefile.specs.Reading.{Content}
-use Rattle.casefile.specs.Content.{ContentSound, content_sound}
+use Rattle.casefile.specs.Content.{ContentSound}
+use Rattle.casefile.proofs.Content.{content_sound}
 use Rattle.rounds.specs.Table.{row_changed}
 use Rattle.rounds.specs.Round.{row_elements}
 use Rattle.rounds.specs.Rest.{rows_from, rows_changed, row_length}

@@ -5,7 +5,7 @@ use Rattle.std.specs.Prelude.{ℕ, zero, suc, ◌+◌, ◌*◌, ◌≤◌, ◌�
 use Rattle.std.proofs.Common.{sym, ap, subst, le-div_iff_mul-le, arith}
 use Rattle.std.proofs.Math.Nat.{min-eq_right}
 use Rattle.casefile.specs.Reading.{Content, content}
-use Rattle.casefile.specs.Content.{content_sound}
+use Rattle.casefile.proofs.Content.{content_sound}
 use Rattle.desk.specs.Desk.{Desk, Call}
 use Rattle.desk.specs.Case.{N1, IsT}
 use Rattle.desk.specs.Refused.{examined}

@@ -11,8 +11,9 @@ use Rattle.theory.specs.Lattice.{Element}
 use Rattle.theory.specs.Lowerings.{lowerings-none}
 use Rattle.theory.specs.Written.{written-length, written_at}
 use Rattle.casefile.specs.Reading.{Content}
-use Rattle.casefile.specs.Accepted.{gapless_most}
-use Rattle.casefile.specs.Content.{ContentSound, content_sound}
+use Rattle.casefile.proofs.Accepted.{gapless_most}
+use Rattle.casefile.specs.Content.{ContentSound}
+use Rattle.casefile.proofs.Content.{content_sound}
 use Rattle.rounds.specs.Round.{round_none, top_round}
 use Rattle.desk.specs.Desk.{Desk}
 use Rattle.desk.specs.Case.{ops, model1, model2, N1, N2, table_size, operator, round_in, case_bytes}

@@ -9,8 +9,8 @@ use Rattle.theory.specs.Lists.{tab}
 use Rattle.theory.specs.Written.{written-length, written_after}
 use Rattle.theory.specs.Lists.{written}
 use Rattle.casefile.specs.Reading.{Content, content}
-use Rattle.casefile.specs.Accepted.{gapless_most}
-use Rattle.casefile.specs.Content.{content_sound}
+use Rattle.casefile.proofs.Accepted.{gapless_most}
+use Rattle.casefile.proofs.Content.{content_sound}
 use Rattle.model.specs.Places.{row_le}
 use Rattle.desk.specs.Desk.{Desk, Call, other_table}
 use Rattle.desk.specs.Case.{ops, N1, N2, table_size, operator, case_bytes}

@@ -13,8 +13,8 @@ use Rattle.refusal.specs.declared.Refusal.TheVariants.{ShortDesk, SpoiledDesk, S
 use Rattle.refusal.specs.First.{refusal_unique}
 use Rattle.casefile.specs.Reading.{Content, CaseReading, refused, content, case_reading, store_reading}
 use Rattle.casefile.specs.Conditions.{SameCase}
-use Rattle.casefile.specs.Same.{same_content_exactly}
-use Rattle.casefile.specs.Accepted.{gapless_most, gapless_reads, store_reads}
+use Rattle.casefile.proofs.Same.{same_content_exactly}
+use Rattle.casefile.proofs.Accepted.{gapless_most, gapless_reads, store_reads}
 use Rattle.desk.specs.Desk.{Desk, Question, Call, Reply}
 use Rattle.desk.specs.Case.{ops, table_size, case_bytes}
 use Rattle.desk.specs.View.{view_of}

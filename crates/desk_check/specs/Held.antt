@@ -16,8 +16,9 @@ use Rattle.refusal.specs.declared.Refusal.TheVariants.{ShortDesk, SpoiledDesk}
 use Rattle.casefile.specs.declared.Sizes.{Sizes}
 use Rattle.casefile.specs.Reading.{CaseReading, refused, content, store_reading}
 use Rattle.casefile.specs.Answer.{sizes_of}
-use Rattle.casefile.specs.Accepted.{refused_content}
-use Rattle.casefile.specs.Caller.{AcceptedCase, accepted_as}
+use Rattle.casefile.proofs.Accepted.{refused_content}
+use Rattle.casefile.specs.Caller.{AcceptedCase}
+use Rattle.casefile.proofs.Caller.{accepted_as}
 use Rattle.desk.specs.Desk.{Desk, Question, Call, Reply, whole_table, is_open, lent_buffers, call_lent_buffers}
 use Rattle.desk.specs.Case.{table_size}
 use Rattle.desk.specs.View.{View, view_of}

@@ -12,7 +12,7 @@ use Rattle.casefile.specs.declared.Sizes.{Sizes}
 use Rattle.casefile.specs.Directory.{parts_of}
 use Rattle.casefile.specs.Reading.{refused, case_reading}
 use Rattle.casefile.specs.Gapless.{gapless}
-use Rattle.casefile.specs.Accepted.{accepted_case}
+use Rattle.casefile.proofs.Accepted.{accepted_case}
 use Rattle.casefile.specs.Caller.{AcceptedCase}
 use Rattle.theory.specs.Written.{written_none, written_byte}
 use Rattle.theory.specs.Lists.{written}

@@ -8,7 +8,7 @@ use Rattle.theory.specs.TestLaws.{cond_true, cond_false}
 use Rattle.refusal.specs.declared.Refusal.TheVariants.{ShortBuffer}
 use Rattle.casefile.specs.declared.Sizes.{Sizes}
 use Rattle.casefile.specs.Gapless.{gapless, gapless_of}
-use Rattle.casefile.specs.Accepted.{accepted_case}
+use Rattle.casefile.proofs.Accepted.{accepted_case}
 use Rattle.desk.specs.Desk.{Desk, Question, Call, Reply}
 use Rattle.desk.specs.Case.{case_bytes}
 use Rattle.desk.specs.Refused.{number_reply}

@@ -13,7 +13,8 @@ use Rattle.casefile.specs.Answer.{sizes_of}
 use Rattle.desk_check.specs.declared.Examined.TheVariants.{Refused, Held}
 use Rattle.desk_check.specs.Answer.{examined_answer, Does, DoesWith}
 use Rattle.casefile.specs.Reading.{Content, CaseReading, refused, content}
-use Rattle.casefile.specs.Content.{ContentSound, content_sound}
+use Rattle.casefile.specs.Content.{ContentSound}
+use Rattle.casefile.proofs.Content.{content_sound}
 use Rattle.desk.specs.Desk.{Desk, Call, Reply, whole_table}
 use Rattle.desk.specs.Case.{table_size}
 use Rattle.desk.specs.Refused.{examined, accepted}

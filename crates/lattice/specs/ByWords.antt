@@ -3,30 +3,25 @@
 --   Answered: the answer is the reading's, and an accepted part's operations are in the words
 --   lattice_by, reason_by: the tests of words, as the code makes them; reading_lattice, reading-reason: what they say of the reading
 --   mask_is, codes_are, lattice_by_lem: the code's words are those of the part
-use Rattle.std.specs.Prelude.{ℕ, ◌+◌, ◌≤◌, ◌<◌, ◌≡◌, Bool, List, get_or}
+use Rattle.std.specs.Prelude.{ℕ, ◌<◌, ◌≡◌, Bool, List}
 use Rattle.std.proofs.Math.Path.{refl, ap, ap₂}
-use Rattle.std.proofs.Common.{sym, ◌∙◌, arith}
+use Rattle.std.proofs.Common.{sym, ◌∙◌}
 use Rattle.std.proofs.Math.Bool.{true, false, cond, ◌&&◌}
 use Rattle.std.specs.Int.Bits.{bit_and}
 use Rattle.theory.specs.Lists.{Filled}
-use Rattle.theory.specs.Part.{LatticePart, meet_of, join_of, top_of, bot_of, ops_of}
-use Rattle.theory.specs.TestLaws.{and_in, false_true, not_passed}
-use Rattle.elements.specs.declared.Lattice.{Lattice}
+use Rattle.theory.specs.Part.{LatticePart, meet_of, join_of}
+use Rattle.theory.specs.TestLaws.{and_in, false_true}
 use Rattle.refusal.specs.declared.Refusal.{Refusal}
 use Rattle.refusal.specs.declared.Refusal.TheVariants.{NoPartialOrder, NoMeetOrJoin, NotDistributive, BadComplement}
 use Rattle.lattice_order.specs.Tests.{partial_order, meets_and_joins, distributive, complement_rules}
 use Rattle.lattice_order.specs.Ordered.{ordered_in, ordered_out, meets_and_joins_in}
-use Rattle.lattice.specs.declared.LatticeCheck.{LatticeCheck}
-use Rattle.lattice.specs.declared.LatticeCheck.TheVariants.{Refused, Accepted}
-use Rattle.lattice.specs.Reading.{LatticeReading, refused, accepted, require, part_reading}
-use Rattle.lattice.specs.Answer.{top_and_bottom, lattice_answer}
-use Rattle.elements.specs.Words.{ops_in, Coded}
+use Rattle.lattice.specs.Reading.{refused, accepted, require, part_reading}
 use Rattle.lattice_codes.specs.Tests.{words_in, codes_by, down_of, all_of, is_word, ordered, closed, irreducibles, code_of, lattice_test, meets_and_joins_test}
 use Rattle.lattice_codes.specs.Cong.{is_word_cong, closed_cong, irreducibles_cong, ordered_cong}
 use Rattle.lattice_codes.specs.Order.{ordered_exactly}
 use Rattle.lattice_codes.specs.MeetsJoinsFound.{meets_and_joins_exactly}
 use Rattle.lattice_codes.specs.Accepting.{DistributiveLattice}
-use Rattle.lattice_codes.proofs.Accepting.{lattice_sound, lattice_exactly}
+use Rattle.lattice_codes.proofs.Accepting.{lattice_exactly}
 
 -- ---- the tests on lists of words
 

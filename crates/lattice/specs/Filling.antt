@@ -4,19 +4,18 @@
 --   involutive, antitone_pair, antitone: the rules of the complement, as the code tests them
 --   LatticeWords: a distributive lattice, its codes and the word of its irreducible elements
 --   answered_refused, answered-involutive, answered-antitone, answered-accepted: the answers
-use Rattle.std.specs.Prelude.{ℕ, ◌+◌, ◌%◌, ◌≤◌, ◌<◌, ◌≡◌, refl, Bool, true, false, cond, ◌&&◌, List, ltb, eqb, get_or}
-use Rattle.std.proofs.Common.{sym, ap, ap₂, ◌∙◌, arith, lt-ltb, le-ltb, ltb-true}
+use Rattle.std.specs.Prelude.{ℕ, ◌+◌, ◌≤◌, ◌<◌, ◌≡◌, refl, Bool, true, false, cond, ◌&&◌, List, ltb, eqb, get_or}
+use Rattle.std.proofs.Common.{sym, ap, ◌∙◌, arith, lt-ltb, le-ltb, ltb-true}
 use Rattle.theory.specs.Lists.{Filled}
 use Rattle.theory.specs.Part.{LatticePart, top_of, bot_of, element}
 use Rattle.theory.specs.Test.{all_below, ◌⇒◌}
-use Rattle.theory.specs.TestLaws.{and_in, and_false, cond_true, cond_false}
+use Rattle.theory.specs.TestLaws.{and_in, and_false}
 use Rattle.elements.specs.declared.Lattice.{Lattice}
 use Rattle.refusal.specs.declared.Refusal.{Refusal}
 use Rattle.refusal.specs.declared.Refusal.TheVariants.{BadComplement}
 use Rattle.lattice_order.specs.Tests.{all2, complement_rules}
 use Rattle.lattice_order.specs.Searched.{element_lt, element_cong}
 use Rattle.lattice_order.specs.Ordered.{Formed}
-use Rattle.lattice.specs.declared.LatticeCheck.{LatticeCheck}
 use Rattle.lattice.specs.declared.LatticeCheck.TheVariants.{Refused, Accepted}
 use Rattle.lattice.specs.Reading.{LatticeReading, refused, accepted, require, part_reading}
 use Rattle.lattice.specs.Answer.{top_and_bottom}

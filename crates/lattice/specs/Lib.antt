@@ -18,4 +18,3 @@ pub mod Rows  -- the words of an order, from its bytes row by row
 pub mod Parts  -- the same of a part: explicit, and the panel
 pub mod ByWords  -- the answer from the tests of words
 pub mod Filling  -- the 128 codes as the code fills them, and the complement's rules on them
-pub mod Check  -- the steps of the check, and the answer after each

@@ -2,7 +2,7 @@
 --   explicit_out: the form test of an explicit part, as facts; panel_is: a panel part is the one byte 0
 --   form_exactly, ordered_exactly, meets_and_joins_exactly, distributive_exactly, complements_exactly: each test says what its statement says
 --   lattice_refused: each refusal is given exactly when the part breaks what it asks and nothing earlier, and no other is given
-use Rattle.std.specs.Prelude.{ℕ, ◌+◌, ◌*◌, ◌≤◌, ◌<◌, ◌≡◌, refl, true, false, ◌&&◌, ◌||◌, ◌↔◌, ◌⊎◌, List, [], ◌∷◌, ltb, leb, length, get_or}
+use Rattle.std.specs.Prelude.{ℕ, ◌+◌, ◌*◌, ◌≤◌, ◌<◌, ◌≡◌, refl, true, false, ◌&&◌, ◌||◌, ◌↔◌, List, [], ◌∷◌, ltb, leb, length, get_or}
 use Rattle.std.proofs.Common.{ap, inl, inr, ⊎_elim, arith}
 use Rattle.std.proofs.Math.Bool.{Bool}
 use borrow.Author.Tests.{ltb-true, leb-true, eqb-true, eq-eqb, lt-ltb, le-leb}

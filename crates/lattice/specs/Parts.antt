@@ -1,16 +1,15 @@
 -- The words of a part's order, from its bytes: an explicit part, and the panel. Rests on theory's Part, lattice's Form and Accepted, Rows, Tests.
 --   panel_bytes, panel_down: the panel's table of 729 entries; explicit_bytes, explicit_down: an explicit part's bytes
 --   element-within: a number read as an element of a part
-use Rattle.std.specs.Prelude.{ℕ, ◌+◌, ◌*◌, ◌/◌, ◌%◌, ◌≤◌, ◌<◌, ◌≡◌, Bool, true, false, List, eqb, length, get_or}
+use Rattle.std.specs.Prelude.{ℕ, ◌+◌, ◌*◌, ◌/◌, ◌%◌, ◌<◌, ◌≡◌, true, false, List, eqb, length, get_or}
 use Rattle.std.proofs.Common.{ap, ap₂, ◌∙◌, arith}
 use Rattle.theory.specs.Lists.{Filled}
 use Rattle.theory.specs.Loop.{indicator_most}
-use Rattle.theory.specs.Part.{LatticePart, explicit_part, element}
-use Rattle.theory.specs.Simulation.{indicator}
+use Rattle.theory.specs.Part.{LatticePart, element}
 use Rattle.lattice_order.specs.Searched.{indicator-test, element_lt}
 use Rattle.lattice_order.specs.Ordered.{Formed}
-use Rattle.lattice.specs.Panel.{panel_order, panel_part}
-use Rattle.lattice.specs.Reading.{is_panel, lattice_of, lattice_form}
+use Rattle.lattice.specs.Panel.{panel_order}
+use Rattle.lattice.specs.Reading.{is_panel, lattice_of}
 use Rattle.lattice.specs.Conditions.{ExplicitForm}
 use Rattle.lattice.specs.Form.{part_panel, part_explicit}
 use Rattle.lattice.specs.PanelTable.{PanelOrder}

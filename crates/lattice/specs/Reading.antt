@@ -3,7 +3,7 @@
 --   is_panel, lattice_of: what the bytes say; explicit_form, lattice_form: refusal 4
 --   LatticeReading, require, part_reading, lattice_reading: the refusal, or the part accepted
 --   reflexive, antisymmetric, transitive, partial_order, meets_and_joins, distributive, complement_rules: lattice_order's tests, passed on
-use Rattle.std.specs.Prelude.{ℕ, ◌+◌, ◌*◌, Bool, true, false, cond, ◌&&◌, ◌||◌, List, ltb, leb, eqb, length, get_or}
+use Rattle.std.specs.Prelude.{ℕ, ◌+◌, ◌*◌, Bool, cond, ◌&&◌, ◌||◌, List, ltb, leb, eqb, length, get_or}
 use Rattle.theory.specs.Part.{LatticePart, meet_of, join_of, explicit_part}
 use Rattle.theory.specs.Test.{all_below}
 use Rattle.refusal.specs.declared.Refusal.{Refusal}

@@ -3,8 +3,8 @@
 --   Rowed: one row is added to the words; rowed_none, rowed_more, rowed_all: its loop
 --   Down: the words of the first rows; down_none, down_more, down_all: the loop over the rows
 --   row_inside: where a row stands
-use Rattle.std.specs.Prelude.{ℕ, zero, suc, ◌+◌, ◌*◌, ◌%◌, ◌^◌, ◌≤◌, ◌<◌, ◌≡◌, refl, Bool, true, false, List, eqb, length, get_or, set}
-use Rattle.std.proofs.Common.{sym, ap, ◌∙◌, ⊎_elim, le_refl, not-suc-le-zero, suc-mul, mul-le-mul_right, eq-or-lt_of_le, add-one, arith, get_or-set_same, get_or-set_other}
+use Rattle.std.specs.Prelude.{ℕ, zero, suc, ◌+◌, ◌*◌, ◌%◌, ◌^◌, ◌≤◌, ◌<◌, ◌≡◌, refl, Bool, List, eqb, length, get_or, set}
+use Rattle.std.proofs.Common.{sym, ap, ◌∙◌, ⊎_elim, le_refl, not-suc-le-zero, suc-mul, mul-le-mul_right, eq-or-lt_of_le, arith, get_or-set_same, get_or-set_other}
 use Rattle.std.specs.Int.Bits.{bit_or}
 use Rattle.theory.specs.Simulation.{indicator}
 use Rattle.theory.specs.Lists.{Filled}

@@ -2,7 +2,7 @@
 -- Exactly the distributive lattices pass it. Rests on lattice_order's Ordered, Bounds and Tests, elements' Bits and Laws, Tests, Order, Bounded, Birkhoff.
 --   lattice_sound: what passes is one; test_complete: each one passes; lattice_exactly: both; bottom_code: the code of the bottom is 0
 use Rattle.std.specs.Prelude.{ℕ, zero, suc, ◌^◌, ◌≤◌, ◌<◌, ◌≡◌, refl, Bool, true, false, ◌&&◌, ◌||◌}
-use Rattle.std.proofs.Common.{sym, ap, ap₂, ◌∙◌, le_refl, not-suc-le-zero, arith, eqb-true, eq-eqb}
+use Rattle.std.proofs.Common.{sym, ap₂, ◌∙◌, le_refl, not-suc-le-zero, arith, eqb-true, eq-eqb}
 use Rattle.std.specs.Int.Bits.{bit_and, bit_or}
 use Rattle.std.proofs.lemmas.Nat.{or_comm}
 use Rattle.std.proofs.Math.Dec.{eqb}
@@ -10,7 +10,7 @@ use Rattle.theory.specs.Part.{LatticePart, meet_of, join_of}
 use Rattle.theory.specs.TestLaws.{below_suc, bool_same, and_l, and_r, and_in, ⇒-elim, ⇒-in, not_passed, false_true}
 use Rattle.lattice_order.specs.Tests.{partial_order, meets_and_joins, distributive}
 use Rattle.lattice_order.specs.Searched.{all2_at, all2_in, join-reversed, meet_some, TopAt, fold_up_to}
-use Rattle.lattice_order.specs.DeMorgan.{reversed, MeetAt}
+use Rattle.lattice_order.specs.DeMorgan.{reversed}
 use Rattle.lattice_order.specs.Ordered.{Ordered, MeetsJoinsFound, ordered_in, ordered_out, ordered-reversed, meets_and_joins_in, meets_and_joins_out, meets_and_joins-reversed, top_is}
 use Rattle.elements.specs.Bits.{bits, bits_cong, bits_same, bits_and, bits_or, bits_none, bits_at, without, without_l, without_r}
 use Rattle.elements.specs.Laws.{Within, and_left, and_right, and_glb, or_left, or_right, or_lub}

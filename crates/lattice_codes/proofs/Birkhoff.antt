@@ -2,12 +2,11 @@
 -- codes. Rests on lattice_order's Ordered, Bounds and Tests, elements' Bits and Laws, Tests, Order, Lattice.
 --   code_bits: the bits of a code; code-order: the order is that of the codes; code-distinct; code_meet: the code of a meet
 --   distributive-sound: where the | of every two codes is a code, the lattice is distributive; code-join: where it is, that of the join
-use Rattle.std.specs.Prelude.{ℕ, zero, suc, ◌+◌, ◌-◌, ◌^◌, ◌≤◌, ◌<◌, ◌≡◌, refl, Bool, true, false, ◌&&◌, ◌||◌, ◌⊎◌}
+use Rattle.std.specs.Prelude.{ℕ, zero, suc, ◌-◌, ◌^◌, ◌<◌, ◌≡◌, refl, Bool, true, false, ◌&&◌, ◌||◌}
 use Rattle.std.proofs.Math.Path.{sym, ap}
-use Rattle.std.proofs.Common.{ap₂, ◌∙◌, inl, inr, ⊎_elim, le_refl, not-suc-le-zero, arith}
+use Rattle.std.proofs.Common.{ap₂, ◌∙◌, ⊎_elim, le_refl, not-suc-le-zero, arith}
 use borrow.Author.Tests.{eqb-true, eq-eqb}
 use Rattle.std.specs.Int.Bits.{bit_and, bit_or}
-use Rattle.std.proofs.lemmas.Nat.{and_comm}
 use Rattle.std.proofs.Math.Dec.{eqb}
 use Rattle.theory.specs.Part.{LatticePart, meet_of, join_of}
 use Rattle.theory.specs.TestLaws.{decide, bool_same, and_l, and_r, and_in, false_true}
@@ -20,7 +19,7 @@ use Rattle.elements.specs.Laws.{and_or, Within, within-refl, or_left, or_right, 
 use Rattle.elements.specs.Words.{within}
 use Rattle.lattice_codes.specs.Tests.{any_in, any_out, down_of, is_word, irreducible, code_of}
 use Rattle.lattice_codes.specs.Order.{down_lt}
-use Rattle.lattice_codes.specs.MeetsJoinsFound.{Meets, meet_word, meets_and_joins-meets}
+use Rattle.lattice_codes.specs.MeetsJoinsFound.{Meets, meets_and_joins-meets}
 use Rattle.lattice_codes.specs.Birkhoff.{below, Irreducible}
 
 pub code_bits : (P : LatticePart) (a : ℕ) → code_of P a ≡ bits P.size (below P a)

@@ -4,10 +4,10 @@
 use Rattle.std.specs.Prelude.{ℕ, zero, suc, ◌≤◌, ◌<◌, ◌≡◌, refl, Bool, true, false, ◌↔◌}
 use Rattle.std.proofs.Common.{sym, ap₂, ◌∙◌, le_refl, not-suc-le-zero, arith, ltb-true, lt-ltb}
 use Rattle.theory.specs.Irreducible.{JoinIrreducible}
-use Rattle.theory.specs.Part.{LatticePart, join_of, bot_of, element, ops_of}
+use Rattle.theory.specs.Part.{LatticePart, join_of, bot_of, ops_of}
 use Rattle.theory.specs.TestLaws.{below_suc, bool_same, false_true}
 use Rattle.lattice_order.specs.Searched.{element_id, bot-reversed, TopAt}
-use Rattle.lattice_order.specs.DeMorgan.{reversed, MeetAt}
+use Rattle.lattice_order.specs.DeMorgan.{reversed}
 use Rattle.lattice_order.specs.Ordered.{Formed, Ordered, MeetsJoinsFound, ordered-reversed, meets_and_joins-reversed, join_at, top_is, top_found}
 use Rattle.elements.specs.Bits.{without, without_in, without_l, without_r}
 use Rattle.lattice_codes.specs.Tests.{down_of, irreducible}

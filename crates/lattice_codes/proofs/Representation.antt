@@ -1,21 +1,18 @@
 -- Birkhoff's theorem for a distributive lattice, in the terms of its codes. Rests on theory's Irreducible, Tests, Birkhoff, Irreducible and Accepting.
 --     every set of join-irreducible elements that has those below its own is one element's code
 --   birkhoff: every distributive lattice is so; code_unique: no two elements have one code
-use Rattle.std.specs.Prelude.{ℕ, ◌^◌, ◌<◌, ◌≡◌, refl, Bool, true, ◌&&◌, ◌↔◌, eqb}
+use Rattle.std.specs.Prelude.{ℕ, ◌<◌, ◌≡◌, Bool, true, ◌&&◌}
 use Rattle.std.proofs.Common.{sym, ap, ◌∙◌}
-use Rattle.std.specs.Int.Bits.{bit_and, bit_or}
-use Rattle.theory.specs.Irreducible.{JoinIrreducible}
-use Rattle.theory.specs.Part.{LatticePart, meet_of, join_of, ops_of}
+use Rattle.theory.specs.Part.{LatticePart, meet_of}
 use Rattle.theory.specs.TestLaws.{and_l, and_r, and_in}
 use Rattle.lattice_order.specs.Ordered.{Formed, meet_at}
-use Rattle.elements.specs.Bits.{bits, bits_at}
-use Rattle.elements.specs.Words.{within}
-use Rattle.lattice_codes.specs.Tests.{ordered, closed, is_word, down_of, irreducible, irreducibles, code_of, lattice_test}
+use Rattle.elements.specs.Bits.{bits_at}
+use Rattle.lattice_codes.specs.Tests.{ordered, closed, down_of, irreducibles, code_of}
 use Rattle.lattice_codes.specs.MeetsJoinsFound.{meets_and_joins-meets}
 use Rattle.lattice_codes.specs.Birkhoff.{below}
 use Rattle.lattice_codes.proofs.Birkhoff.{code_bits, code-order, code-distinct, code_meet, code-join}
 use Rattle.lattice_codes.proofs.Irreducible.{irreducible-exactly}
-use Rattle.lattice_codes.specs.Accepting.{DistributiveLattice, CodeAt, DownSet}
+use Rattle.lattice_codes.specs.Accepting.{DistributiveLattice}
 use Rattle.lattice_codes.proofs.Accepting.{set_code, test_complete}
 use Rattle.lattice_codes.specs.Representation.{has_bit, Represented}
 

@@ -1,15 +1,14 @@
 -- Tests of words that agree below n. Rests on theory's TestLaws, Tests.
 --   ordered_cong, closed_cong, is_word_cong, irreducibles_cong
-use Rattle.std.specs.Prelude.{ℕ, ◌-◌, ◌^◌, ◌<◌, ◌≡◌, refl, Bool, cond, ◌&&◌}
-use Rattle.std.proofs.Common.{sym, ◌∙◌}
+use Rattle.std.specs.Prelude.{ℕ, ◌-◌, ◌^◌, ◌<◌, ◌≡◌, Bool, ◌&&◌}
+use Rattle.std.proofs.Common.{◌∙◌}
 use Rattle.std.proofs.Math.Path.{ap, ap₂}
-use Rattle.std.specs.Int.Bits.{bit_and, bit_or}
 use Rattle.std.proofs.Math.Dec.{eqb}
 use Rattle.theory.specs.Test.{◌⇒◌}
 use Rattle.theory.specs.TestLaws.{all_cong}
 use Rattle.elements.specs.Bits.{bits_cong}
 use Rattle.elements.specs.Words.{within}
-use Rattle.lattice_codes.specs.Tests.{any_cong, same, both, is_word, ordered_by, pair_ordered, ordered, pair_closed, closed, irreducible, irreducibles}
+use Rattle.lattice_codes.specs.Tests.{any_cong, same, both, is_word, ordered_by, pair_ordered, ordered, pair_closed, closed, irreducibles}
 
 module _ (n : ℕ) (f g : ℕ → ℕ) (h : (a : ℕ) → a < n → f a ≡ g a) where
   pub is_word_cong : (x : ℕ) → is_word n f x ≡ is_word n g x

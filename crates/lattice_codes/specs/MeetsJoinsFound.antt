@@ -4,7 +4,7 @@
 --   closed_at, meets-closed: from and to the test; top_from, top_word: the word of a top
 --   meets_and_joins_exactly: the test on the words is that of the order
 use Rattle.std.specs.Prelude.{ℕ, zero, suc, ◌^◌, ◌≤◌, ◌<◌, ◌≡◌, refl, Bool, true, false, ◌&&◌}
-use Rattle.std.proofs.Common.{sym, ap, ap₂, ◌∙◌, le_refl, not-suc-le-zero, arith, eqb-true, eq-eqb}
+use Rattle.std.proofs.Common.{sym, ◌∙◌, le_refl, not-suc-le-zero, arith, eqb-true, eq-eqb}
 use Rattle.std.specs.Int.Bits.{bit_and}
 use Rattle.std.proofs.Math.Dec.{eqb}
 use Rattle.theory.specs.Part.{LatticePart, meet_of, join_of}
@@ -13,7 +13,7 @@ use Rattle.lattice_order.specs.Tests.{meets_and_joins}
 use Rattle.lattice_order.specs.Searched.{all2_at, all2_in, join-reversed, meet_some, fold_up_to, TopAt}
 use Rattle.lattice_order.specs.DeMorgan.{reversed, MeetAt}
 use Rattle.lattice_order.specs.Ordered.{Ordered, MeetsJoinsFound, meets_and_joins_in, meets_and_joins_out, meet_at, top_is}
-use Rattle.elements.specs.Bits.{bits, bits_cong, bits_same, bits_and, bits_at}
+use Rattle.elements.specs.Bits.{bits_cong, bits_same, bits_and, bits_at}
 use Rattle.elements.specs.Words.{within}
 use Rattle.lattice_codes.specs.Tests.{any_in, any_out, down_of, all_of, is_word, pair_closed, closed, meets_and_joins_test}
 

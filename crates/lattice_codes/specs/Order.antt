@@ -3,19 +3,18 @@
 --   by-words, word_in, word_out, word-distinct, ordered-sound: what the test says, with any words; ordered_complete: the other way round
 --   down-within: words in order; down-distinct, down_lt: different elements have different words, one at or below another has the lesser
 --   ordered_exactly: the test on the words of the elements at or below each is that of the order
-use Rattle.std.specs.Prelude.{ℕ, ◌^◌, ◌≤◌, ◌<◌, ◌≡◌, refl, Bool, true, false, cond, ◌&&◌, eqb}
+use Rattle.std.specs.Prelude.{ℕ, ◌^◌, ◌<◌, ◌≡◌, refl, Bool, true, false, eqb}
 use Rattle.std.proofs.Math.Path.{sym}
-use Rattle.std.proofs.Common.{ap, ap₂, ◌∙◌, arith}
+use Rattle.std.proofs.Common.{◌∙◌, arith}
 use borrow.Author.Tests.{eqb-true, eq-eqb}
 use Rattle.std.specs.Int.Bits.{bit_and}
 use Rattle.std.proofs.lemmas.Nat.{and_le_r}
 use Rattle.theory.specs.Part.{LatticePart}
-use Rattle.theory.specs.Test.{◌⇒◌}
 use Rattle.theory.specs.TestLaws.{bool_same, and_l, and_r, and_in, ⇒-elim, ⇒-in}
 use Rattle.lattice_order.specs.Tests.{partial_order}
 use Rattle.lattice_order.specs.Searched.{all2_at, all2_in}
 use Rattle.lattice_order.specs.Ordered.{Ordered, ordered_in, ordered_out}
-use Rattle.elements.specs.Bits.{bits, bits_same, bits_within_in, bits_within_out, bits_at}
+use Rattle.elements.specs.Bits.{bits_same, bits_within_in, bits_within_out, bits_at}
 use Rattle.elements.specs.Laws.{Within, within-refl, within_trans, within_antisym}
 use Rattle.elements.specs.Words.{within}
 use Rattle.lattice_codes.specs.Tests.{down_of, same, ordered_by, pair_ordered, ordered}

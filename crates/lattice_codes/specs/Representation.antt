@@ -2,19 +2,14 @@
 --   has_bit: bit e of a word
 --   Represented: bit e of a's code is set exactly when e is join-irreducible and at or below a; codes say the order, meet is &, join is |, and
 --     every set of join-irreducible elements that has those below its own is one element's code
-use Rattle.std.specs.Prelude.{ℕ, ◌^◌, ◌<◌, ◌≡◌, refl, Bool, true, ◌&&◌, ◌↔◌, eqb}
-use Rattle.std.proofs.Common.{sym, ap, ◌∙◌}
+use Rattle.std.specs.Prelude.{ℕ, ◌^◌, ◌<◌, ◌≡◌, Bool, true, ◌↔◌, eqb}
 use Rattle.std.specs.Int.Bits.{bit_and, bit_or}
 use Rattle.theory.specs.Irreducible.{JoinIrreducible}
 use Rattle.theory.specs.Part.{LatticePart, meet_of, join_of, ops_of}
-use Rattle.theory.specs.TestLaws.{and_l, and_r, and_in}
-use Rattle.lattice_order.specs.Ordered.{Formed, meet_at}
-use Rattle.elements.specs.Bits.{bits, bits_at}
+use Rattle.elements.specs.Bits.{bits}
 use Rattle.elements.specs.Words.{within}
-use Rattle.lattice_codes.specs.Tests.{ordered, closed, is_word, down_of, irreducible, irreducibles, code_of, lattice_test}
-use Rattle.lattice_codes.specs.MeetsJoinsFound.{meets_and_joins-meets}
-use Rattle.lattice_codes.specs.Birkhoff.{below}
-use Rattle.lattice_codes.specs.Accepting.{DistributiveLattice, CodeAt, DownSet}
+use Rattle.lattice_codes.specs.Tests.{code_of}
+use Rattle.lattice_codes.specs.Accepting.{CodeAt, DownSet}
 
 -- bit e of the word x
 abbrev pub has_bit : ℕ → ℕ → Bool

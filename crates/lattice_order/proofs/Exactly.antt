@@ -2,7 +2,7 @@
 -- Sound.
 --   lattice_ordered, lattice_meets_and_joins, lattice_distributive, lattice_complements: such a lattice passes each test
 --   sound_lattice: what passes is one
-use Rattle.std.specs.Prelude.{ℕ, ◌<◌, ◌≡◌, true, ltb}
+use Rattle.std.specs.Prelude.{ℕ, ◌<◌, ◌≡◌, true}
 use Rattle.std.proofs.Common.{sym, ap, ◌∙◌}
 use borrow.Author.Tests.{ltb-true, lt-ltb, eq-eqb}
 use Rattle.theory.specs.TestLaws.{and_in, ⇒-in, all_in}

@@ -15,7 +15,7 @@ use Rattle.theory.specs.Part.{LatticePart, meet_of, join_of, top_of, bot_of, ele
 use Rattle.lattice_order.specs.Tests.{distributive, complement_rules}
 use Rattle.lattice_order.specs.Searched.{element_lt, element_id, all2_at, all3_at, bot-reversed, TopAt}
 use Rattle.lattice_order.specs.DeMorgan.{reversed, MeetAt}
-use Rattle.lattice_order.specs.Ordered.{Formed, Ordered, MeetsJoinsFound, ordered-reversed, meets_and_joins-reversed, meet_at, join_at, top_is, top_found}
+use Rattle.lattice_order.specs.Ordered.{ordered-reversed, meets_and_joins-reversed, meet_at, join_at, top_is, top_found}
 use Rattle.lattice_order.specs.Sound.{LatticeSound}
 
 module _ (P : LatticePart) (s : LatticeSound P) where

@@ -7,7 +7,8 @@ use Rattle.theory.specs.Simulation.{proposition_part, successor_part, F, round_o
 use Rattle.theory.specs.Part.{is_meet, is_join, meet_of, join_of, top_of, bot_of, element}
 use Rattle.theory.specs.Test.{all_below, first_below}
 use Rattle.casefile.specs.Reading.{case_reading}
-use Rattle.casefile.specs.Examples.{report_case, report_reading}
+use Rattle.casefile.specs.Examples.{report_case}
+use Rattle.casefile.proofs.Examples.{report_reading}
 use Rattle.rounds.specs.Table.{row_same, simulation_test}
 use Rattle.listing.specs.Text.{decimal_within, decimal, each, refused_text, row_text, table_text, formula_text, formula_line, formulas_text, accepted_text, settled_round, text_of, listing_text}
 

@@ -13,7 +13,8 @@ use Rattle.theory.specs.Folds.{big_meet_cong}
 use Rattle.theory.proofs.Rounds.{F_element, round_element, settled_greatest}
 use Rattle.formula.specs.RoundTrip.{formula_part}
 use Rattle.casefile.specs.Reading.{Content, content, case_reading}
-use Rattle.casefile.specs.Content.{ContentSound, content_sound}
+use Rattle.casefile.specs.Content.{ContentSound}
+use Rattle.casefile.proofs.Content.{content_sound}
 use Rattle.desk.specs.Case.{ops, model1, model2, model_in, formula_in, round_in, IsT}
 use Rattle.desk.proofs.Demand2.{value_of}
 use Rattle.listing.specs.Text.{each, table_text, formula_text, formula_line, formulas_text, accepted_text, listing_text}

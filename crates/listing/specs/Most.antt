@@ -9,7 +9,8 @@ use Rattle.theory.specs.Folds.{big_meet-element}
 use Rattle.theory.proofs.Rounds.{round_element}
 use Rattle.theory.proofs.Sharp.{T_sharp}
 use Rattle.casefile.specs.Reading.{Content, content, case_reading}
-use Rattle.casefile.specs.Content.{ContentSound, content_sound, parts_are}
+use Rattle.casefile.specs.Content.{ContentSound}
+use Rattle.casefile.proofs.Content.{content_sound, parts_are}
 use Rattle.casefile.specs.Placed.{accepted_placed}
 use Rattle.desk.specs.Case.{ops, model1, model2, model_in, formula_in, N1, N2, round_in, IsT}
 use Rattle.listing.specs.Text.{blank, colon, line_end, row_label, rounds_label, score_label, formula_label, item, last_item, heading, entries_text, row_text, rows_text, table_text, formula_text, formula_line, formulas_text, accepted_text}

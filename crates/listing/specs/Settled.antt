@@ -8,7 +8,8 @@ use Rattle.theory.proofs.Rounds.{round_next, T_at_most-size, T_exists}
 use Rattle.theory.specs.Height.{longest_chain}
 use Rattle.theory.specs.TestLaws.{FirstAt, first_unique, not_passed}
 use Rattle.casefile.specs.Reading.{Content, content, case_reading}
-use Rattle.casefile.specs.Content.{ContentSound, content_sound}
+use Rattle.casefile.specs.Content.{ContentSound}
+use Rattle.casefile.proofs.Content.{content_sound}
 use Rattle.rounds.specs.Table.{simulation_test}
 use Rattle.rounds.specs.Round.{simulation_test_lem}
 use Rattle.desk.specs.Case.{ops, model1, model2, operator, round_in, limit, IsT}

@@ -2,15 +2,14 @@
 use mathlib.Core.Path.{◌≡◌, sym, ◌∙◌}
 use mathlib.Core.Bool.{true}
 use native.Mathlib.Omega.{arith}
-use borrow.Author.Rules.{rules}
-use borrow.Author.Tests.{not-true, not-false, ltb-true, lt-ltb}
+use borrow.Author.Tests.{ltb-true, lt-ltb}
 use lib.Dec.{ltb, leb}
 use lib.ListN.{length}
 use Rattle.theory.specs.TestLaws.{and_l}
 use Rattle.casefile.specs.Directory.{size_test, directory_test}
 use Rattle.casefile.specs.Placed.{has_directory, all_placed}
 use Rattle.casefile.specs.Conditions.{HasDirectory, Placed}
-use Rattle.casefile.specs.Answered.{size-answered, directory-answered, place_answered, parts_answered}
+use Rattle.casefile.proofs.Answered.{size-answered, directory-answered, place_answered, parts_answered}
 use Rattle.casefile.proofs.check.Goals as goal
 use Rattle.casefile.proofs.check.Goals.{Else-i-bytes, Else-not-right_directory, Else-not-right_size}
 

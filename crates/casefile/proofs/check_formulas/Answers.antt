@@ -1,9 +1,7 @@
 -- `casefile::check_formulas` meets its contract: the parts passed so far are formulas.
-use Prim.Native.Nat.{◌-◌, ◌≤◌}
 use mathlib.Core.Path.{sym, ◌∙◌}
 use native.Mathlib.Omega.{arith}
-use borrow.Author.Tests.{not-true, not-false}
-use Rattle.casefile.specs.Formulas.{FormulasUpto, formulas_none, formulas_more, formulas_stop, formulas_done}
+use Rattle.casefile.proofs.Formulas.{formulas_none, formulas_more, formulas_stop, formulas_done}
 use Rattle.casefile.proofs.check_formulas.Goals as goal
 
 pub loop-f-init : goal.loop-f-init

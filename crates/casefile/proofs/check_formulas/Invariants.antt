@@ -1,8 +1,5 @@
 use Prim.Native.Nat.{◌-◌, ◌≤◌}
-use mathlib.Core.Path.{sym, ◌∙◌}
-use native.Mathlib.Omega.{arith}
-use borrow.Author.Tests.{not-true, not-false}
-use Rattle.casefile.specs.Formulas.{FormulasUpto, formulas_none, formulas_more, formulas_stop, formulas_done}
+use Rattle.casefile.specs.Formulas.{FormulasUpto}
 use Rattle.casefile.proofs.check_formulas.Given as goal
 
 abbrev pub invariant-loop-f : goal.invariant-loop-f

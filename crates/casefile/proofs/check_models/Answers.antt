@@ -1,6 +1,5 @@
 -- `casefile::check_models` meets its contract: by the check of model 1.
 use mathlib.Core.Path.{sym, ap, ◌∙◌}
-use borrow.Author.Rules.{rules}
 use Rattle.model.specs.Reading.{model_answer}
 use Rattle.casefile.specs.Steps.{after_first}
 use Rattle.casefile.proofs.check_models.Goals as goal

@@ -2,7 +2,6 @@
 use Prim.Native.Nat.{ℕ}
 use mathlib.Core.Path.{sym, ap, ◌∙◌}
 use mathlib.Core.List.{List}
-use borrow.Author.Rules.{rules}
 use Rattle.lattice.specs.Reading.{lattice_reading}
 use Rattle.lattice.specs.Answer.{lattice_answer}
 use Rattle.casefile.specs.Steps.{after_checked}

@@ -1,6 +1,5 @@
 -- `casefile::check_rest` meets its contract: by the check of the formulas.
 use mathlib.Core.Path.{sym, ap, ◌∙◌}
-use borrow.Author.Rules.{rules}
 use Rattle.casefile.specs.Steps.{rest_of}
 use Rattle.casefile.proofs.check_rest.Goals as goal
 

@@ -1,9 +1,8 @@
 -- `casefile::check_second` meets its contract: by the check of model 2.
 use mathlib.Core.Path.{sym, ap, ◌∙◌}
-use borrow.Author.Rules.{rules}
 use Rattle.model.specs.Reading.{model_answer}
 use Rattle.casefile.specs.Steps.{after_second}
-use Rattle.casefile.specs.Answered.{second_equal, second_differs}
+use Rattle.casefile.proofs.Answered.{second_equal, second_differs}
 use Rattle.casefile.proofs.check_second.Goals as goal
 
 pub returns-in-Refused : goal.returns-in-Refused

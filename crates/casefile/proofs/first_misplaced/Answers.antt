@@ -1,10 +1,7 @@
 -- `casefile::first_misplaced` meets its contract: the parts passed so far are placed.
-use Prim.Native.Nat.{◌-◌, ◌≤◌}
 use mathlib.Core.Path.{sym, ◌∙◌}
 use native.Mathlib.Omega.{arith}
-use borrow.Author.Tests.{not-true, not-false}
-use Rattle.casefile.specs.Directory.{part_count}
-use Rattle.casefile.specs.Misplaced.{PlacedUpto, upto_none, upto_more, upto_stop, upto_done}
+use Rattle.casefile.specs.Misplaced.{upto_none, upto_more, upto_stop, upto_done}
 use Rattle.casefile.proofs.first_misplaced.Goals as goal
 
 pub loop-i-init : goal.loop-i-init

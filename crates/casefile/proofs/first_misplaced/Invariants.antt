@@ -1,9 +1,6 @@
 use Prim.Native.Nat.{◌-◌, ◌≤◌}
-use mathlib.Core.Path.{sym, ◌∙◌}
-use native.Mathlib.Omega.{arith}
-use borrow.Author.Tests.{not-true, not-false}
 use Rattle.casefile.specs.Directory.{part_count}
-use Rattle.casefile.specs.Misplaced.{PlacedUpto, upto_none, upto_more, upto_stop, upto_done}
+use Rattle.casefile.specs.Misplaced.{PlacedUpto}
 use Rattle.casefile.proofs.first_misplaced.Given as goal
 
 abbrev pub invariant-loop-i : goal.invariant-loop-i

@@ -2,7 +2,6 @@
 use Prim.Native.Nat.{ℕ}
 use mathlib.Core.Path.{sym, ap, ◌∙◌}
 use mathlib.Core.List.{List}
-use borrow.Author.Rules.{rules}
 use Rattle.formula.specs.Bytes.{formula_reading}
 use Rattle.formula.specs.Answer.{checked}
 use Rattle.casefile.specs.Steps.{is_accepted}

@@ -1,7 +1,6 @@
 -- `casefile::part_end` meets its contract: the sum of what its two calls give.
 use Prim.Native.Nat.{◌+◌}
 use mathlib.Core.Path.{ap₂}
-use borrow.Author.Rules.{rules}
 use Rattle.casefile.proofs.part_end.Goals as goal
 
 pub returns : goal.returns

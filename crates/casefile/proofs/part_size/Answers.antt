@@ -1,5 +1,4 @@
 -- `casefile::part_size` meets its contract: the pair stands in the directory.
-use borrow.Author.Rules.{rules}
 use Rattle.casefile.specs.Directory.{part_size}
 use Rattle.casefile.proofs.part_size.Goals as goal
 

@@ -1,5 +1,4 @@
 -- `casefile::part_start` meets its contract: the pair stands in the directory.
-use borrow.Author.Rules.{rules}
 use Rattle.casefile.specs.Directory.{part_start}
 use Rattle.casefile.proofs.part_start.Goals as goal
 

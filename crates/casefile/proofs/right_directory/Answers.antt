@@ -1,5 +1,4 @@
 -- `casefile::right_directory` meets its contract: by its tests.
-use borrow.Author.Rules.{rules}
 use borrow.Author.Tests.{le-leb, lt-leb}
 use Rattle.theory.specs.TestLaws.{and_false}
 use Rattle.casefile.specs.Directory.{part_count}

@@ -1,6 +1,5 @@
 -- `casefile::well_placed` meets its contract: by its tests.
 use native.Mathlib.Omega.{arith}
-use borrow.Author.Rules.{rules}
 use borrow.Author.Tests.{lt-ltb, le-ltb, le-leb, lt-leb}
 use Rattle.theory.specs.TestLaws.{and_false}
 use Rattle.casefile.specs.Directory.{part_start, part_size}

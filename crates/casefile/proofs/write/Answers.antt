@@ -2,9 +2,8 @@
 use mathlib.Core.Path.{◌∙◌}
 use native.Mathlib.Omega.{arith}
 use lib.ListN.{length-set}
-use borrow.Author.Rules.{rules}
 use Rattle.casefile.specs.Directory.{part_count}
-use Rattle.casefile.specs.Writer.{directory-fits, case_written}
+use Rattle.casefile.proofs.WriterLaws.{directory-fits, case_written}
 use Rattle.casefile.proofs.write.Goals as goal
 
 pub bounds-out-0 : goal.bounds-out-0

@@ -4,7 +4,7 @@ use mathlib.Core.Path.{◌≡◌, sym, ◌∙◌}
 use mathlib.Core.Bool.{false}
 use native.Mathlib.Omega.{arith}
 use lib.Seq.{length-take-le}
-use Rattle.casefile.specs.Caller.{when_accepted, when_refused}
+use Rattle.casefile.proofs.Caller.{when_accepted, when_refused}
 use Rattle.desk.specs.Desk.{Desk}
 use Rattle.desk.specs.Refused.{short, rules_obeyed}
 use Rattle.desk_check.specs.Read.{desk_of}

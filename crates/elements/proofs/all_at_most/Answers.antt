@@ -1,11 +1,7 @@
 -- `elements::all_at_most` meets its contract: each byte before the counter is at or below. Assumes nothing.
-use Prim.Native.Nat.{◌+◌, ◌≤◌, ◌-◌}
 use native.Mathlib.Omega.{arith}
-use borrow.Author.Rules.{rules}
 use borrow.Author.Tests.{eq-eqb, ne_eqb}
-use lib.ListN.{get_or}
-use Rattle.theory.specs.Loop.{Passed, passed_none, passed_more, passed_stop, passed_all}
-use Rattle.elements.specs.Words.{code_in, within}
+use Rattle.theory.specs.Loop.{passed_none, passed_more, passed_stop, passed_all}
 use Rattle.elements.proofs.all_at_most.Goals as goal
 
 pub loop-i-init : goal.loop-i-init

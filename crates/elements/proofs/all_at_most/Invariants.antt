@@ -1,9 +1,6 @@
 use Prim.Native.Nat.{◌+◌, ◌≤◌, ◌-◌}
-use native.Mathlib.Omega.{arith}
-use borrow.Author.Rules.{rules}
-use borrow.Author.Tests.{eq-eqb, ne_eqb}
 use lib.ListN.{get_or}
-use Rattle.theory.specs.Loop.{Passed, passed_none, passed_more, passed_stop, passed_all}
+use Rattle.theory.specs.Loop.{Passed}
 use Rattle.elements.specs.Words.{code_in, within}
 use Rattle.elements.proofs.all_at_most.Given as goal
 

@@ -1,6 +1,5 @@
 -- `elements::at_most` meets its contract: by the words of both. Assumes nothing.
 use mathlib.Core.Path.{ap₂}
-use borrow.Author.Rules.{rules}
 use Rattle.elements.specs.Words.{within}
 use Rattle.elements.proofs.at_most.Goals as goal
 

@@ -1,10 +1,9 @@
 -- `elements::below` meets its contract: each byte before the counter is below the limit.
-use Prim.Native.Nat.{◌+◌, ◌≤◌, ◌-◌}
+use Prim.Native.Nat.{◌+◌}
 use native.Mathlib.Omega.{arith}
 use borrow.Author.Tests.{lt-ltb, le-ltb}
-use lib.Dec.{ltb}
 use lib.ListN.{get_or}
-use Rattle.theory.specs.Loop.{Passed, passed_none, passed_more, passed_stop, passed_all}
+use Rattle.theory.specs.Loop.{passed_none, passed_more, passed_stop, passed_all}
 use Rattle.elements.proofs.below.Goals as goal
 
 pub loop-i-init : goal.loop-i-init

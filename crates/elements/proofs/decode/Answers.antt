@@ -1,16 +1,11 @@
 -- `elements::decode` meets its contract: the guess has the code, or no number passed has it. Assumes nothing.
-use mathlib.Core.Path.{◌≡◌, sym, ◌∙◌}
-use mathlib.Core.Bool.{false}
-use Prim.Native.Nat.{ℕ, ◌≤◌, ◌<◌, ◌-◌}
+use mathlib.Core.Path.{sym, ◌∙◌}
 use native.Mathlib.Nat.{not-suc-le-zero, le_refl}
 use native.Mathlib.Omega.{arith}
 use borrow.Author.Count.{below_more}
 use borrow.Author.Tests.{eq-eqb, ne_eqb}
-use lib.Dec.{eqb}
-use lib.ListN.{get_or}
 use Rattle.theory.specs.TestLaws.{first_unique}
 use Rattle.elements.proofs.Coded.{guess_is}
-use borrow.Author.Rules.{rules}
 use Rattle.elements.proofs.decode.Goals as goal
 
 pub returns-then-y-x : goal.returns-then-y-x

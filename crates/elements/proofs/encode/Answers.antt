@@ -1,10 +1,7 @@
 -- `elements::encode` meets its contract: the words below i are written.
-use mathlib.Core.Path.{◌≡◌, refl}
-use Prim.Native.Nat.{◌+◌, ◌≤◌, ◌-◌}
-use lib.ListN.{length, get_or, length-set}
-use Rattle.theory.specs.Written.{Slice, slice_none, slice_more, slice_all}
-use Rattle.elements.specs.Words.{code_in}
-use borrow.Author.Rules.{rules}
+use mathlib.Core.Path.{refl}
+use lib.ListN.{length-set}
+use Rattle.theory.specs.Written.{slice_none, slice_more, slice_all}
 use native.Mathlib.Omega.{arith}
 use Rattle.elements.proofs.encode.Goals as goal
 

@@ -1,10 +1,8 @@
-use mathlib.Core.Path.{◌≡◌, refl}
+use mathlib.Core.Path.{◌≡◌}
 use Prim.Native.Nat.{◌+◌, ◌≤◌, ◌-◌}
-use lib.ListN.{length, get_or, length-set}
-use Rattle.theory.specs.Written.{Slice, slice_none, slice_more, slice_all}
+use lib.ListN.{length, get_or}
+use Rattle.theory.specs.Written.{Slice}
 use Rattle.elements.specs.Words.{code_in}
-use borrow.Author.Rules.{rules}
-use native.Mathlib.Omega.{arith}
 use Rattle.elements.proofs.encode.Given as goal
 
 abbrev pub invariant-loop-i : goal.invariant-loop-i

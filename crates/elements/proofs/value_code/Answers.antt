@@ -1,5 +1,4 @@
 -- `elements::value_code` meets its contract: one code or the other. Assumes nothing.
-use borrow.Author.Rules.{rules}
 use Rattle.elements.proofs.value_code.Goals as goal
 
 pub returns-then-negated : goal.returns-then-negated

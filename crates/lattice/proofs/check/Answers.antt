@@ -1,10 +1,8 @@
 -- `lattice::check` meets its contract: test by test. Assumes nothing.
 use mathlib.Core.Path.{◌≡◌, sym, ◌∙◌}
 use mathlib.Core.Bool.{true}
-use borrow.Author.Tests.{not-true, not-false}
 use Rattle.lattice.specs.Reading.{lattice_form}
-use Rattle.lattice.specs.Check.{form_refused, form_answered, size_most, check_refused, check_words}
-use borrow.Author.Rules.{rules}
+use Rattle.lattice.proofs.CheckLaws.{form_refused, form_answered, size_most, check_refused, check_words}
 use Rattle.lattice.proofs.check.Goals as goal
 use Rattle.lattice.proofs.check.Goals.{Else-not-has_form}
 

@@ -3,13 +3,11 @@ use mathlib.Core.Path.{◌≡◌, sym, ap, ◌∙◌}
 use mathlib.Core.Bool.{Bool, true, false}
 use Prim.Native.Nat.{ℕ}
 use native.Mathlib.Omega.{arith}
-use borrow.Author.Tests.{not-true, not-false}
 use Rattle.theory.specs.Test.{all_below}
 use Rattle.lattice.specs.Reading.{lattice_of}
 use Rattle.lattice.specs.Accepted.{formed}
 use Rattle.lattice.specs.Filling.{involutive, antitone-size, answered-involutive, answered-antitone, answered-accepted}
-use Rattle.lattice.specs.Check.{size_most}
-use borrow.Author.Rules.{rules}
+use Rattle.lattice.proofs.CheckLaws.{size_most}
 use Rattle.lattice.proofs.check_complements.Goals as goal
 use Rattle.lattice.proofs.check_complements.Goals.{After-is_involutive}
 

@@ -1,6 +1,5 @@
 -- `lattice::complement_entry` meets its contract: by the two forms of a part. Assumes nothing.
 use mathlib.Core.Path.{sym, ◌∙◌}
-use borrow.Author.Rules.{rules}
 use Rattle.lattice.specs.Form.{panel_complement, explicit_complement}
 use Rattle.lattice.proofs.complement_entry.Goals as goal
 

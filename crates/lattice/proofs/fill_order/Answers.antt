@@ -1,9 +1,6 @@
 -- `lattice::fill_order` meets its contract: by the two forms of a part. Assumes nothing.
-use Prim.Native.Nat.{ℕ}
-use mathlib.Core.Path.{◌≡◌, refl, sym, ◌∙◌}
-use mathlib.Core.Bool.{false}
+use mathlib.Core.Path.{sym, ◌∙◌}
 use native.Mathlib.Omega.{arith}
-use Rattle.lattice.specs.Reading.{is_panel}
 use Rattle.lattice.specs.Conditions.{ExplicitForm}
 use Rattle.lattice.specs.Form.{form_explicit}
 use Rattle.lattice.specs.Parts.{panel_bytes, panel_down, explicit_bytes, explicit_down}

@@ -4,8 +4,6 @@ use Prim.Native.Nat.{◌*◌, ◌≤◌}
 use mathlib.Core.Path.{◌≡◌, sym, ◌∙◌}
 use mathlib.Core.Bool.{true, false}
 use native.Mathlib.Omega.{arith}
-use borrow.Author.Tests.{not-true, not-false}
-use borrow.Author.Rules.{rules}
 use Rattle.theory.specs.TestLaws.{not_passed}
 use Rattle.lattice.specs.Reading.{is_panel, lattice_form}
 use Rattle.lattice.specs.Conditions.{ExplicitForm}

@@ -1,9 +1,7 @@
 -- `lattice::is_lattice` meets its contract: test by test. Assumes nothing.
 use mathlib.Core.Path.{◌≡◌, sym, ◌∙◌}
 use mathlib.Core.Bool.{true, false}
-use borrow.Author.Tests.{not-true, not-false}
 use Rattle.lattice_codes.specs.Tests.{words_in, closed}
-use borrow.Author.Rules.{rules}
 use Rattle.lattice.proofs.is_lattice.Goals as goal
 
 pub returns-then-not-is_ordered : goal.returns-then-not-is_ordered

@@ -1,6 +1,5 @@
 -- `lattice::is_panel` meets its contract: by its test. Assumes nothing.
 use borrow.Author.Tests.{eq-eqb, ne_eqb}
-use borrow.Author.Rules.{rules}
 use Rattle.lattice.specs.Reading.{is_panel}
 use Rattle.lattice.proofs.is_panel.Goals as goal
 

@@ -2,10 +2,9 @@
 use mathlib.Core.Path.{◌≡◌, sym, ap, ◌∙◌}
 use mathlib.Core.Bool.{true, false}
 use Prim.Native.Nat.{ℕ}
-use borrow.Author.Tests.{not-true, not-false, lt-ltb, le-ltb}
-use Rattle.lattice_codes.specs.Tests.{words_in, all_of, ordered, closed, is_word}
+use borrow.Author.Tests.{lt-ltb, le-ltb}
+use Rattle.lattice_codes.specs.Tests.{words_in, all_of, closed, is_word}
 use Rattle.lattice.specs.ByWords.{reason_by}
-use borrow.Author.Rules.{rules}
 use Rattle.lattice.proofs.reason.Goals as goal
 
 pub returns-then-not-is_ordered : goal.returns-then-not-is_ordered

@@ -1,7 +1,6 @@
 -- `lattice::size` meets its contract: by the two forms of a part. Assumes nothing.
 use mathlib.Core.Path.{sym, ap, ◌∙◌}
 use native.Mathlib.Omega.{arith}
-use borrow.Author.Rules.{rules}
 use Rattle.lattice.specs.Form.{part_panel, part_explicit, form_explicit}
 use Rattle.lattice.proofs.size.Goals as goal
 

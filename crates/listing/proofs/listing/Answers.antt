@@ -1,5 +1,5 @@
 -- `listing::listing` meets its contract: the text of a refusal, or that of an accepted case.
-use Rattle.casefile.specs.Caller.{when_accepted, when_refused}
+use Rattle.casefile.proofs.Caller.{when_accepted, when_refused}
 use Rattle.listing.specs.Accepting.{lists, lists_refused}
 use borrow.Author.Rules.{rules}
 use Rattle.listing.proofs.listing.Goals as goal

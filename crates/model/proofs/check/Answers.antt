@@ -3,8 +3,6 @@
 use Prim.Native.Nat.{◌*◌, ◌≤◌}
 use mathlib.Core.Path.{◌≡◌, sym, ◌∙◌}
 use native.Mathlib.Omega.{arith}
-use borrow.Author.Rules.{rules}
-use borrow.Author.Tests.{not-true, not-false}
 use Rattle.theory.specs.TestLaws.{false_true}
 use Rattle.model.specs.Places.{prod_le}
 use Rattle.model.specs.Reading.{elements_only}

@@ -1,5 +1,4 @@
 -- `model::label` meets its contract: the row's place and the column.
-use borrow.Author.Rules.{rules}
 use Rattle.model.specs.Places.{label_at}
 use Rattle.model.proofs.label.Goals as goal
 

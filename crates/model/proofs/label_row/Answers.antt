@@ -1,7 +1,6 @@
 -- `model::label_row` meets its contract: the rows follow the initial values, and each ends within the part.
 use mathlib.Core.Path.{◌≡◌}
 use native.Mathlib.Omega.{arith}
-use borrow.Author.Rules.{rules}
 use Rattle.model.specs.Reading.{label_row}
 use Rattle.model.specs.Places.{label_row-within}
 use Rattle.model.proofs.label_row.Goals as goal

@@ -1,7 +1,6 @@
 -- `model::row_at` meets its contract: the product of two numbers below 256 fits.
 use Prim.Native.Nat.{◌*◌, ◌≤◌}
 use native.Mathlib.Omega.{arith}
-use borrow.Author.Rules.{rules}
 use Rattle.model.specs.Places.{prod_le}
 use Rattle.model.proofs.row_at.Goals as goal
 use Rattle.model.proofs.row_at.Goals.{After-index}

@@ -1,5 +1,4 @@
 -- `model::transition` meets its contract: the row's place and the column.
-use borrow.Author.Rules.{rules}
 use Rattle.model.specs.Places.{transition_at}
 use Rattle.model.proofs.transition.Goals as goal
 

@@ -1,12 +1,9 @@
 -- `model::transition_codes` meets its contract: the codes below r are written. Assumes nothing.
-use mathlib.Core.Path.{◌≡◌, refl, ap, ◌∙◌}
-use Prim.Native.Nat.{◌≤◌, ◌-◌}
+use mathlib.Core.Path.{refl, ap, ◌∙◌}
 use native.Mathlib.Omega.{arith}
-use lib.ListN.{length, length-set}
-use Rattle.theory.specs.Written.{Slice, slice_none, slice_more, slice_all}
+use lib.ListN.{length-set}
+use Rattle.theory.specs.Written.{slice_none, slice_more, slice_all}
 use Rattle.elements.specs.Words.{value_code}
-use Rattle.model.specs.Reading.{leaving_code}
-use borrow.Author.Rules.{rules}
 use Rattle.model.proofs.transition_codes.Goals as goal
 
 pub loop-r-init : goal.loop-r-init

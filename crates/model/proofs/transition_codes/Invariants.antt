@@ -1,11 +1,8 @@
-use mathlib.Core.Path.{◌≡◌, refl, ap, ◌∙◌}
+use mathlib.Core.Path.{◌≡◌}
 use Prim.Native.Nat.{◌≤◌, ◌-◌}
-use native.Mathlib.Omega.{arith}
-use lib.ListN.{length, length-set}
-use Rattle.theory.specs.Written.{Slice, slice_none, slice_more, slice_all}
-use Rattle.elements.specs.Words.{value_code}
+use lib.ListN.{length}
+use Rattle.theory.specs.Written.{Slice}
 use Rattle.model.specs.Reading.{leaving_code}
-use borrow.Author.Rules.{rules}
 use Rattle.model.proofs.transition_codes.Given as goal
 
 abbrev pub invariant-loop-r : goal.invariant-loop-r

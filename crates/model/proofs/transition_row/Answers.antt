@@ -2,7 +2,6 @@
 use Prim.Native.Nat.{◌*◌, ◌≤◌}
 use mathlib.Core.Path.{◌≡◌}
 use native.Mathlib.Omega.{arith}
-use borrow.Author.Rules.{rules}
 use Rattle.model.specs.Reading.{transition_row}
 use Rattle.model.specs.Places.{prod_le, transition_row-within}
 use Rattle.model.proofs.transition_row.Goals as goal

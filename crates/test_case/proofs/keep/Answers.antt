@@ -1,6 +1,6 @@
 -- `test_case::keep` may write: an accepted case is placed, and its gapless form fits the store.
 use Rattle.std.proofs.Common.{arith}
-use Rattle.casefile.specs.Caller.{when_accepted}
+use Rattle.casefile.proofs.Caller.{when_accepted}
 use Rattle.test_case.proofs.keep.Goals as goal
 
 pub gapless_length-n-requires : goal.gapless_length-n-requires

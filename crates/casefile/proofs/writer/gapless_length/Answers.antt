@@ -1,8 +1,8 @@
 -- `casefile::writer::gapless_length` meets its contract: the directory and the parts passed so far are counted.
-use Prim.Native.Nat.{◌+◌, ◌-◌, ◌≤◌}
+use Prim.Native.Nat.{◌+◌}
 use native.Mathlib.Omega.{arith}
-use Rattle.casefile.specs.Directory.{part_count}
-use Rattle.casefile.specs.Writer.{Measured, measured_none, measured_more, measured_small, measured_done}
+use Rattle.casefile.specs.Writer.{Measured}
+use Rattle.casefile.proofs.WriterLaws.{measured_none, measured_more, measured_small, measured_done}
 use Rattle.casefile.proofs.writer.gapless_length.Goals as goal
 use Rattle.casefile.proofs.writer.gapless_length.Goals.{After-part_size-length}
 

@@ -1,7 +1,6 @@
-use Prim.Native.Nat.{◌+◌, ◌-◌, ◌≤◌}
-use native.Mathlib.Omega.{arith}
+use Prim.Native.Nat.{◌-◌, ◌≤◌}
 use Rattle.casefile.specs.Directory.{part_count}
-use Rattle.casefile.specs.Writer.{Measured, measured_none, measured_more, measured_small, measured_done}
+use Rattle.casefile.specs.Writer.{Measured}
 use Rattle.casefile.proofs.writer.gapless_length.Given as goal
 
 abbrev pub invariant-loop-i : goal.invariant-loop-i

@@ -1,5 +1,4 @@
 -- `casefile::writer::put_pair` meets its contract: two u16 numbers.
-use borrow.Author.Rules.{rules}
 use Rattle.casefile.specs.Appended.{pair_put}
 use Rattle.casefile.proofs.writer.put_pair.Goals as goal
 

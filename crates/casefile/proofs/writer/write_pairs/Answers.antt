@@ -1,10 +1,9 @@
 -- `casefile::writer::write_pairs` meets its contract: the pairs of the parts passed so far are written.
-use Prim.Native.Nat.{◌-◌, ◌≤◌}
 use mathlib.Core.Path.{refl}
 use native.Mathlib.Omega.{arith}
-use Rattle.casefile.specs.Directory.{part_count}
 use Rattle.casefile.specs.Gapless.{pairs}
-use Rattle.casefile.specs.Writer.{PairsWritten, Room, writing_start, writing_room, pairs_turn, pairs_buffer_length, writing_done}
+use Rattle.casefile.specs.Writer.{Room}
+use Rattle.casefile.proofs.WriterLaws.{writing_start, writing_room, pairs_turn, pairs_buffer_length, writing_done}
 use Rattle.casefile.proofs.writer.write_pairs.Goals as goal
 use Rattle.casefile.proofs.writer.write_pairs.Goals.{In-loop-i}
 

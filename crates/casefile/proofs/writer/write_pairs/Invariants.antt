@@ -1,9 +1,6 @@
 use Prim.Native.Nat.{◌-◌, ◌≤◌}
-use mathlib.Core.Path.{refl}
-use native.Mathlib.Omega.{arith}
 use Rattle.casefile.specs.Directory.{part_count}
-use Rattle.casefile.specs.Gapless.{pairs}
-use Rattle.casefile.specs.Writer.{PairsWritten, Room, writing_start, writing_room, pairs_turn, pairs_buffer_length, writing_done}
+use Rattle.casefile.specs.Writer.{PairsWritten}
 use Rattle.casefile.proofs.writer.write_pairs.Given as goal
 
 abbrev pub invariant-loop-i : goal.invariant-loop-i

@@ -1,12 +1,11 @@
 -- `casefile::writer::write_parts` meets its contract: the parts passed so far are written.
-use Prim.Native.Nat.{◌-◌, ◌≤◌}
 use mathlib.Core.Path.{refl, ap}
 use native.Mathlib.Nat.{le_refl}
 use native.Mathlib.Omega.{arith}
 use lib.ListN.{length}
-use Rattle.casefile.specs.Directory.{part_count}
 use Rattle.casefile.specs.Gapless.{joined}
-use Rattle.casefile.specs.Writer.{PartsWritten, Room, writing_start, writing_room, parts_turn, parts_buffer_length, writing_done}
+use Rattle.casefile.specs.Writer.{Room}
+use Rattle.casefile.proofs.WriterLaws.{writing_start, writing_room, parts_turn, parts_buffer_length, writing_done}
 use Rattle.casefile.proofs.writer.write_parts.Goals as goal
 use Rattle.casefile.proofs.writer.write_parts.Goals.{In-loop-i}
 

@@ -1,11 +1,6 @@
 use Prim.Native.Nat.{◌-◌, ◌≤◌}
-use mathlib.Core.Path.{refl, ap}
-use native.Mathlib.Nat.{le_refl}
-use native.Mathlib.Omega.{arith}
-use lib.ListN.{length}
 use Rattle.casefile.specs.Directory.{part_count}
-use Rattle.casefile.specs.Gapless.{joined}
-use Rattle.casefile.specs.Writer.{PartsWritten, Room, writing_start, writing_room, parts_turn, parts_buffer_length, writing_done}
+use Rattle.casefile.specs.Writer.{PartsWritten}
 use Rattle.casefile.proofs.writer.write_parts.Given as goal
 
 abbrev pub invariant-loop-i : goal.invariant-loop-i

@@ -2,7 +2,7 @@
 use mathlib.Core.Path.{◌≡◌, sym, ◌∙◌}
 use mathlib.Core.Bool.{false}
 use native.Mathlib.Omega.{arith}
-use Rattle.casefile.specs.Caller.{when_accepted, when_refused}
+use Rattle.casefile.proofs.Caller.{when_accepted, when_refused}
 use Rattle.desk.specs.Desk.{Desk}
 use Rattle.desk.specs.Refused.{short}
 use Rattle.desk.specs.RulesLaws.{Long}

@@ -1,6 +1,5 @@
 -- `lattice::complements::element_of` meets its contract: by its test. Assumes nothing.
 use borrow.Author.Tests.{lt-ltb, le-ltb}
-use borrow.Author.Rules.{rules}
 use Rattle.theory.specs.Part.{element}
 use Rattle.lattice.proofs.complements.element_of.Goals as goal
 

@@ -1,13 +1,8 @@
 -- `lattice::complements::fill_words` meets its contract: the words below the counter are filled. Assumes nothing.
-use mathlib.Core.Path.{◌≡◌, refl}
-use Prim.Native.Nat.{◌≤◌, ◌-◌}
+use mathlib.Core.Path.{refl}
 use native.Mathlib.Omega.{arith}
-use lib.ListN.{length, length-set}
-use Rattle.theory.specs.Lists.{Filled}
+use lib.ListN.{length-set}
 use Rattle.theory.specs.Loop.{filled_none, filled_more, filled_as}
-use Rattle.lattice.specs.Reading.{lattice_of}
-use Rattle.lattice.specs.Filling.{words_by}
-use borrow.Author.Rules.{rules}
 use Rattle.lattice.proofs.complements.fill_words.Goals as goal
 
 pub loop-k-init : goal.loop-k-init

@@ -1,12 +1,9 @@
-use mathlib.Core.Path.{◌≡◌, refl}
+use mathlib.Core.Path.{◌≡◌}
 use Prim.Native.Nat.{◌≤◌, ◌-◌}
-use native.Mathlib.Omega.{arith}
-use lib.ListN.{length, length-set}
+use lib.ListN.{length}
 use Rattle.theory.specs.Lists.{Filled}
-use Rattle.theory.specs.Loop.{filled_none, filled_more, filled_as}
 use Rattle.lattice.specs.Reading.{lattice_of}
 use Rattle.lattice.specs.Filling.{words_by}
-use borrow.Author.Rules.{rules}
 use Rattle.lattice.proofs.complements.fill_words.Given as goal
 
 abbrev pub invariant-loop-k : goal.invariant-loop-k

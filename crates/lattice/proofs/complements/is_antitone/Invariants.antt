@@ -1,11 +1,7 @@
-use mathlib.Core.Path.{◌≡◌, sym, ◌∙◌}
 use Prim.Native.Nat.{◌≤◌, ◌-◌}
-use native.Mathlib.Omega.{arith}
-use borrow.Author.Tests.{not-true, not-false}
-use Rattle.theory.specs.Loop.{Passed, passed_none, passed_more, passed_stop, passed_all}
+use Rattle.theory.specs.Loop.{Passed}
 use Rattle.theory.specs.Test.{all_below}
-use Rattle.lattice.specs.Filling.{antitone_pair, antitone}
-use borrow.Author.Rules.{rules}
+use Rattle.lattice.specs.Filling.{antitone_pair}
 use Rattle.lattice.proofs.complements.is_antitone.Given as goal
 
 abbrev pub invariant-loop-a : goal.invariant-loop-a

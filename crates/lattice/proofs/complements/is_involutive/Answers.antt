@@ -1,14 +1,12 @@
 -- `lattice::complements::is_involutive` meets its contract: the elements passed are tested. Assumes nothing.
-use mathlib.Core.Path.{◌≡◌, sym, ap, ◌∙◌}
-use Prim.Native.Nat.{ℕ, ◌≤◌, ◌<◌, ◌-◌}
+use mathlib.Core.Path.{sym, ap, ◌∙◌}
+use Prim.Native.Nat.{ℕ}
 use native.Mathlib.Omega.{arith}
 use borrow.Author.Tests.{eq-eqb, ne_eqb}
 use lib.Dec.{eqb}
-use Rattle.theory.specs.Loop.{Passed, passed_none, passed_more, passed_stop, passed_all}
+use Rattle.theory.specs.Loop.{passed_none, passed_more, passed_stop, passed_all}
 use Rattle.lattice.specs.Reading.{lattice_of}
 use Rattle.lattice.specs.Accepted.{formed}
-use Rattle.lattice.specs.Filling.{involutive}
-use borrow.Author.Rules.{rules}
 use Rattle.lattice.proofs.complements.is_involutive.Goals as goal
 
 pub loop-a-init : goal.loop-a-init

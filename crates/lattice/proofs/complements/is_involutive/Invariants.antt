@@ -1,13 +1,7 @@
-use mathlib.Core.Path.{◌≡◌, sym, ap, ◌∙◌}
-use Prim.Native.Nat.{ℕ, ◌≤◌, ◌<◌, ◌-◌}
-use native.Mathlib.Omega.{arith}
-use borrow.Author.Tests.{eq-eqb, ne_eqb}
-use lib.Dec.{eqb}
-use Rattle.theory.specs.Loop.{Passed, passed_none, passed_more, passed_stop, passed_all}
+use Prim.Native.Nat.{◌≤◌, ◌-◌}
+use Rattle.theory.specs.Loop.{Passed}
 use Rattle.lattice.specs.Reading.{lattice_of}
-use Rattle.lattice.specs.Accepted.{formed}
 use Rattle.lattice.specs.Filling.{involutive}
-use borrow.Author.Rules.{rules}
 use Rattle.lattice.proofs.complements.is_involutive.Given as goal
 
 abbrev pub invariant-loop-a : goal.invariant-loop-a

@@ -1,12 +1,7 @@
 -- `lattice::complements::row_antitone` meets its contract: the elements passed are tested. Assumes nothing.
-use mathlib.Core.Path.{◌≡◌, sym, ◌∙◌}
-use Prim.Native.Nat.{◌≤◌, ◌-◌}
+use mathlib.Core.Path.{sym, ◌∙◌}
 use native.Mathlib.Omega.{arith}
-use borrow.Author.Tests.{not-true, not-false}
-use Rattle.theory.specs.Loop.{Passed, passed_none, passed_more, passed_stop, passed_all}
-use Rattle.theory.specs.Test.{all_below}
-use Rattle.lattice.specs.Filling.{antitone_pair}
-use borrow.Author.Rules.{rules}
+use Rattle.theory.specs.Loop.{passed_none, passed_more, passed_stop, passed_all}
 use Rattle.lattice.proofs.complements.row_antitone.Goals as goal
 
 pub loop-b-init : goal.loop-b-init

@@ -1,11 +1,6 @@
-use mathlib.Core.Path.{◌≡◌, sym, ◌∙◌}
 use Prim.Native.Nat.{◌≤◌, ◌-◌}
-use native.Mathlib.Omega.{arith}
-use borrow.Author.Tests.{not-true, not-false}
-use Rattle.theory.specs.Loop.{Passed, passed_none, passed_more, passed_stop, passed_all}
-use Rattle.theory.specs.Test.{all_below}
+use Rattle.theory.specs.Loop.{Passed}
 use Rattle.lattice.specs.Filling.{antitone_pair}
-use borrow.Author.Rules.{rules}
 use Rattle.lattice.proofs.complements.row_antitone.Given as goal
 
 abbrev pub invariant-loop-b : goal.invariant-loop-b

@@ -1,5 +1,5 @@
 -- `lattice::complements::word_at` meets its contract: an element's code, or its complement's. Assumes nothing.
-use mathlib.Core.Path.{◌≡◌, sym, ap, ◌∙◌}
+use mathlib.Core.Path.{ap, ◌∙◌}
 use Prim.Native.Nat.{ℕ}
 use native.Mathlib.Omega.{arith}
 use lib.ListN.{get_or}
@@ -8,7 +8,6 @@ use Rattle.lattice.specs.Reading.{lattice_of}
 use Rattle.lattice.specs.Accepted.{formed}
 use Rattle.lattice.specs.Parts.{element-within}
 use Rattle.lattice.specs.Filling.{words_low, words_high}
-use borrow.Author.Rules.{rules}
 use Rattle.lattice.proofs.complements.word_at.Goals as goal
 
 pub bounds-codes-i : goal.bounds-codes-i

@@ -1,5 +1,4 @@
 use Prim.Native.Nat.{◌≤◌, ◌-◌}
-use borrow.Author.Rules.{rules}
 use Rattle.lattice.proofs.places.fill.Given as goal
 
 abbrev pub invariant-loop-a : goal.invariant-loop-a

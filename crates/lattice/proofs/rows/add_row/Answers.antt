@@ -1,11 +1,10 @@
 -- `lattice::rows::add_row` meets its contract: the words below the counter have their bit. Assumes nothing.
-use mathlib.Core.Path.{◌≡◌, refl, ap}
-use Prim.Native.Nat.{ℕ, ◌*◌, ◌%◌, ◌^◌, ◌≤◌, ◌-◌}
+use mathlib.Core.Path.{ap}
+use Prim.Native.Nat.{ℕ, ◌*◌, ◌%◌, ◌^◌}
 use native.Mathlib.Omega.{arith}
 use lib.Bits.{bit_or}
-use lib.ListN.{length, get_or, length-set}
-use Rattle.lattice.specs.Rows.{Rowed, rowed_none, rowed_more, rowed_all}
-use borrow.Author.Rules.{rules}
+use lib.ListN.{get_or, length-set}
+use Rattle.lattice.specs.Rows.{rowed_none, rowed_more, rowed_all}
 use Rattle.lattice.proofs.rows.add_row.Goals as goal
 
 pub loop-j-init : goal.loop-j-init

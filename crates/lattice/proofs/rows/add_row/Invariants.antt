@@ -1,10 +1,7 @@
-use mathlib.Core.Path.{◌≡◌, refl, ap}
-use Prim.Native.Nat.{ℕ, ◌*◌, ◌%◌, ◌^◌, ◌≤◌, ◌-◌}
-use native.Mathlib.Omega.{arith}
-use lib.Bits.{bit_or}
-use lib.ListN.{length, get_or, length-set}
-use Rattle.lattice.specs.Rows.{Rowed, rowed_none, rowed_more, rowed_all}
-use borrow.Author.Rules.{rules}
+use mathlib.Core.Path.{◌≡◌}
+use Prim.Native.Nat.{◌≤◌, ◌-◌}
+use lib.ListN.{length}
+use Rattle.lattice.specs.Rows.{Rowed}
 use Rattle.lattice.proofs.rows.add_row.Given as goal
 
 abbrev pub invariant-loop-j : goal.invariant-loop-j

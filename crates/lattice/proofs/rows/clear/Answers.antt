@@ -1,11 +1,8 @@
 -- `lattice::rows::clear` meets its contract: the words below the counter are 0. Assumes nothing.
-use mathlib.Core.Path.{◌≡◌, refl}
-use Prim.Native.Nat.{◌≤◌, ◌-◌}
+use mathlib.Core.Path.{refl}
 use native.Mathlib.Omega.{arith}
-use lib.ListN.{length, length-set}
-use Rattle.theory.specs.Lists.{Filled}
+use lib.ListN.{length-set}
 use Rattle.theory.specs.Loop.{filled_none, filled_more, filled_as}
-use borrow.Author.Rules.{rules}
 use Rattle.lattice.proofs.rows.clear.Goals as goal
 
 pub loop-a-init : goal.loop-a-init

@@ -1,10 +1,7 @@
-use mathlib.Core.Path.{◌≡◌, refl}
+use mathlib.Core.Path.{◌≡◌}
 use Prim.Native.Nat.{◌≤◌, ◌-◌}
-use native.Mathlib.Omega.{arith}
-use lib.ListN.{length, length-set}
+use lib.ListN.{length}
 use Rattle.theory.specs.Lists.{Filled}
-use Rattle.theory.specs.Loop.{filled_none, filled_more, filled_as}
-use borrow.Author.Rules.{rules}
 use Rattle.lattice.proofs.rows.clear.Given as goal
 
 abbrev pub invariant-loop-a : goal.invariant-loop-a

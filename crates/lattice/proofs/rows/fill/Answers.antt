@@ -1,8 +1,6 @@
 -- `lattice::rows::fill` meets its contract: the rows passed are in the words. Assumes nothing.
-use Prim.Native.Nat.{◌≤◌, ◌-◌}
 use native.Mathlib.Omega.{arith}
-use Rattle.lattice.specs.Rows.{Down, down_none, down_more, down_all, row_inside}
-use borrow.Author.Rules.{rules}
+use Rattle.lattice.specs.Rows.{down_none, down_more, down_all, row_inside}
 use Rattle.lattice.proofs.rows.fill.Goals as goal
 
 pub loop-i-init : goal.loop-i-init

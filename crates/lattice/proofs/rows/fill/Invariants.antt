@@ -1,7 +1,5 @@
 use Prim.Native.Nat.{◌≤◌, ◌-◌}
-use native.Mathlib.Omega.{arith}
-use Rattle.lattice.specs.Rows.{Down, down_none, down_more, down_all, row_inside}
-use borrow.Author.Rules.{rules}
+use Rattle.lattice.specs.Rows.{Down}
 use Rattle.lattice.proofs.rows.fill.Given as goal
 
 abbrev pub invariant-loop-i : goal.invariant-loop-i

@@ -1,13 +1,12 @@
 -- `lattice::tests::all_of` meets its contract: the bits below the counter are set. Assumes nothing.
-use mathlib.Core.Path.{◌≡◌, refl, sym, ap, ◌∙◌}
+use mathlib.Core.Path.{refl, sym, ap, ◌∙◌}
 use mathlib.Core.Bool.{true}
-use Prim.Native.Nat.{ℕ, ◌*◌, ◌%◌, ◌^◌, ◌≤◌, ◌-◌}
+use Prim.Native.Nat.{ℕ, ◌*◌, ◌%◌, ◌^◌}
 use native.Mathlib.Omega.{arith}
 use lib.Bits.{bit_or}
 use Rattle.theory.specs.Loop.{reached}
-use Rattle.elements.specs.Bits.{bits, bits_begin, bits_more}
+use Rattle.elements.specs.Bits.{bits_begin, bits_more}
 use Rattle.lattice_codes.specs.Tests.{all_of}
-use borrow.Author.Rules.{rules}
 use Rattle.lattice.proofs.tests.all_of.Goals as goal
 
 pub loop-a-init : goal.loop-a-init

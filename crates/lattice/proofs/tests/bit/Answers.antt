@@ -1,6 +1,5 @@
 -- `lattice::tests::bit` meets its contract: the shift loses no bit. Assumes nothing.
 use Rattle.elements.specs.Bits.{bit_word}
-use borrow.Author.Rules.{rules}
 use Rattle.lattice.proofs.tests.bit.Goals as goal
 
 pub returns : goal.returns

@@ -1,12 +1,8 @@
 -- `lattice::tests::fill_codes` meets its contract: the codes below the counter are filled. Assumes nothing.
-use mathlib.Core.Path.{◌≡◌, refl}
-use Prim.Native.Nat.{◌≤◌, ◌-◌}
+use mathlib.Core.Path.{refl}
 use native.Mathlib.Omega.{arith}
-use lib.ListN.{length, length-set}
-use Rattle.theory.specs.Lists.{Filled}
+use lib.ListN.{length-set}
 use Rattle.theory.specs.Loop.{filled_none, filled_more, filled_as}
-use Rattle.lattice_codes.specs.Tests.{codes_by}
-use borrow.Author.Rules.{rules}
 use Rattle.lattice.proofs.tests.fill_codes.Goals as goal
 
 pub loop-a-init : goal.loop-a-init

@@ -1,11 +1,8 @@
-use mathlib.Core.Path.{◌≡◌, refl}
+use mathlib.Core.Path.{◌≡◌}
 use Prim.Native.Nat.{◌≤◌, ◌-◌}
-use native.Mathlib.Omega.{arith}
-use lib.ListN.{length, length-set}
+use lib.ListN.{length}
 use Rattle.theory.specs.Lists.{Filled}
-use Rattle.theory.specs.Loop.{filled_none, filled_more, filled_as}
 use Rattle.lattice_codes.specs.Tests.{codes_by}
-use borrow.Author.Rules.{rules}
 use Rattle.lattice.proofs.tests.fill_codes.Given as goal
 
 abbrev pub invariant-loop-a : goal.invariant-loop-a

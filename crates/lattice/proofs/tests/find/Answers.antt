@@ -1,15 +1,9 @@
 -- `lattice::tests::find` meets its contract: the guess is right, or no word passed is x. Assumes nothing.
-use mathlib.Core.Path.{◌≡◌}
-use mathlib.Core.Bool.{false}
-use Prim.Native.Nat.{ℕ, ◌≤◌, ◌<◌, ◌-◌}
 use native.Mathlib.Nat.{not-suc-le-zero}
 use native.Mathlib.Omega.{arith}
 use borrow.Author.Count.{below_more}
 use borrow.Author.Tests.{ne_eqb}
-use lib.Dec.{eqb}
-use lib.ListN.{get_or}
 use Rattle.lattice_codes.specs.Tests.{found_here, found_none}
-use borrow.Author.Rules.{rules}
 use Rattle.lattice.proofs.tests.find.Goals as goal
 
 pub returns-then-y-x : goal.returns-then-y-x

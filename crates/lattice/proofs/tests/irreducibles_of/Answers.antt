@@ -1,13 +1,12 @@
 -- `lattice::tests::irreducibles_of` meets its contract: the bits below the counter are set. Assumes nothing.
-use mathlib.Core.Path.{◌≡◌, sym, ap, ◌∙◌}
-use Prim.Native.Nat.{ℕ, ◌*◌, ◌%◌, ◌^◌, ◌≤◌, ◌-◌}
+use mathlib.Core.Path.{sym, ap, ◌∙◌}
+use Prim.Native.Nat.{ℕ, ◌*◌, ◌%◌, ◌^◌}
 use native.Mathlib.Omega.{arith}
 use lib.Bits.{bit_or}
 use Rattle.theory.specs.Simulation.{indicator}
 use Rattle.theory.specs.Loop.{reached}
 use Rattle.elements.specs.Bits.{bits, bits_begin, bits_more}
 use Rattle.lattice_codes.specs.Tests.{words_in, irreducible}
-use borrow.Author.Rules.{rules}
 use Rattle.lattice.proofs.tests.irreducibles_of.Goals as goal
 
 pub loop-a-init : goal.loop-a-init

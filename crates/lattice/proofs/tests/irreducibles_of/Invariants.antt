@@ -1,12 +1,7 @@
-use mathlib.Core.Path.{◌≡◌, sym, ap, ◌∙◌}
-use Prim.Native.Nat.{ℕ, ◌*◌, ◌%◌, ◌^◌, ◌≤◌, ◌-◌}
-use native.Mathlib.Omega.{arith}
-use lib.Bits.{bit_or}
-use Rattle.theory.specs.Simulation.{indicator}
-use Rattle.theory.specs.Loop.{reached}
-use Rattle.elements.specs.Bits.{bits, bits_begin, bits_more}
+use mathlib.Core.Path.{◌≡◌}
+use Prim.Native.Nat.{◌≤◌, ◌-◌}
+use Rattle.elements.specs.Bits.{bits}
 use Rattle.lattice_codes.specs.Tests.{words_in, irreducible}
-use borrow.Author.Rules.{rules}
 use Rattle.lattice.proofs.tests.irreducibles_of.Given as goal
 
 abbrev pub invariant-loop-a : goal.invariant-loop-a

@@ -1,12 +1,8 @@
 -- `lattice::tests::is_closed` meets its contract: the rows passed are. Assumes nothing.
-use mathlib.Core.Path.{◌≡◌, sym, ◌∙◌}
-use Prim.Native.Nat.{◌≤◌, ◌-◌}
+use mathlib.Core.Path.{sym, ◌∙◌}
 use native.Mathlib.Omega.{arith}
-use borrow.Author.Tests.{not-true, not-false}
-use Rattle.theory.specs.Loop.{Passed, passed_none, passed_more, passed_stop, passed_all}
-use Rattle.theory.specs.Test.{all_below}
-use Rattle.lattice_codes.specs.Tests.{words_in, pair_closed, closed}
-use borrow.Author.Rules.{rules}
+use Rattle.theory.specs.Loop.{passed_none, passed_more, passed_stop, passed_all}
+use Rattle.lattice_codes.specs.Tests.{closed}
 use Rattle.lattice.proofs.tests.is_closed.Goals as goal
 
 pub loop-a-init : goal.loop-a-init

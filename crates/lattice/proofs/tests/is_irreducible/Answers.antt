@@ -1,7 +1,6 @@
 -- `lattice::tests::is_irreducible` meets its contract: the word without its bit is found or not. Assumes nothing.
 use mathlib.Core.Path.{refl}
 use Rattle.lattice_codes.specs.Tests.{irreducible_found}
-use borrow.Author.Rules.{rules}
 use Rattle.lattice.proofs.tests.is_irreducible.Goals as goal
 
 pub returns : goal.returns

@@ -1,6 +1,5 @@
 -- `lattice::tests::pair_closed` meets its contract: case by case. Assumes nothing.
 use Rattle.lattice_codes.specs.Tests.{both_found, both-here}
-use borrow.Author.Rules.{rules}
 use Rattle.lattice.proofs.tests.pair_closed.Goals as goal
 
 pub returns-then-z-x : goal.returns-then-z-x

@@ -1,6 +1,5 @@
 -- `lattice::tests::pair_ordered` meets its contract: case by case. Assumes nothing.
 use Rattle.lattice_codes.specs.Tests.{pair_unlike, pair_same, pair_apart}
-use borrow.Author.Rules.{rules}
 use Rattle.lattice.proofs.tests.pair_ordered.Goals as goal
 
 pub returns-then-p-q : goal.returns-then-p-q

@@ -1,12 +1,8 @@
 -- `lattice::tests::row_closed` meets its contract: the elements passed are. Assumes nothing.
-use mathlib.Core.Path.{◌≡◌, sym, ◌∙◌}
-use Prim.Native.Nat.{◌≤◌, ◌-◌}
+use mathlib.Core.Path.{sym, ◌∙◌}
 use native.Mathlib.Omega.{arith}
-use borrow.Author.Tests.{not-true, not-false}
-use lib.ListN.{get_or}
-use Rattle.theory.specs.Loop.{Passed, passed_none, passed_more, passed_stop, passed_all}
-use Rattle.lattice_codes.specs.Tests.{words_in, is_word, both, row_skip, row_tested}
-use borrow.Author.Rules.{rules}
+use Rattle.theory.specs.Loop.{passed_none, passed_more, passed_stop, passed_all}
+use Rattle.lattice_codes.specs.Tests.{words_in, row_skip, row_tested}
 use Rattle.lattice.proofs.tests.row_closed.Goals as goal
 
 pub returns-then-k-mask : goal.returns-then-k-mask

@@ -1,11 +1,7 @@
-use mathlib.Core.Path.{◌≡◌, sym, ◌∙◌}
 use Prim.Native.Nat.{◌≤◌, ◌-◌}
-use native.Mathlib.Omega.{arith}
-use borrow.Author.Tests.{not-true, not-false}
 use lib.ListN.{get_or}
-use Rattle.theory.specs.Loop.{Passed, passed_none, passed_more, passed_stop, passed_all}
-use Rattle.lattice_codes.specs.Tests.{words_in, is_word, both, row_skip, row_tested}
-use borrow.Author.Rules.{rules}
+use Rattle.theory.specs.Loop.{Passed}
+use Rattle.lattice_codes.specs.Tests.{words_in, is_word, both}
 use Rattle.lattice.proofs.tests.row_closed.Given as goal
 
 abbrev pub invariant-loop-b : goal.invariant-loop-b

@@ -1,11 +1,8 @@
 -- `lattice::tests::row_ordered` meets its contract: the elements passed are in order. Assumes nothing.
-use mathlib.Core.Path.{◌≡◌, sym, ◌∙◌}
-use Prim.Native.Nat.{◌≤◌, ◌-◌}
+use mathlib.Core.Path.{sym, ◌∙◌}
 use native.Mathlib.Omega.{arith}
-use borrow.Author.Tests.{not-true, not-false}
-use Rattle.theory.specs.Loop.{Passed, passed_none, passed_more, passed_stop, passed_all}
-use Rattle.lattice_codes.specs.Tests.{words_in, pair_ordered}
-use borrow.Author.Rules.{rules}
+use Rattle.theory.specs.Loop.{passed_none, passed_more, passed_stop, passed_all}
+use Rattle.lattice_codes.specs.Tests.{pair_ordered}
 use Rattle.lattice.proofs.tests.row_ordered.Goals as goal
 
 pub loop-b-init : goal.loop-b-init

@@ -22,8 +22,9 @@ use Rattle.casefile.specs.Reading.{Content, CaseReading, FormulasReading, formul
 use Rattle.casefile.specs.Answer.{case_answer, CaseAnswered}
 use Rattle.casefile.specs.Placed.{placed_reading}
 use Rattle.casefile.specs.Conditions.{Placed}
-use Rattle.casefile.specs.FormulaParts.{formulas_read}
-use Rattle.casefile.specs.Accepted.{ContentOf, refused_content, content_of, parts_length}
+use Rattle.casefile.proofs.FormulaParts.{formulas_read}
+use Rattle.casefile.specs.Accepted.{ContentOf}
+use Rattle.casefile.proofs.Accepted.{refused_content, content_of, parts_length}
 use Rattle.casefile.specs.Steps.{formulas_answer, rest_of, rest_answer, after_second, second_answer, after_first, models_answer, after_checked, PartsAnswered}
 
 -- model 2 with the same k, and with another

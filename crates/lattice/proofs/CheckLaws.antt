@@ -1,16 +1,15 @@
 -- The steps of the check. Rests on lattice's Reading and Accepted, Tests, Accepting, Answer, Filling.
 --   form_refused, form_answered: refusal 4, and the answer past it
 --   check_refused, check_words: what the test of a lattice gives, failed and passed
-use Rattle.std.specs.Prelude.{ℕ, ◌≤◌, ◌<◌, ◌≡◌, refl, Bool, true, false, List}
+use Rattle.std.specs.Prelude.{ℕ, ◌≤◌, ◌≡◌, true, false, List}
 use Rattle.std.proofs.Common.{sym, ap, ◌∙◌, arith}
 use Rattle.theory.specs.Lists.{Filled}
 use Rattle.theory.specs.Part.{LatticePart}
 use Rattle.refusal.specs.declared.Refusal.{Refusal}
 use Rattle.refusal.specs.declared.Refusal.TheVariants.{LatticeForm}
-use Rattle.lattice_order.specs.Ordered.{Formed}
 use Rattle.lattice.specs.declared.LatticeCheck.{LatticeCheck}
 use Rattle.lattice.specs.declared.LatticeCheck.TheVariants.{Refused}
-use Rattle.lattice.specs.Reading.{LatticeReading, refused, require, lattice_of, lattice_form, lattice_reading, part_reading}
+use Rattle.lattice.specs.Reading.{refused, require, lattice_of, lattice_form, lattice_reading, part_reading}
 use Rattle.lattice.specs.Accepted.{formed}
 use Rattle.lattice_codes.specs.Tests.{words_in, codes_by, down_of, irreducibles, code_of, lattice_test}
 use Rattle.lattice_codes.proofs.Accepting.{lattice_sound}

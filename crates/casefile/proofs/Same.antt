@@ -16,8 +16,8 @@ use Rattle.model.proofs.Accepted.{cell}
 use Rattle.formula.specs.Bytes.{bytes_of}
 use Rattle.casefile.specs.Reading.{Content, content_parts, case_reading, content}
 use Rattle.casefile.specs.Conditions.{CaseOf, SameModel, SameCase}
-use Rattle.casefile.specs.Exactly.{content_exactly}
-use Rattle.casefile.specs.Accepted.{content_unique}
+use Rattle.casefile.proofs.Exactly.{content_exactly}
+use Rattle.casefile.proofs.Accepted.{content_unique}
 
 -- ---- the bytes of two parts, stretch by stretch
 

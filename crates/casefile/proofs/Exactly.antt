@@ -11,8 +11,8 @@ use Rattle.formula.specs.RoundTrip.{reading_exactly}
 use Rattle.casefile.specs.Directory.{parts_of}
 use Rattle.casefile.specs.Reading.{Content, content_parts, case_reading, content}
 use Rattle.casefile.specs.Conditions.{Placed}
-use Rattle.casefile.specs.FormulaParts.{formulas_exactly}
-use Rattle.casefile.specs.Accepted.{case_exactly}
+use Rattle.casefile.proofs.FormulaParts.{formulas_exactly}
+use Rattle.casefile.proofs.Accepted.{case_exactly}
 use Rattle.casefile.specs.Conditions.{PartsRead, FormulasRead}
 use Rattle.casefile.specs.Conditions.{CaseOf}
 

@@ -1,0 +1,1 @@
+pub mod CheckLaws  -- the steps of the check, and the answer after each
