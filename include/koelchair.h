@@ -1,5 +1,5 @@
 /* Koelchair's calls, the rest of a round in one call, what a desk holds, how an entry is worked, and the listing, for C, C99 or later,
-   and for C++. They stand in target/staticlib/libexports.a, which `rt staticlib exports` proves and writes. The contracts are in
+   and for C++. They stand in target/staticlib/libexports.a, which `tools/archive` proves and writes. The contracts are in
    crates/exports/src; how a case is laid out byte for byte, and what the words used here mean, is said in docs/SPECIFICATION.md.
 
    A desk is a standing, a store and two tables. The caller keeps all four: the standing as a struct, the others as bytes. A new desk

@@ -2,11 +2,11 @@
 # Builds round_by_round.c, runs it on the cases here, on a case with bytes after its parts, on one that is cut off and on no input, and
 # compares what it prints with expected.txt, and the case that it writes with the one here, which has no gaps; a name that cannot be
 # written has to be said. Prints 'ok', or the difference and ends with status 1; status 2 where it could not be built. Needs the archive of
-# `rt staticlib exports`. CC and CFLAGS may name another compiler and more options.
+# `tools/archive`. CC and CFLAGS may name another compiler and more options.
 cd "$(dirname "$0")/../.." || exit 2
 archive=target/staticlib/libexports.a
 if [ ! -f "$archive" ]; then
-    echo "no $archive: run 'rt staticlib exports' first" >&2
+    echo "no $archive: run 'tools/archive' first" >&2
     exit 2
 fi
 work=$(mktemp -d) || exit 2

@@ -3,7 +3,7 @@
    formulas' facts and values, and how long the case is that the desk writes back. Where a file is named it gets the bytes of that case. A
    refusal is said in words, with its number and part.
 
-   From the repository's root, after `rt staticlib exports`:
+   From the repository's root, after `tools/archive`:
 
        cc -std=c99 -Wall -Wextra -Werror -Iinclude examples/c/round_by_round.c target/staticlib/libexports.a -o target/round_by_round
        target/round_by_round < examples/c/example4.bytes

@@ -3,7 +3,7 @@
    running nothing takes there is subtracted. Each call is measured with two values, and the greater figure is printed. Bytes that a call
    sets aside and never writes are not seen, unless it writes below them.
 
-   From the repository's root, after `rt staticlib exports`:
+   From the repository's root, after `tools/archive`:
 
        cc -O2 -Wall -Wextra -Werror -Iinclude examples/c/stack.c target/staticlib/libexports.a -o target/stack
        target/stack */

@@ -1,16 +1,16 @@
 #!/bin/sh
 # Makes a folder with the Python module koelchair and the shared library that it calls:
 #
-#     rt staticlib exports
+#     tools/archive
 #     sh examples/python/build.sh              # the folder is target/python; another may be named
 #     PYTHONPATH=target/python python3
 #
-# Needs the archive of `rt staticlib exports`. CC may name another compiler.
+# Needs the archive of `tools/archive`. CC may name another compiler.
 folder=$(realpath -m "${1:-$(dirname "$0")/../../target/python}") || exit 2
 cd "$(dirname "$0")/../.." || exit 2
 archive=target/staticlib/libexports.a
 if [ ! -f "$archive" ]; then
-    echo "no $archive: run 'rt staticlib exports' first" >&2
+    echo "no $archive: run 'tools/archive' first" >&2
     exit 2
 fi
 mkdir -p "$folder" || exit 2

@@ -9,8 +9,14 @@ use std::time::Instant;
 
 const ARCHIVE: &str = "libexports.a";
 
-/// How long the proofs take where nothing is proved yet: some six minutes of processor time on a quick machine, ten on a slow one.
-const TIME: &str = "six to ten minutes the first time, and longer on a busy machine";
+/// The script that makes the archive, in the repository's root.
+const SCRIPT: &str = "tools/archive";
+
+/// How long the proofs take where nothing is proved yet. They took six to ten minutes with the kit before this one; that of today was not measured.
+const TIME: &str = "can take a quarter of an hour or more the first time";
+
+/// A shell's exit status where a command is not found.
+const NOT_FOUND: i32 = 127;
 
 fn main() {
     println!("cargo:rerun-if-env-changed=KOELCHAIR_ARCHIVE");
@@ -49,13 +55,15 @@ fn own_folder() -> PathBuf {
         make(&root);
     }
     if !folder.join(ARCHIVE).is_file() {
-        stop("'rt staticlib exports' ended well and left no target/staticlib/libexports.a");
+        stop(&format!(
+            "'{SCRIPT}' ended well and left no target/staticlib/{ARCHIVE}"
+        ));
     }
     folder
 }
 
-/// Proves the library and writes its archive. What `rt` says of each proved crate goes to the terminal at once, since cargo keeps
-/// what a build script prints to itself.
+/// Proves the library and writes its archive. Which crate is proved goes to the terminal at once, since cargo keeps what a build
+/// script prints to itself.
 fn make(root: &Path) {
     let mut terminal = OpenOptions::new().write(true).open("/dev/tty").ok();
     let mut say = |line: &str| {
@@ -64,7 +72,7 @@ fn make(root: &Path) {
         }
     };
     say(&format!(
-        "there is no {ARCHIVE} yet: 'rt staticlib exports' proves the library, which takes {TIME}"
+        "there is no {ARCHIVE} yet: '{SCRIPT}' proves the library, which {TIME}"
     ));
     let start = Instant::now();
     let ran = prove(root, &mut say);
@@ -75,34 +83,38 @@ fn make(root: &Path) {
             seconds / 60,
             seconds % 60
         ),
+        Ok(status) if status.code() == Some(NOT_FOUND) => stop(&format!(
+            "there is no target/staticlib/{ARCHIVE}, and 'rt', which proves the library, is not found. Make the archive by \
+             '{SCRIPT}' in the repository's root on a machine with the Rattle kit, or name a folder that holds it in \
+             KOELCHAIR_ARCHIVE"
+        )),
         Ok(_) => stop(&format!(
-            "there is no target/staticlib/{ARCHIVE}, and 'rt staticlib exports', which makes it, failed"
+            "there is no target/staticlib/{ARCHIVE}, and '{SCRIPT}', which makes it, failed"
         )),
         Err(error) => stop(&format!(
-            "there is no target/staticlib/{ARCHIVE}, and 'rt' cannot be run ({error}). Make the archive by \
-             'rt staticlib exports' in the repository's root on a machine with the Rattle kit, or name a \
-             folder that holds it in KOELCHAIR_ARCHIVE"
+            "there is no target/staticlib/{ARCHIVE}, and '{SCRIPT}', which makes it, cannot be run ({error})"
         )),
     }
 }
 
-/// Runs `rt staticlib exports`. All that it prints goes to standard error, which cargo shows if this program fails.
+/// Runs the script. All that it prints goes to standard error, which cargo shows if this program fails.
 fn prove(root: &Path, say: &mut impl FnMut(&str)) -> io::Result<ExitStatus> {
-    let mut rt = Command::new("rt")
-        .args(["staticlib", "exports"])
-        .current_dir(root)
-        .stdout(io::stderr())
-        .stderr(Stdio::piped())
+    let mut script = Command::new(root.join(SCRIPT))
+        .stdout(Stdio::piped())
         .spawn()?;
-    let said = rt.stderr.take().map(BufReader::new);
+    let said = script.stdout.take().map(BufReader::new);
+    // What is said of a crate ends with its name, as in `crate exports: modules loaded=629 checked=629`, and what came of it.
+    let mut name = String::new();
     for line in said.into_iter().flat_map(BufRead::lines) {
         let line = line?;
         eprintln!("{line}");
-        if line.starts_with("rt: ") {
-            say(&line);
+        if let Some(of) = line.strip_prefix("crate ") {
+            name = of.chars().take_while(|c| *c != ':').collect();
+        } else if line.starts_with("logic=proved ") {
+            say(&format!("{name} is proved"));
         }
     }
-    rt.wait()
+    script.wait()
 }
 
 fn stop(message: &str) -> ! {

@@ -4,7 +4,7 @@
 //! as `panel, 27; 16; step`, `growth; (16, 16, 4)` or `density; panel, 27; 3 transitions`, the word stands.
 //!
 //! The other is the second implementation, or the proved library as it was before a change, which FILE holds as a shared library. That is
-//! made from an archive of `rt staticlib exports` by
+//! made from an archive of `tools/archive` by
 //!
 //! ```text
 //! gcc -shared -o former.so -Wl,--whole-archive libexports.a -Wl,--no-whole-archive

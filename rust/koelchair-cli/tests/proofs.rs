@@ -60,7 +60,7 @@ fn defines(text: &str, name: &str) -> bool {
 struct Row<'a> {
     /// Words in backquotes.
     names: Vec<&'a str>,
-    /// Words such as `theory/Rounds`: a crate, and a module of its specs.
+    /// Words such as `theory/Rounds`: a crate, and a module of its specs, of its proofs, or of both.
     files: Vec<(&'a str, &'a str)>,
 }
 
@@ -96,11 +96,17 @@ fn wrong(crates: &Path, row: &Row) -> Vec<String> {
     let mut said = Vec::new();
     let mut beside = String::new();
     for (of, module) in &row.files {
-        let file = crates.join(of).join("specs").join(format!("{module}.antt"));
-        match file.is_file() {
-            true => beside += &text(&file),
-            false => said.push(format!("there is no file {of}/{module}")),
+        let parts = ["specs", "proofs"].map(|part| crates.join(of).join(part));
+        let files = parts.map(|part| part.join(format!("{module}.antt")));
+        let held: String = files
+            .iter()
+            .filter(|file| file.is_file())
+            .map(|file| text(file))
+            .collect();
+        if held.is_empty() {
+            said.push(format!("there is no file {of}/{module}"));
         }
+        beside += &held;
     }
     for word in &row.names {
         let found = match word.rsplit_once("::") {
@@ -122,7 +128,8 @@ fn wrong(crates: &Path, row: &Row) -> Vec<String> {
 /// Whether some crate defines a name.
 fn anywhere(crates: &Path, name: &str) -> bool {
     let folders = std::fs::read_dir(crates).into_iter().flatten().flatten();
-    let mut sources = folders.flat_map(|f| ["src", "specs"].map(|part| f.path().join(part)));
+    let mut sources =
+        folders.flat_map(|f| ["src", "specs", "proofs"].map(|part| f.path().join(part)));
     sources.any(|source| defines(&texts(&source), name))
 }
 
@@ -162,19 +169,19 @@ fn a_name_or_a_file_that_is_not_there_is_said() {
     let crates = folder("../../crates");
     let said = |line: &str| wrong(&crates, &row(line));
     assert_eq!(
-        said("| T | `T-unique`, `F` | theory/Rounds; theory/Simulation |").len(),
+        said("| T | `T_unique`, `F` | theory/Rounds; theory/Simulation |").len(),
         0
     );
-    assert_eq!(said("| T | `T-unique` | theory/Simulation |").len(), 1);
+    assert_eq!(said("| T | `T_unique` | theory/Simulation |").len(), 1);
     assert_eq!(
-        said("| T | `T-unique`, `T-uniqu` | theory/Rounds |").len(),
+        said("| T | `T_unique`, `T_uniqu` | theory/Rounds |").len(),
         1
     );
     assert_eq!(
-        said("| T | `T-unique` | theory/Rounds; theory/Round |").len(),
+        said("| T | `T_unique` | theory/Rounds; theory/Round |").len(),
         1
     );
     assert_eq!(said("| `lattice::check` |").len(), 0);
     assert_eq!(said("| `lattice::checks` |").len(), 1);
-    assert_eq!(said("| `bounded-at-Z` |").len(), 1);
+    assert_eq!(said("| `bounded_at_Z` |").len(), 1);
 }

@@ -14,8 +14,7 @@ loop-q-init c = (omega (arith, c.index-start.ensures.0, c.states-n1.ensures, c.r
 
 pub loop-q-preserved : goal.loop-q-preserved
 loop-q-preserved c =
-    let i = c.loop-q.invariant in
-    (
+    let i = c.loop-q.invariant in (
       omega arith,
       i.1,
       rest_more i.2 (omega (arith, i.1)) c.requires.2 c.row-c.ensures.0 c.row-c.ensures.1,
