@@ -17,7 +17,7 @@ use Rattle.desk_questions.specs.declared.ShareAnswer.TheVariants as share
 use Rattle.desk_questions.specs.declared.JudgeAnswer.{JudgeAnswer}
 use Rattle.desk_questions.specs.declared.JudgeAnswer.TheVariants as judge
 use Rattle.desk_questions.specs.declared.LengthAnswer.{LengthAnswer}
-use Rattle.desk_questions.specs.declared.LengthAnswer.TheVariants as length
+use Rattle.desk_questions.specs.declared.LengthAnswer.TheVariants as length_answer
 
 -- the call k on the desk of these four answers x and leaves that desk, and `lent` in the buffers that it is lent to write into
 abbrev pub ReadsWith : List (List ℕ) → Call → Standing → List ℕ → List ℕ → List ℕ → Reply → Type 0
@@ -50,5 +50,5 @@ judge_reply (judge.Refused r) = number_reply r
 judge_reply (judge.Says b) = Reply.Says b
 
 abbrev pub length_reply : LengthAnswer → Reply
-length_reply (length.Refused r) = number_reply r
-length_reply (length.Length n) = Reply.Length n
+length_reply (length_answer.Refused r) = number_reply r
+length_reply (length_answer.Length n) = Reply.Length n
