@@ -1,6 +1,5 @@
 // Reading a formula part: its facts, and going through it token by token, with a struct that holds the part's bytes and a place. The work is in
-// functions over a slice and a place (formula_tokens), by which `formula::check` and the valuer go as well. The functions over `FormulaReader` are
-// short, since each is proved by hand.
+// functions over a slice and a place (formula_tokens), by which `formula::check` and the valuer go as well.
 #![tactic(auto)]
 
 ghost use Rattle.std.specs.Prelude.{◌≡◌};

@@ -1,2 +1,2 @@
--- What the walk of `three` rests on.
+-- What the proof of `three` rests on.
 mod Calls
