@@ -1,5 +1,6 @@
 -- What holds of an accepted case, and its gapless form: the same content, and its greatest length.
 -- Rests on Reading, Placed, Laid and FormulaParts.
+-- The definitions are in specs/Accepted.
 --   case_exactly: a case is accepted exactly when its parts stand where they may, are those of the content, and pass their tests
 --   part_length, parts_length, parts_four: the parts of a placed case
 --   gapless_most, written_most: the gapless form has at most 16,618 bytes

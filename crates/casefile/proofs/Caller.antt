@@ -1,4 +1,5 @@
 -- What a caller of the check learns of a case or a store from the answer. Rests on Answer, Accepted and Content.
+-- The definitions are in specs/Caller.
 --   when_accepted, when_refused: what follows from the answer; accepted_as: the same from the content
 use Rattle.std.specs.Prelude.{ℕ, ◌≡◌, refl, List}
 use Rattle.std.proofs.Common.{sym, ◌∙◌, arith}

@@ -1,4 +1,5 @@
 -- What an accepted case gives to whoever works with its lattice, its models and its formulas. Rests on Accepted.
+-- The definitions are in specs/Content.
 --   content_sound: the content of every accepted case is so
 use Rattle.std.specs.Prelude.{ℕ, suc, ◌+◌, ◌<◌, ◌≡◌, List, [], length, get_or}
 use Rattle.std.proofs.Common.{sym, ap, ◌∙◌, mul-pos, arith}

@@ -1,4 +1,5 @@
 -- The case of document 01's report example, read by the definitions. Rests on Answer, Gapless and Accepted, and on the examples of lattice and model.
+-- The definitions are in specs/Examples.
 use Rattle.std.specs.Prelude.{◌≡◌, refl}
 use Rattle.std.proofs.Common.{ap}
 use Rattle.theory.specs.Formula.{closed_under, over_props, nested_binders}

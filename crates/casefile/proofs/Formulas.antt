@@ -1,4 +1,5 @@
 -- For a loop over the formula parts: the answer is that of the parts still to come. Rests on Answer.
+-- The definitions are in specs/Formulas.
 use Rattle.std.specs.Prelude.{ℕ, suc, ◌+◌, ◌-◌, ◌≤◌, ◌<◌, ◌≡◌, refl, true, false, List}
 use Rattle.std.proofs.Common.{sym, ap, ap₂, ◌∙◌, arith}
 use Rattle.theory.specs.TestLaws.{false_true}

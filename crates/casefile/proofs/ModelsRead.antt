@@ -1,4 +1,5 @@
 -- What comes of the models of a case, after its lattice: refusal 9 with part 1 or with part 2, or what is found from the formulas on. Rests on Reading.
+-- The definitions are in specs/ModelsRead.
 --   first_model, second_model: part 1 is named exactly when it fails its test, and part 2 exactly when it does, or k differs, and part 1 does not
 --   past_models: anything else comes of the formulas, after both tests; test1, test2, from_formulas: the tests, and what is found after them
 --   models_number: the number is 9 or 10; Between, given, one_of: the numbers of refusals, one test after the other

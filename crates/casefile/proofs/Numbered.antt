@@ -1,5 +1,6 @@
 -- Which of the refusals 1 to 10 a case is given. Rests on Reading, Placed, RefusedAs, ModelsRead, FirstParts, refusal's First, lattice's Numbered and
 -- Accepted, model's Accepted.
+-- The definitions are in specs/Numbered.
 --   refused_as: each is given exactly when what it asks is broken and nothing that comes before it is; CaseRefused: number and part of a refused case
 use Rattle.std.specs.Prelude.{ℕ, ◌-◌, ◌≤◌, ◌<◌, ◌≡◌, refl, Bool, true, false, cond, ◌↔◌, List, ltb, eqb, leb, get_or, length}
 use Rattle.std.proofs.Common.{ap, ◌∙◌, arith, eqb-true, eq-eqb, ltb-true, leb-true, lt-ltb, le-leb}

@@ -1,4 +1,5 @@
 -- The loops over the parts of a case that write its gapless form, or count its bytes. Rests on Appended, Gapless and Accepted.
+-- The definitions are in specs/Writer.
 --   gapless-fits, directory-fits: a placed case is at least as long as its gapless form, and a buffer for that holds the directory
 --   writing_start; pairs_turn, parts_turn; writing_done: its begin, its turns and its end
 --   case_written: the count, the pairs and the parts are the gapless case

@@ -1,5 +1,6 @@
 -- What holds of an accepted case, and its gapless form: the same content, and its greatest length.
 -- Rests on Reading, Placed, Laid and FormulaParts.
+-- Here stand the definitions; the theorems are in proofs/Accepted.
 --   Accepted, accepted_case: what holds of a case that is accepted with a content
 --   ContentOf, content_of: the content of parts that are read
 use Rattle.std.specs.Prelude.{ℕ, ◌≤◌, ◌<◌, ◌≡◌, List, ◌∷◌, length}

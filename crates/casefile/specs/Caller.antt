@@ -1,4 +1,5 @@
 -- What a caller of the check learns of a case or a store from the answer. Rests on Answer, Accepted and Content.
+-- Here stand the definitions; the theorems are in proofs/Caller.
 --   AcceptedCase: what is known of an accepted case: its content, sizes, operations and their laws, its places and parts, its gapless length
 use Rattle.std.specs.Prelude.{ℕ, ◌≤◌, ◌≡◌, List, length}
 use Rattle.theory.specs.Lattice.{Laws}

@@ -1,4 +1,5 @@
 -- What an accepted case gives to whoever works with its lattice, its models and its formulas. Rests on Accepted.
+-- Here stand the definitions; the theorems are in proofs/Content.
 --   ContentSound: the lattice has its laws, the models have their shape and their values in it, the formulas are read; sizes are bounded
 --   PartsAre, parts_are: the parts of an accepted case are those of its content; part_is, count_is: one part by its number, and their count
 use Rattle.std.specs.Prelude.{ℕ, ◌+◌, ◌*◌, ◌≤◌, ◌<◌, ◌≡◌, List, [], length, get_or}

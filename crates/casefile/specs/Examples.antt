@@ -1,4 +1,5 @@
 -- The case of document 01's report example, read by the definitions. Rests on Answer, Gapless and Accepted, and on the examples of lattice and model.
+-- Here stand the definitions; the theorems are in proofs/Examples.
 use Rattle.std.specs.Prelude.{ℕ, List, [], ◌∷◌}
 use Rattle.theory.specs.Formula.{prop}
 use Rattle.theory.specs.Part.{explicit_part}

@@ -1,4 +1,5 @@
 -- For a loop over the formula parts: the answer is that of the parts still to come. Rests on Answer.
+-- Here stand the definitions; the theorems are in proofs/Formulas.
 --   FormulasUpto: the first f of n formula parts are formulas; formulas_none, formulas_more, formulas_stop, formulas_done
 --   answer_from: the answer for the parts from part i on
 use Rattle.std.specs.Prelude.{ℕ, ◌+◌, ◌-◌, ◌≡◌, List}

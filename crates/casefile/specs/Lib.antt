@@ -6,7 +6,7 @@ pub mod Gapless  -- the gapless case of a list of parts
 pub mod Answer  -- what the check of a case answers
 pub mod Conditions  -- what a case has to be, what functions on an accepted case ask for, and when two contents say the same
 pub mod RefusedAs  -- which refusal a case is given, 1 to 10, and exactly when
--- ---- theorems
+-- ---- theorems, and the definitions of those that stand in proofs/
 pub mod Placed  -- a case whose parts stand where they may
 pub mod ModelsRead  -- what comes of the models: refusal 9, or the formulas
 pub mod Numbered  -- the refusals 1 to 10 are given so

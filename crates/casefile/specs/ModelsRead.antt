@@ -1,4 +1,5 @@
 -- What comes of the models of a case, after its lattice: refusal 9 with part 1 or with part 2, or what is found from the formulas on. Rests on Reading.
+-- Here stand the definitions; the theorems are in proofs/ModelsRead.
 use Rattle.std.specs.Prelude.{ℕ, ◌≤◌}
 use Rattle.refusal.specs.declared.Refusal.{Refusal}
 use Rattle.refusal.specs.Number.{number_of}

@@ -1,5 +1,6 @@
 -- Which of the refusals 1 to 10 a case is given. Rests on Reading, Placed, RefusedAs, ModelsRead, FirstParts, refusal's First, lattice's Numbered and
 -- Accepted, model's Accepted.
+-- Here stand the definitions; the theorems are in proofs/Numbered.
 --   CaseNumber, case-number: a case is refused with 1 to 10
 use Rattle.std.specs.Prelude.{ℕ, ◌≡◌, List}
 use Rattle.refusal.specs.declared.Refusal.{Refusal}

@@ -1,4 +1,5 @@
 -- The loops over the parts of a case that write its gapless form, or count its bytes. Rests on Appended, Gapless and Accepted.
+-- Here stand the definitions; the theorems are in proofs/WriterLaws.
 --   Measured: the place that a loop over the parts has come to; measured_none, -more, -small, -done: its begin, its turn, its size and its end
 --   Writing: such a loop that writes, and its two kinds, PairsWritten and PartsWritten
 --   Room, writing_room, pairs_buffer_length, parts_buffer_length: what a turn asks for, and that the buffer has its length

@@ -1,5 +1,6 @@
 -- Formula f and model m of an accepted case, as parts of its bytes: for the proofs of the code that values them. Rests on Case, Refused and
 -- casefile's Caller, and on formula's Answer.
+-- The definitions are in specs/CaseParts.
 use Rattle.std.specs.Prelude.{ℕ, ◌+◌, ◌<◌, ◌≡◌, refl, Bool, true, false, ◌||◌, List, eqb, length, get_or}
 use Rattle.std.proofs.Common.{sym, ap, arith, eqb-true}
 use Rattle.theory.specs.Model.{Valued}

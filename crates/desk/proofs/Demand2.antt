@@ -1,5 +1,6 @@
 -- Demand 2, of the desk after every list of calls with an accepted opening in it. Rests on Run, and for the proof on Demand3Holds, Listed,
 -- RefusedLaws, theory's Rounds and Fixpoint.
+-- The definitions are in specs/Demand2.
 --     calls answer (values, wholes), with the formula's facts, that there is this calculus (calculus_is), and every closed formula's values (values_are)
 --   demand2: the demand holds after every such list
 --   is_calculus, value_of: the last two, of any content that is sound; value_asked, whole_asked: the answers, of any desk where they are accepted

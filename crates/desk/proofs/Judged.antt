@@ -1,5 +1,6 @@
 -- What judge's yes and no say of a table (request 104), of a desk whose questions are answered from a view. Rests on Demand3, Refused, Run, RefusedLaws,
 -- ViewLaws, theory's Rounds and Preservation, rounds' Round, and casefile's Content.
+-- The definitions are in specs/Judged.
 --   judge-yes, judge-no: of a table that is not refused, yes is said exactly where it is; passes_exactly: of any bytes
 --   passed_le, passed_bounds: such a table lies at or below every greatest simulation, and bounds every closed universal formula
 --   simulation_passes: every simulation gets a yes; round-passes-exactly: so do round T − 1 and those after it, and no other

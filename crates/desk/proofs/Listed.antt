@@ -1,4 +1,5 @@
 -- Lists of calls, and the invariant of demand 3 after them. Rests on Run, RefusedLaws, Stands, Stepping, Next.
+-- The definitions are in specs/Listed.
 --   last_opening, opening_T: a list with an accepted opening in it has a last one, whose case has a T
 --   run_append: one list after another; call_unchanged, reading_unchanged: a refused call, and one that neither opens nor steps, leaves the desk as it was
 --   step_stands: an accepted step moves the invariant on, and answers what it says

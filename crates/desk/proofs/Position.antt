@@ -1,4 +1,5 @@
 -- What the standing is after s accepted steps, from the invariant of demand 3. Rests on Stands, Case, Moved and Run.
+-- The definitions are in specs/Position.
 use Rattle.std.specs.Prelude.{ℕ, ◌+◌, ◌*◌, ◌/◌, ◌%◌, ◌<◌, min, ◌≡◌, List}
 use Rattle.std.proofs.Common.{sym, ap, ◌∙◌, ⊎_elim, mod-eq_of_lt, le-div_iff_mul-le, arith, eq-eqb, ne_eqb}
 use Rattle.std.proofs.Math.Nat.{mul-add-div_right, mul-add-mod_self_right, div-eq_of_lt, min-eq_left, min-eq_right}

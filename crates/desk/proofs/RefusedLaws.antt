@@ -1,5 +1,6 @@
 -- Theorems on which refusal a call gets, or the content that it works on: for demand 1, demand 3 and the proofs of the code.
 -- Rests on Refused, Perform, Run and RulesLaws.
+-- The definitions are in specs/RefusedLaws.
 --   perform_refused, perform_accepted: what a call does, from its examination
 --   is_short, open_long, is_spoiled, in_store: which refusal, and when; Unspoiled: neither 11 nor 12 applies
 --   accepted_content, refused_refusal, content_accepted: accepted or refused, and never both; unrefused_accepted: a question that answers no refusal

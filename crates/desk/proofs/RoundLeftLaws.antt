@@ -1,4 +1,5 @@
 -- What the steps that are left in a round do, and that demand 3 goes through them. Rests on RoundLeft, Stepping, Listed and rounds' Rest.
+-- The definitions are in specs/RoundLeftLaws.
 --   one_finished: where one step is left; rest-finished, settled_finished: where an accepted desk is unsettled, and where it is settled
 --   step-obeys-rules: a row that is not the last leaves a desk to which neither 11 nor 12 applies
 --   acts_run, acts_demand3: a list with the rest of a round in it is a list of calls

@@ -1,5 +1,6 @@
 -- Rounds by the rest of a round: after an accepted opening, n of these calls give round n, and T of them settle the desk.
 -- Rests on RoundLeftLaws, Stands, Next and Settling.
+-- The definitions are in specs/RoundLeftRounds.
 use Prim.Native.Nat.{ℕ, zero, suc, ◌+◌, ◌≤◌, ◌<◌, min}
 use Rattle.std.specs.Prelude.{◌≡◌, refl, Bool, true, false, ◌↔◌, List, ltb, replicate}
 use Rattle.std.proofs.Common.{sym, ap, ◌∙◌, ltb-true, ltb-false}

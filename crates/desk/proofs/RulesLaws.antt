@@ -1,4 +1,5 @@
 -- The tests of refusals 11, 12 and those after 12 say what their rules say. Rests on Refused and casefile's Reading.
+-- The definitions are in specs/RulesLaws.
 --   rules_out, rules_in, spoiled_exactly: the rules of 12, of a content and of the store
 --   condition_exactly: the conditions after 12, one by one; holding_exactly, range_exactly: no refusal is given exactly when all of them hold
 --   broken_exactly: a refusal is given exactly when it is that of the first broken one; refusal_one: it is one of theirs, above 12

@@ -1,5 +1,6 @@
 -- The invariant of demand 3, 'this desk is what the content c gives after s accepted steps', and that an accepted opening starts it.
 -- Rests on Case, Refused, Moved, RulesLaws, rounds' Round, theory's Lowerings, casefile's Accepted and Content.
+-- The definitions are in specs/Stands.
 use Rattle.std.specs.Prelude.{ℕ, ◌+◌, ◌≤◌, ◌<◌, ◌≡◌, refl, false, List, get_or, replicate}
 use Rattle.std.proofs.Math.Path.{sym}
 use Rattle.std.proofs.Common.{◌∙◌, arith}

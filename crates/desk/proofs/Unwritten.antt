@@ -1,5 +1,6 @@
 -- 'Table bytes past N1·N2 and store bytes past 24,576 are never written', and no buffer changes its length. Rests on RefusedLaws, Moved,
 -- theory's Written.
+-- The definitions are in specs/Unwritten.
 --   never_written: an accepted call leaves it so, on every desk; unaltered: so does one that alters nothing
 use Rattle.std.specs.Prelude.{ℕ, ◌+◌, ◌*◌, ◌≤◌, ◌<◌, ◌≡◌, refl, Bool, true, false, cond, List, length, take, replicate}
 use Rattle.std.proofs.Common.{sym, ap, subst, arith}

@@ -1,4 +1,5 @@
 -- A question reads a table only at the pairs of states. Rests on View, Refused, Perform, theory's Rounds, Share and Loop, rounds' Round.
+-- The definitions are in specs/ViewLaws.
 --   conditions_cong, answer_cong: a question has the same first refusal, and the same answer, from two of them
 --   pairs_at, entries_cong: the entries of a table in the order of its bytes; bytes_table: these bytes hold them
 use Rattle.std.specs.Prelude.{ℕ, zero, suc, ◌+◌, ◌*◌, ◌/◌, ◌%◌, ◌<◌, ◌≡◌, refl, Bool, List, [], ◌∷◌}

@@ -1,4 +1,5 @@
 -- Request 105: what write leaves in its buffer, on every desk, and what opening that gives. Rests on Demand3, Demand1Holds, RefusedLaws, RulesLaws, casefile's Accepted and Same.
+-- The definitions are in specs/WrittenBack.
 --   written_exactly: when write is answered, and how; short_buffer_exactly: when 14 is given; write_refusals: no other refusals but 11 and 12
 --   written_opens: opening what was written gives the same reading, at round 0 with both tables top
 --   written_same_exactly: what two desks write is the same exactly when their stores are read alike; written_same-case_exactly: when these say the same

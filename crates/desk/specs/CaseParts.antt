@@ -1,5 +1,6 @@
 -- Formula f and model m of an accepted case, as parts of its bytes: for the proofs of the code that values them. Rests on Case, Refused and
 -- casefile's Caller, and on formula's Answer.
+-- Here stand the definitions; the theorems are in proofs/CaseParts.
 --   FormulaOnModel: what valuing formula f on model m asks of a case; parts_formula_on_model: an accepted case fulfils it
 --   ModelPart, model_part: part m of an accepted case is model m of its content; model_valued: its values are elements; formula_part: part 3 + f is read as formula f
 use Rattle.std.specs.Prelude.{ℕ, ◌+◌, ◌≤◌, ◌<◌, ◌≡◌, List, get_or}

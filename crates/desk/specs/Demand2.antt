@@ -1,5 +1,6 @@
 -- Demand 2, of the desk after every list of calls with an accepted opening in it. Rests on Run, and for the proof on Demand3Holds, Listed,
 -- RefusedLaws, theory's Rounds and Fixpoint.
+-- Here stand the definitions; the theorems are in proofs/Demand2.
 --   Demand2: the settled table is the greatest latticed simulation (settled_table), and values are those of the latticed mu-calculus: what the
 --     calls answer (values, wholes), with the formula's facts, that there is this calculus (calculus_is), and every closed formula's values (values_are)
 -- d is the desk after such a list, and the case of its last accepted opening holds c

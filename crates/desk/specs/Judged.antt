@@ -1,5 +1,6 @@
 -- What judge's yes and no say of a table (request 104), of a desk whose questions are answered from a view. Rests on Demand3, Refused, Run, RefusedLaws,
 -- ViewLaws, theory's Rounds and Preservation, rounds' Round, and casefile's Content.
+-- Here stand the definitions; the theorems are in proofs/Judged.
 --   PostFixed: a table is at or below F of it, for the content of a case
 use Rattle.std.specs.Prelude.{ℕ}
 use Rattle.theory.specs.Simulation.{PostFixedBy}

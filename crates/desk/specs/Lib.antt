@@ -11,7 +11,7 @@ pub mod RoundLeft  -- the rest of a round in one call: so many steps
 pub mod Demand1  -- which refusal is given and exactly when; every other input is accepted
 pub mod Demand2  -- the settled table is the greatest simulation, and values are those of the mu-calculus
 pub mod Demand3  -- one claim about every list of calls with an accepted opening in it
--- ---- theorems
+-- ---- theorems, and the definitions of those that stand in proofs/
 pub mod CaseParts  -- formula f and model m of an accepted case, as parts of its bytes
 pub mod RulesLaws  -- the tests of refusals 11 to 14 say what their rules say
 pub mod ViewLaws  -- a question is answered alike from views that agree at the pairs of states; the bytes of a table hold its entries

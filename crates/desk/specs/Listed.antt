@@ -1,4 +1,5 @@
 -- Lists of calls, and the invariant of demand 3 after them. Rests on Run, RefusedLaws, Stands, Stepping, Next.
+-- Here stand the definitions; the theorems are in proofs/Listed.
 --   Since, since: after a list with no accepted opening the invariant holds, and each accepted step answered what it says
 use Rattle.std.specs.Prelude.{ℕ, suc, ◌+◌, ◌<◌, ◌≡◌, length, get_or}
 use mathlib.Core.List.{List}

@@ -1,4 +1,5 @@
 -- What the standing is after s accepted steps, from the invariant of demand 3. Rests on Stands, Case, Moved and Run.
+-- Here stand the definitions; the theorems are in proofs/Position.
 --   Position: round, next row, settled, lowerings, and the answer that they give; position: the invariant gives it
 use Rattle.std.specs.Prelude.{ℕ, ◌%◌, ◌<◌, ◌≡◌, true, ◌↔◌, eqb}
 use Rattle.casefile.specs.Reading.{Content}

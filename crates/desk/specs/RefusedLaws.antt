@@ -1,5 +1,6 @@
 -- Theorems on which refusal a call gets, or the content that it works on: for demand 1, demand 3 and the proofs of the code.
 -- Rests on Refused, Perform, Run and RulesLaws.
+-- Here stand the definitions; the theorems are in proofs/RefusedLaws.
 --   OpenAccepted, open_accepted, OtherAccepted, other_accepted: what an accepted call knows of its desk
 --   Outcome, outcome: what may come of a call that does not open; opens_or_not: a call opens or does not
 use Rattle.std.specs.Prelude.{ℕ, ◌≡◌, true, false, List}

@@ -1,4 +1,5 @@
 -- What the steps that are left in a round do, and that demand 3 goes through them. Rests on RoundLeft, Stepping, Listed and rounds' Rest.
+-- Here stand the definitions; the theorems are in proofs/RoundLeftLaws.
 --   ended, by ended_by and ended_from: the desk after the last row of a round
 use Prim.Native.Nat.{ℕ, ◌+◌, ◌-◌}
 use Rattle.std.specs.Prelude.{Bool, cond, ◌||◌}

@@ -1,5 +1,6 @@
 -- Rounds by the rest of a round: after an accepted opening, n of these calls give round n, and T of them settle the desk.
 -- Rests on RoundLeftLaws, Stands, Next and Settling.
+-- Here stand the definitions; the theorems are in proofs/RoundLeftRounds.
 use Prim.Native.Nat.{ℕ}
 use Rattle.std.specs.Prelude.{List, ◌∷◌, replicate}
 use Rattle.desk.specs.Desk.{Desk, Call}

@@ -1,4 +1,5 @@
 -- The tests of refusals 11, 12 and those after 12 say what their rules say. Rests on Refused and casefile's Reading.
+-- Here stand the definitions; the theorems are in proofs/RulesLaws.
 --   Long, long-enough, long_not_short: the lengths of a desk to which 11 does not apply
 use Rattle.std.specs.Prelude.{◌≤◌, ◌≡◌, List, [], ◌∷◌, length}
 use Rattle.refusal.specs.declared.Refusal.{Refusal}

@@ -1,5 +1,6 @@
 -- The invariant of demand 3, 'this desk is what the content c gives after s accepted steps', and that an accepted opening starts it.
 -- Rests on Case, Refused, Moved, RulesLaws, rounds' Round, theory's Lowerings, casefile's Accepted and Content.
+-- Here stand the definitions; the theorems are in proofs/Stands.
 --   Known: the content of an accepted case, and its T; known-sound, sizes_most, some_states: what it gives
 --   SizesAre: the standing's sizes; BeforeT, AtT, Progress: before T, at T, and what holds of both; DeskBeforeT, DeskAtT, ProgressAt: the same of a desk
 --   Stands: the invariant; opening_starts: an accepted opening starts it

@@ -1,5 +1,6 @@
 -- 'Table bytes past N1·N2 and store bytes past 24,576 are never written', and no buffer changes its length. Rests on RefusedLaws, Moved,
 -- theory's Written.
+-- Here stand the definitions; the theorems are in proofs/Unwritten.
 --   SameFrom, Unwritten: what is unchanged of a buffer, and of the buffers of a desk
 use Rattle.std.specs.Prelude.{ℕ, ◌≤◌, ◌≡◌, List, length, get_or}
 use Rattle.desk.specs.Desk.{Desk}

@@ -1,4 +1,5 @@
 -- A question reads a table only at the pairs of states. Rests on View, Refused, Perform, theory's Rounds, Share and Loop, rounds' Round.
+-- Here stand the definitions; the theorems are in proofs/ViewLaws.
 --   SameView: views that agree at the pairs of states
 use Rattle.std.specs.Prelude.{◌≡◌}
 use Rattle.theory.specs.Simulation.{SameTable}

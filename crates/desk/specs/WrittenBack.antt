@@ -1,4 +1,5 @@
 -- Request 105: what write leaves in its buffer, on every desk, and what opening that gives. Rests on Demand3, Demand1Holds, RefusedLaws, RulesLaws, casefile's Accepted and Same.
+-- Here stand the definitions; the theorems are in proofs/WrittenBack.
 --   WrittenCase, written_case: the bytes of the buffer after an answered write
 use Rattle.std.specs.Prelude.{ℕ, ◌≤◌, List, length, take, drop}
 use Rattle.std.proofs.Math.Path.{◌≡◌}

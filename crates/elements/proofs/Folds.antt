@@ -1,4 +1,5 @@
 -- Finite meets and joins by codes. Rests on theory's Lattice and Loop, Words, Coded, Laws.
+-- The definitions are in specs/Folds.
 --   code_of, negated_of, bottom_of: the codes of an element, of its complement, of the bottom; meet_of_lem, join_of_lem: & and | of two codes
 --   big_join_lt, big_meet_lt: the results are elements
 --   fold_meets, fold_joins: a fold of codes is the code of the finite meet or join

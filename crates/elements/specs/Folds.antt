@@ -1,4 +1,5 @@
 -- Finite meets and joins by codes. Rests on theory's Lattice and Loop, Words, Coded, Laws.
+-- Here stand the definitions; the theorems are in proofs/Folds.
 --   CodeOf: a word is an element's code; decode_in_lem: the element found by it
 use Prim.Native.Nat.{ℕ}
 use Rattle.std.specs.Prelude.{◌≡◌, List}

@@ -1,5 +1,6 @@
 -- The test that an accepted part passes: its order is that of the codes, the | of a code and an irreducible element's code is a code, and so is 0.
 -- Exactly the distributive lattices pass it. Rests on lattice_order's Ordered, Bounds and Tests, elements' Bits and Laws, Tests, Order, Bounded, Birkhoff.
+-- The definitions are in specs/Accepting.
 --   lattice_sound: what passes is one; test_complete: each one passes; lattice_exactly: both; bottom_code: the code of the bottom is 0
 use Rattle.std.specs.Prelude.{ℕ, zero, suc, ◌^◌, ◌≤◌, ◌<◌, ◌≡◌, refl, Bool, true, false, ◌&&◌, ◌||◌}
 use Rattle.std.proofs.Common.{sym, ap₂, ◌∙◌, le_refl, not-suc-le-zero, arith, eqb-true, eq-eqb}

@@ -1,5 +1,6 @@
 -- Codes of the elements of a lattice, by its irreducible elements: a lattice is distributive exactly when the code of a join is the | of the
 -- codes. Rests on lattice_order's Ordered, Bounds and Tests, elements' Bits and Laws, Tests, Order, Lattice.
+-- The definitions are in specs/Birkhoff.
 --   code_bits: the bits of a code; code-order: the order is that of the codes; code-distinct; code_meet: the code of a meet
 --   distributive-sound: where the | of every two codes is a code, the lattice is distributive; code-join: where it is, that of the join
 use Rattle.std.specs.Prelude.{ℕ, zero, suc, ◌-◌, ◌^◌, ◌<◌, ◌≡◌, refl, Bool, true, false, ◌&&◌, ◌||◌}

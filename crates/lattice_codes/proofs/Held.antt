@@ -1,5 +1,6 @@
 -- The words of a distributive lattice hold its operations. Rests on theory's Part, lattice_order's Ordered and Searched, elements' Words, Tests, Birkhoff,
 -- Accepting.
+-- The definitions are in specs/Held.
 --   held-ops: the operations read from them are the lattice's; held-coded: they are as `words` asks
 --   top-is_word, top_found, bottom_is_word, bottom_found: top and bottom by their codes; complement-exactly: the test of refusal 8 by words
 use Rattle.std.specs.Prelude.{ℕ, ◌+◌, ◌%◌, ◌<◌, ◌≡◌, Bool, true, ◌&&◌, List, ltb}

@@ -1,4 +1,5 @@
 -- Birkhoff's theorem for a distributive lattice, in the terms of its codes. Rests on theory's Irreducible, Tests, Birkhoff, Irreducible and Accepting.
+-- The definitions are in specs/Representation.
 --     every set of join-irreducible elements that has those below its own is one element's code
 --   birkhoff: every distributive lattice is so; code_unique: no two elements have one code
 use Rattle.std.specs.Prelude.{ℕ, ◌<◌, ◌≡◌, Bool, true, ◌&&◌}

@@ -1,5 +1,6 @@
 -- The test that an accepted part passes: its order is that of the codes, the | of a code and an irreducible element's code is a code, and so is 0.
 -- Exactly the distributive lattices pass it. Rests on lattice_order's Ordered, Bounds and Tests, elements' Bits and Laws, Tests, Order, Bounded, Birkhoff.
+-- Here stand the definitions; the theorems are in proofs/Accepting.
 --   DownSet, CodeAt, set_code: every set of irreducible elements that has those below its own is the code of an element
 --   DistributiveLattice: a partial order with all meets and joins, and distributive
 use Rattle.std.specs.Prelude.{ℕ, ◌<◌, ◌≡◌, Bool, true}

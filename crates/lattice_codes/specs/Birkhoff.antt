@@ -1,5 +1,6 @@
 -- Codes of the elements of a lattice, by its irreducible elements: a lattice is distributive exactly when the code of a join is the | of the
 -- codes. Rests on lattice_order's Ordered, Bounds and Tests, elements' Bits and Laws, Tests, Order, Lattice.
+-- Here stand the definitions; the theorems are in proofs/Birkhoff.
 --   Irreducible, irreducible_in, irreducible_out: what it is to be irreducible
 use Rattle.std.specs.Prelude.{ℕ, ◌<◌, ◌≡◌, Bool, ◌&&◌}
 use Rattle.theory.specs.Part.{LatticePart}

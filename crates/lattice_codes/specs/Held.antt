@@ -1,5 +1,6 @@
 -- The words of a distributive lattice hold its operations. Rests on theory's Part, lattice_order's Ordered and Searched, elements' Words, Tests, Birkhoff,
 -- Accepting.
+-- Here stand the definitions; the theorems are in proofs/Held.
 --   CodesOf: 128 words hold the codes of the elements and of their complements
 use Rattle.std.specs.Prelude.{ℕ, ◌+◌, ◌<◌, ◌≡◌, List}
 use Rattle.std.proofs.Math.ListN.{get_or}

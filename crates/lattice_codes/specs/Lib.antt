@@ -1,7 +1,7 @@
 -- Codes of a lattice's elements: bit e of a's code is set exactly when e is join-irreducible and at or below a.
 -- ---- what a reader must believe: the tests on words, and what they say of an order
 pub mod Tests
--- ---- theorems
+-- ---- theorems, and the definitions of those that stand in proofs/
 -- a partial order, by the words of the elements at or below each
 pub mod Order
 -- meets and joins, by the same words

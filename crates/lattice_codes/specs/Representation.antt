@@ -1,4 +1,5 @@
 -- Birkhoff's theorem for a distributive lattice, in the terms of its codes. Rests on theory's Irreducible, Tests, Birkhoff, Irreducible and Accepting.
+-- Here stand the definitions; the theorems are in proofs/Representation.
 --   has_bit: bit e of a word
 --   Represented: bit e of a's code is set exactly when e is join-irreducible and at or below a; codes say the order, meet is &, join is |, and
 --     every set of join-irreducible elements that has those below its own is one element's code

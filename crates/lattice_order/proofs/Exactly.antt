@@ -1,5 +1,6 @@
 -- The parts that pass every test are exactly the distributive De Morgan lattices. Rests on theory's Lattice, Tests, Searched, DeMorgan, Ordered,
 -- Sound.
+-- The definitions are in specs/Exactly.
 --   lattice_ordered, lattice_meets_and_joins, lattice_distributive, lattice_complements: such a lattice passes each test
 --   sound_lattice: what passes is one
 use Rattle.std.specs.Prelude.{ℕ, ◌<◌, ◌≡◌, true}

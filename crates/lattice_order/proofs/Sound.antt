@@ -1,5 +1,6 @@
 -- The operations of a part that passes every test obey the laws of a distributive De Morgan lattice. Rests on theory's Lattice, Tests, Searched,
 -- DeMorgan, Ordered.
+-- The definitions are in specs/Sound.
 --   laws_of: its operations obey the laws
 --   id, dist_same, neg_same, neg_order: elements, distributivity and the complement's rules, as the tests give them
 use Rattle.std.specs.Prelude.{ℕ, ◌<◌, ◌≡◌, true}

@@ -1,5 +1,6 @@
 -- The parts that pass every test are exactly the distributive De Morgan lattices. Rests on theory's Lattice, Tests, Searched, DeMorgan, Ordered,
 -- Sound.
+-- Here stand the definitions; the theorems are in proofs/Exactly.
 --   SameLattice, ops_lattice: a part whose order and complement are those of operations that obey the laws is one
 use Rattle.std.specs.Prelude.{ℕ, ◌<◌, ◌≡◌, ltb}
 use Rattle.theory.specs.Lattice.{Ops}

@@ -1,5 +1,6 @@
 -- The operations of a part that passes every test obey the laws of a distributive De Morgan lattice. Rests on theory's Lattice, Tests, Searched,
 -- DeMorgan, Ordered.
+-- Here stand the definitions; the theorems are in proofs/Sound.
 --   LatticeSound: a part to which none of the refusals applies
 use Rattle.std.specs.Prelude.{◌≡◌, true}
 use Rattle.theory.specs.Part.{LatticePart, meet_of, join_of}

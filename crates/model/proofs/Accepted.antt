@@ -1,4 +1,5 @@
 -- What holds of a model part that is accepted, and which are. Rests on Reading, Places, theory's Part, Model and Test.
+-- The definitions are in specs/Accepted.
 --   model_exactly: a part is accepted exactly when it has its shape and every value is an element
 --   accepted_shape, accepted_valued, shape_of, sizes_pass: what holds of an accepted part
 --   answers_accepted, answers_refused: what the code answers

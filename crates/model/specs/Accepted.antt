@@ -1,4 +1,5 @@
 -- What holds of a model part that is accepted, and which are. Rests on Reading, Places, theory's Part, Model and Test.
+-- Here stand the definitions; the theorems are in proofs/Accepted.
 --   Cell, cell: a place of n rows of w values is in a row and a column
 use Rattle.std.specs.Prelude.{ℕ, ◌+◌, ◌*◌, ◌<◌, ◌≡◌}
 

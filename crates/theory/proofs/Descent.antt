@@ -1,5 +1,6 @@
 -- A descending sequence of finite tables over a lattice changes only so often: by the length of the longest chain.
 -- The general part of theorem 4. Rests on Lattice, Simulation (lowerings), Test, Finite, Lowerings.
+-- The definitions are in specs/Descent.
 --   lowerings-le: a descending sequence of m by n tables lowers at most m * n * (h - 1) entries
 --   first-unlowered: so there is a first step that lowers none
 use Prim.Native.Nat.{ℕ, zero, suc, ◌+◌, ◌*◌, ◌≤◌, ◌<◌, zero-le}

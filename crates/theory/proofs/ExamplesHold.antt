@@ -1,5 +1,6 @@
 -- Theorem 8: the definitions give the values of the worked examples, and example 2 meets the limit on T.
 -- Rests on Examples, Test, Descent, Height, Monotone.
+-- The definitions are in specs/ExamplesHold.
 --   examples_hold: every worked example holds
 --   limit_met: T is N1·N2·(h − 1) + 1 in example 2
 use Rattle.std.specs.Prelude.{ℕ, zero, suc, ◌+◌, ◌*◌, ◌-◌, ◌<◌, ◌≡◌, refl, true, not, [], ◌∷◌, ltb}

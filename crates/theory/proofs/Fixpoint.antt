@@ -1,5 +1,6 @@
 -- Theorem 2: a fixpoint's value is the least (greatest) map that its body sends to itself; the number of applications of a body does not
 -- matter from states * (n - 1) on; so values are those of the latticed mu-calculus. Rests on Value, Calculus, Monotone, Iterates, Descent.
+-- The definitions are in specs/Fixpoint.
 --   mu_falls, mu_rises, mu_le: the body sends a least fixpoint's value to itself, and what it does not raise lies above
 --   nu_rises, nu_falls, nu_ge: the same of a greatest fixpoint, the other way round
 --   applications_le, applications-same: any two counts of applications that are enough give the same values

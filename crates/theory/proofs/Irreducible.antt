@@ -1,4 +1,5 @@
 -- Join-irreducible elements. Rests on Lattice, TestLaws, Finite.
+-- The definitions are in specs/Irreducible.
 --   below-join, below-big_join: at or below a join, such an element is at or below one of its members
 --   dense, determined: an element is determined by those at or below it
 use Prim.Native.Nat.{ℕ, zero, suc, ◌+◌, ◌<◌}

@@ -1,4 +1,5 @@
 -- The iterates of a monotone map on functions, from the greatest value on, in either direction of an order. Rests on Value, Descent.
+-- The definitions are in specs/Iterates.
 --   iterate-greatest: what g does not lower lies below every iterate
 --   iterate-falls, iterate_fixed: an iterate is not raised, and enough iterates are not lowered
 --   steps-down: each iterate lies at or below the one before

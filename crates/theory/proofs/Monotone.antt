@@ -1,5 +1,6 @@
 -- Theorem 2, its first part: a value reads maps and environments only at the states and the variables in scope, and is monotone in them.
 -- Rests on Value, Folds.
+-- The definitions are in specs/Monotone.
 --   all_next_cong, some_next_cong, eval_cong, body_cong: maps that agree at the states have the same values
 --   iterate_stays: once an application changes nothing at the states, no later one does
 --   all_next_mono, some_next_mono, eval_mono, body_mono: greater maps have greater values

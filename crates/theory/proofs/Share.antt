@@ -1,5 +1,6 @@
 -- Theorem 9: what a share in whole per cent is, without the quotient by which it is worked out, and what request 101 left as it was. Rests
 -- on Simulation and Loop.
+-- The definitions are in specs/Share.
 --   per_cent_nearest_even, share_nearest_even, per_cent_most, share_most: per_cent and share are that, and at most 100
 --   goes_up_is, per_cent_up, per_cent_down: goes_up and per_cent by one comparison
 --   share_cong: share reads no more than the entries that it counts

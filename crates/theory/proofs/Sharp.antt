@@ -1,6 +1,7 @@
 -- T is at most N1·N2 + 1, whatever the lattice's longest chain: which entries of round r + 1 a join-irreducible element is at or below depends
 -- only on which entries of round r it is at or below, and each round has these among the ones before. For F, and for any operator like it.
 -- Rests on Irreducible, Simulation, Descent, Height, Rounds; that the limit is attained, on Examples.
+-- The definitions are in specs/Sharp.
 --   T_sharp: T is at most N1·N2 + 1; sharp_attained: worked example 2 has that T; T-within-sharp: the limit for any operator like F
 --   meet_preserves, join_preserves, all_next_preserves, some_next_preserves, F_preserves, preserves-mono, rounds-same: that F is such an operator, and its rounds
 use Rattle.std.specs.Prelude.{ℕ, suc, ◌+◌, ◌*◌, ◌-◌, ◌≤◌, ◌<◌, ◌≡◌, refl, Bool, true, false, List, map, length}

@@ -1,5 +1,6 @@
 -- A descending sequence of finite tables over a lattice changes only so often: by the length of the longest chain.
 -- The general part of theorem 4. Rests on Lattice, Simulation (lowerings), Test, Finite, Lowerings.
+-- Here stand the definitions; the theorems are in proofs/Descent.
 --   steps: from one element of a chain of h to the next there are h - 1 steps
 --   Preorder: a decided preorder; downwards, upwards: those of a lattice
 --   Apart: in order, and not both ways; apart-most, apart-most-up: no list of values apart is longer than a chain

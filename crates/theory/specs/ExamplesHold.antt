@@ -1,5 +1,6 @@
 -- Theorem 8: the definitions give the values of the worked examples, and example 2 meets the limit on T.
 -- Rests on Examples, Test, Descent, Height, Monotone.
+-- Here stand the definitions; the theorems are in proofs/ExamplesHold.
 --   unchanged_test, settles_by_test: T by a test that is computed
 use Rattle.std.specs.Prelude.{ℕ, ◌-◌, Bool, ◌&&◌, ltb, eqb}
 use Rattle.theory.specs.Lattice.{Ops}

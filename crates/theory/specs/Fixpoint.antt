@@ -1,5 +1,6 @@
 -- Theorem 2: a fixpoint's value is the least (greatest) map that its body sends to itself; the number of applications of a body does not
 -- matter from states * (n - 1) on; so values are those of the latticed mu-calculus. Rests on Value, Calculus, Monotone, Iterates, Descent.
+-- Here stand the definitions; the theorems are in proofs/Fixpoint.
 use Prim.Native.Nat.{ℕ}
 use Rattle.theory.specs.Lattice.{Ops, Laws}
 use Rattle.theory.specs.Model.{Model}

@@ -1,4 +1,5 @@
 -- Join-irreducible elements. Rests on Lattice, TestLaws, Finite.
+-- Here stand the definitions; the theorems are in proofs/Irreducible.
 --   JoinIrreducible: the definition, which a reader of Sharp's theorem on any operator must believe (T_sharp itself does not speak of them)
 use Rattle.std.specs.Prelude.{◌≢◌}
 use Rattle.theory.specs.Lattice.{Ops, Element}

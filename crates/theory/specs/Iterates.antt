@@ -1,4 +1,5 @@
 -- The iterates of a monotone map on functions, from the greatest value on, in either direction of an order. Rests on Value, Descent.
+-- Here stand the definitions; the theorems are in proofs/Iterates.
 --   Under: at or below at every number below N
 use Prim.Native.Nat.{ℕ, ◌<◌}
 use Rattle.std.specs.Prelude.{◌≡◌, true}

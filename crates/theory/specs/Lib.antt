@@ -11,7 +11,7 @@ pub mod Test  -- tests over the numbers below a limit
 pub mod Lists  -- lists by their rule, and bytes written at a place of a list
 pub mod Part  -- the lattice and the model of a part's bytes
 pub mod Examples  -- the worked examples of document 01, with the shares of request 101 and what request 106 has to ask of a formula, as statements
--- ---- theorems
+-- ---- theorems, and the definitions of those that stand in proofs/
 pub mod TestLaws  -- laws of tests
 pub mod Folds  -- theorem 1: finite meets and joins, the De Morgan laws, → and ↔
 pub mod Loop  -- invariants of loops that count up from 0

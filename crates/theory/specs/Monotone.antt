@@ -1,5 +1,6 @@
 -- Theorem 2, its first part: a value reads maps and environments only at the states and the variables in scope, and is monotone in them.
 -- Rests on Value, Folds.
+-- Here stand the definitions; the theorems are in proofs/Monotone.
 --   SameEnv, AtMostEnv: environments that agree, or are in order; bind_mono: with one more variable
 use Prim.Native.Nat.{ℕ, ◌<◌}
 use Rattle.theory.specs.Lattice.{Ops, Laws}

@@ -1,5 +1,6 @@
 -- Theorem 9: what a share in whole per cent is, without the quotient by which it is worked out, and what request 101 left as it was. Rests
 -- on Simulation and Loop.
+-- Here stand the definitions; the theorems are in proofs/Share.
 --   distance, Nearest: no whole number of per cent is nearer to c of t; nearest-exactly: twice its distance is at most one per cent
 --   NearestEven: a nearest one, and the even one where two are; nearest-even-unique: there is no other
 --   halves_up: the rule of document 01 that request 101 replaces; per_cent_as_before: it gives the same where no half is exact

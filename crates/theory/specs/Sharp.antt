@@ -1,6 +1,7 @@
 -- T is at most N1·N2 + 1, whatever the lattice's longest chain: which entries of round r + 1 a join-irreducible element is at or below depends
 -- only on which entries of round r it is at or below, and each round has these among the ones before. For F, and for any operator like it.
 -- Rests on Irreducible, Simulation, Descent, Height, Rounds; that the limit is attained, on Examples.
+-- Here stand the definitions; the theorems are in proofs/Sharp.
 --   Preserves, PreservesTable, OperatorPreserves: l at or below an entry of one table is at or below that of another, and an operator that preserves this
 use Rattle.std.specs.Prelude.{ℕ}
 use Rattle.theory.specs.Lattice.{Ops, AtMost}
