@@ -3,7 +3,7 @@
 // that begins with # is printed as it is.
 #![tactic(auto)]
 
-ghost use Rattle.std.specs.Prelude.{◌≤◌, length, IfOk};
+ghost use Rattle.std.specs.Prelude.{◌≤◌, length, IfOk, OnErr, ◌≡◌};
 
 use desk_check::Standing;
 use desk_moves::{OpenAnswer, StepAnswer};
@@ -221,7 +221,9 @@ fn letter(line: &[u8]) -> u8 {
 
 // Prints the word, or the whole line if it begins with #, and gives the bytes after it.
 fn word(rt: &impl Print, line: &[u8], bytes: &mut [u8; 256]) -> io::Result<usize>
-    ensures { IfOk result (λ n. n ≤ length bytes.new) }
+    ensures ok { IfOk result (λ n. n ≤ length bytes.new) }
+    // A failed write leaves the bytes as they were.
+    ensures err { OnErr result (bytes.new ≡ bytes.old) }
 {
     let stop = if at(line, 0) == b'#' { b'\n' } else { b' ' };
     let end = test_printing::before(line, stop);
