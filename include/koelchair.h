@@ -220,8 +220,7 @@ koelchair_moved koelchair_finish_round(koelchair_standing standing,
 /* ---- the calls that read: they do not alter the desk. Each reads the store and both tables; koelchair_write alone writes, into the
    buffer that it is lent for that. */
 
-/* Names the whole table, in which byte q1 times N2 + q2 is the entry of states q1 and q2. It is that of the standing's round: before the
-   standing is settled it is no result, and its entries may still fall. */
+/* Names the whole table, in which byte q1 times N2 + q2 is the entry of states q1 and q2. */
 koelchair_shown koelchair_show(koelchair_standing standing,
                                const uint8_t *store, size_t store_length,
                                const uint8_t *first, size_t first_length,
@@ -247,16 +246,15 @@ koelchair_answer koelchair_whole(koelchair_standing standing,
                                  const uint8_t *second, size_t second_length,
                                  uint8_t formula, uint8_t model);
 
-/* The score of the table shown: KOELCHAIR_ELEMENT, or KOELCHAIR_REFUSED with 11 or 12. It is that of the standing's round: before the
-   standing is settled it is no result. Which formulas it bounds stands at koelchair_value. */
+/* The score of the table shown: KOELCHAIR_ELEMENT, or KOELCHAIR_REFUSED with 11 or 12. Which formulas it bounds stands at
+   koelchair_value. */
 koelchair_answer koelchair_score(koelchair_standing standing,
                                  const uint8_t *store, size_t store_length,
                                  const uint8_t *first, size_t first_length,
                                  const uint8_t *second, size_t second_length);
 
 /* The per cent of the entries shown that are at or above an element, rounded to whole per cent (0 to 100), an exact half to the even
-   neighbour: KOELCHAIR_PER_CENT, or KOELCHAIR_REFUSED with 11, 12 or 13. It is that of the standing's round: before the standing is
-   settled it is no result. */
+   neighbour: KOELCHAIR_PER_CENT, or KOELCHAIR_REFUSED with 11, 12 or 13. */
 koelchair_answer koelchair_share(koelchair_standing standing,
                                  const uint8_t *store, size_t store_length,
                                  const uint8_t *first, size_t first_length,

@@ -4,10 +4,8 @@
 
     with open("case.bytes", "rb") as file:  # written by: koelchair encode FILE > case.bytes
         desk = koelchair.Desk(file.read())
-    desk.settle()
-    result = desk.result()
-    print("settled after", result.rounds, "rounds and", desk.standing.lowerings, "lowerings, score", result.score)
-    for row in result.rows:
+    print("settled after", desk.settle(), "rounds and", desk.standing.lowerings, "lowerings, score", desk.score())
+    for row in desk.rows():
         print(*row)
     for formula in range(desk.sizes().formulas):
         whole = desk.whole(formula, 1)
@@ -21,12 +19,10 @@ docs/SPECIFICATION.md, which also says how a case is laid out byte for byte. Ele
 models are 1 and 2.
 
     Desk(case)      a desk with an accepted case; its calls are methods
-    Result          what a settled desk says: T, table and score
     FormulaValue    a formula's element with its FormulaFacts, which say from which round on a table covers the formula
     WorkedEntry     an entry of the next round with the number of pairs of states that working it one pair after another looks at
     listing(case)   the whole result as text, without a desk
     Refused         the exception by which a call says that it is refused
-    NotSettled      the exception by which a desk says that it has no result yet
     VERSION         the library's version
 """
 
@@ -161,23 +157,6 @@ class Refused(Exception):
         super().__init__(f"refused {number} {part}: {self.words}{where}")
 
 
-class NotSettled(Exception):
-    """The result was asked of a desk that is not settled: `round` is the round that it shows."""
-
-    def __init__(self, round):
-        self.round = round
-        super().__init__(f"the desk shows round {round} and is not settled, so that its table and score are no result: call settle() first")
-
-
-class Result(NamedTuple):
-    """What a settled desk says: `rounds` is T, the first round that equals the one before; `rows` is its table, a list for each state of
-    model 1, in it an element for each state of model 2; `score` is the score."""
-
-    rounds: int
-    rows: list
-    score: int
-
-
 class Step(NamedTuple):
     """What step answers: `kind` is "row", "round" or "settled"; `round` is the round that was ended, T where settled, else None;
     `lowerings` is the standing's count after the step. The rows of an unfinished round do not count."""
@@ -296,27 +275,19 @@ class Desk:
             if step.kind == "settled":
                 return step.round
 
-    def result(self):
-        """T, the settled table and the score, as a Result; raises NotSettled before the desk is settled."""
-        if not self._standing.settled:
-            raise NotSettled(self._standing.round)
-        return Result(self._standing.round, self.rows(), self.score())
-
     @property
     def standing(self):
         """Where the desk stands, as a copy."""
         return Standing.from_buffer_copy(self._standing)
 
     def show(self):
-        """The shown table as bytes: the entry of states q1 and q2 is byte q1 · N2 + q2. It is that of the standing's round, and before the
-        desk is settled it is no result."""
+        """The shown table as bytes: the entry of states q1 and q2 is byte q1 · N2 + q2."""
         shown = _library.koelchair_show(self._standing, *self._lent())
         table = self._second if shown.table == 2 else self._first
         return table[: shown.length]
 
     def rows(self):
-        """The shown table: a list for each state of model 1, in it an element for each state of model 2. It is that of the standing's
-        round, and before the desk is settled it is no result."""
+        """The shown table: a list for each state of model 1, in it an element for each state of model 2."""
         table, columns = self.show(), self._standing.states2
         return [list(table[i : i + columns]) for i in range(0, len(table), columns)]
 
@@ -329,12 +300,12 @@ class Desk:
         return self._asked(_library.koelchair_whole, _byte(formula), _byte(model))
 
     def score(self):
-        """The score of the shown table, an element. It is that of the standing's round, and before the desk is settled it is no result."""
+        """The score of the shown table, an element."""
         return self._asked(_library.koelchair_score)
 
     def share(self, element):
-        """The per cent of shown entries at or above an element, rounded to whole per cent, an exact half to the even neighbour. It is that
-        of the standing's round, and before the desk is settled it is no result; refused with 13."""
+        """The per cent of shown entries at or above an element, rounded to whole per cent, an exact half to the even neighbour;
+        refused with 13."""
         return self._asked(_library.koelchair_share, _byte(element))
 
     def judge(self, table):

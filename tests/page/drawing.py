@@ -141,15 +141,11 @@ class Hand:
     def warnings(self):
         return self.tab.evaluate("[...document.querySelectorAll('#warnings li')].map((li) => li.textContent)")
 
-    def focus(self):
-        """The key of the control, state or arrow that has the focus."""
-        return self.tab.evaluate("document.activeElement.dataset.key")
-
-    def save(self, file, keys=False):
-        """Saves by the button or by keys; the text of the file that the browser wrote."""
+    def save(self, file):
+        """Saves by the button; the text of the file that the browser wrote."""
         path = self.folder / file
         path.unlink(missing_ok=True)
-        self.key("s", ctrl=True) if keys else self.press("save")
+        self.press("save")
         deadline = time.monotonic() + 20
         while not path.exists() or path.stat().st_size == 0:
             if time.monotonic() > deadline:
@@ -203,7 +199,7 @@ def check_student(tab, folder):
     for warning in hand.warnings():
         check("warning: " + warning.removeprefix("Warning: ").removesuffix(".") in told, f"student: check does not say {warning}")
     status, table, said = tool("mark", COURSE, folder / "ada.case")
-    check(status == 0 and "Ada" in table, f"student: mark says {said}")
+    check(status == 0 and "ada" in table, f"student: mark says {said}")
     hand.leave()
     again = Hand(tab, folder, [COURSE], "student-again")
     again.open(folder / "ada.case")
@@ -251,13 +247,8 @@ def check_keys(tab, folder):
     tab.evaluate("document.activeElement.blur()")
     hand.key("n")
     hand.write("one")
-    check(hand.focus() == "state 0", f"keys: the focus is at {hand.focus()}")
     hand.key("n")
-    hand.write("two words")
-    check(hand.focus() == "state 1" and "The name stays s0" in hand.said(), f"keys: {hand.said()}, the focus is at {hand.focus()}")
-    hand.key("Enter")
     hand.write("two")
-    check(hand.focus() == "state 1", f"keys: the focus is at {hand.focus()}")
     tab.evaluate("document.querySelector('[data-state=\"0\"]').focus()")
     hand.key("a")
     hand.key("Tab")
@@ -273,36 +264,6 @@ def check_keys(tab, folder):
     hand.key("Delete")
     check("two" not in hand.text(), f"keys: removed\n{hand.text()}")
     hand.leave()
-
-
-def check_kept(tab, folder):
-    """What is drawn is there again in a new tab until it is saved or begun anew. The file has the name that is being written."""
-    hand = Hand(tab, folder, [COURSE], "kept")
-    check(tab.evaluate("document.getElementById('anew').disabled"), "kept: nothing is drawn that could be begun anew")
-    hand.key("n")
-    hand.write("one")
-    drawn = hand.text()
-    hand.leave()
-    other = Hand(tab, folder, [COURSE], "kept-elsewhere")
-    check(other.text() == "" and other.said() == "", f"kept: another page has\n{other.text()}{other.said()}")
-    again = Hand(tab, folder, [COURSE], "kept")
-    check(again.text() == drawn and "drawn before and not saved" in again.said(), f"kept: {again.said()}\n{again.text()}")
-    again.press("anew")
-    left = tab.evaluate("Object.keys(localStorage).filter((key) => key.includes('/kept.html')).length")
-    check(again.text() == "" and left == 0, f"kept: {left} are left, begun anew\n{again.text()}")
-    again.press("undo")
-    again.press("model-title")
-    tab.command("Input.insertText", text="Ada B.")
-    saved = again.save("ada-b.case", keys=True)
-    check(saved == drawn.replace("model 1\n", 'model 1 "Ada B."\n'), f"kept: saved\n{saved}")
-    check(again.focus() == "model-title", f"kept: the focus is at {again.focus()}")
-    again.press("undo")
-    check(again.text() == drawn, f"kept: the name is undone at once\n{again.text()}")
-    again.press("redo")
-    again.leave()
-    last = Hand(tab, folder, [COURSE], "kept")
-    check(last.text() == "" and last.said() == "", f"kept: after saving\n{last.text()}{last.said()}")
-    last.leave()
 
 
 def check_touch(tab, folder):
@@ -412,7 +373,7 @@ def run(tab, folder, out=None):
     """All checks; the failures."""
     if out:
         out.mkdir(parents=True, exist_ok=True)
-    for part in (check_student, check_undo, check_warnings, check_keys, check_kept, check_touch, check_panel, check_free, check_great):
+    for part in (check_student, check_undo, check_warnings, check_keys, check_touch, check_panel, check_free, check_great):
         part(tab, folder)
         print(f"draw, {part.__name__.removeprefix('check_')}: checked")
     check_sizes(tab, folder, out)

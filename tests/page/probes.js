@@ -7,20 +7,9 @@ window.probe = {
       score: document.querySelector("#score .chip").textContent,
       scoreText: document.getElementById("score").textContent,
       banner: document.getElementById("banner-text").textContent,
-      captions: [...document.querySelectorAll("#table caption, #bounds caption, #whole caption")].map((caption) => caption.textContent),
-      formulas: document.getElementById("whole") !== null,
+      caption: document.getElementById("table-caption").textContent,
       settled: ["banner", "table-box"].map((id) => document.getElementById(id).dataset.settled),
       round: document.getElementById("round").value,
-    };
-  },
-
-  // What is asked: below the title, whether the window's title has it, and what the switch asks next, null where there is none.
-  asked() {
-    const [asked, exchange] = ["asked", "exchange"].map((id) => document.getElementById(id));
-    return {
-      asked: asked.textContent,
-      title: document.title.endsWith(` - ${asked.textContent} - koelchair`),
-      next: exchange.hidden ? null : exchange.textContent.replace("\u21C4 ", ""),
     };
   },
 

@@ -54,21 +54,6 @@ class Examples(unittest.TestCase):
         self.assertEqual((desk.whole(0, 1), desk.whole(0, 2)), (formula_value(0, 1), formula_value(1, 1)))
         self.assertEqual((desk.judge(bytes(4)), desk.judge([1, 0, 0, 0]), desk.judge([0, 0, 0, 1])), (True, False, False))
 
-    def test_no_round_before_t_is_a_result(self):
-        desk = koelchair.Desk(example(4))
-        rounds = []
-        while not desk.standing.settled:
-            with self.assertRaises(koelchair.NotSettled) as raised:
-                desk.result()
-            rounds.append(raised.exception.round)
-            desk.step()
-        self.assertEqual(rounds, [0, 0, 1, 1, 2, 2])
-        said = "the desk shows round 2 and is not settled, so that its table and score are no result: call settle() first"
-        self.assertEqual(str(raised.exception), said)
-        self.assertEqual(desk.result(), koelchair.Result(rounds=3, rows=[[0, 0], [0, 0]], score=0))
-        desk.open(example(1))
-        self.assertRaises(koelchair.NotSettled, desk.result)
-
     def test_lowerings_are_those_of_the_whole_rounds(self):
         desk = koelchair.Desk(case("covered-from"))
         table, counted = desk.show(), 0

@@ -24,7 +24,7 @@ impl<'a> Calls<'a> {
     pub fn new(setting: Setting, other: &'a dyn Library) -> Calls<'a> {
         let case = setting.case();
         let mut settling = koelchair::Desk::open(&case).expect("an accepted case");
-        let settled = settling.settle();
+        let rounds = settling.settle();
         let opened = |library: &dyn Library| {
             let mut desk = desks::zeroed();
             let opened = library.call(&mut desk, &Call::Open(case.clone()));
@@ -36,8 +36,8 @@ impl<'a> Calls<'a> {
             other,
             proved_desk: opened(&Proved),
             other_desk: opened(other),
-            settled: settled.table().to_vec(),
-            rounds: settled.rounds(),
+            settled: settling.show().to_vec(),
+            rounds,
             case,
         }
     }
@@ -92,7 +92,7 @@ impl<'a> Calls<'a> {
     /// The settled table with its first entry raised to top, which is too high there. A library that holds out for equality says no too.
     pub fn judge_too_high(&self) -> Call {
         let opened = koelchair::Desk::open(&self.case).expect("an accepted case");
-        let top = opened.table_so_far()[0];
+        let top = opened.show()[0];
         let mut table = self.settled.clone();
         table[0] = top;
         assert!(

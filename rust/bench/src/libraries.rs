@@ -50,7 +50,7 @@ impl Library for Proved {
 
     fn call(&self, desk: &mut Desk, call: &Call) -> Given {
         match call {
-            Call::Show => Given::Shown(desk.lent().table_so_far().len()),
+            Call::Show => Given::Shown(desk.lent().show().len()),
             _ => Given::Reply(calls::proved(desk, call)),
         }
     }

@@ -28,7 +28,7 @@ pub fn proved(desk: &mut Desk, call: &Call) -> Reply {
         Call::Step => conversions::stepped(desk.lent_mut().step()),
         Call::FinishRound => conversions::stepped(desk.lent_mut().finish_round()),
         Call::Show => {
-            let shown = desk.lent().table_so_far();
+            let shown = desk.lent().show();
             let itself = shown.is_empty() || shown.as_ptr() == desk.whole().as_ptr();
             assert!(itself, "show answers another table than the whole one");
             conversions::shown(shown)
@@ -41,8 +41,8 @@ pub fn proved(desk: &mut Desk, call: &Call) -> Reply {
         &Call::Whole { formula, model } => {
             conversions::formula_value(desk.lent().whole(formula, model))
         }
-        Call::Score => conversions::element(desk.lent().score_so_far()),
-        &Call::Share(e) => conversions::per_cent(desk.lent().share_so_far(Element(e))),
+        Call::Score => conversions::element(desk.lent().score()),
+        &Call::Share(e) => conversions::per_cent(desk.lent().share(Element(e))),
         Call::Judge(table) => conversions::says(desk.lent().judge(table)),
         &Call::Entry { q1, q2 } => {
             conversions::worked_entry(desk.lent().entry(State(q1), State(q2)))

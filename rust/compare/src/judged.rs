@@ -153,16 +153,16 @@ pub struct Rounds {
 impl Rounds {
     /// Those of the case in a desk's store, whatever its tables hold; nothing where the desk breaks a rule. The proved library works them.
     pub fn of(desk: &Desk) -> Option<Rounds> {
-        if desk.lent().table_so_far().is_empty() {
+        if desk.lent().show().is_empty() {
             return None;
         }
         let case = &desk.store[..STORE_LENGTH];
         let mut working = koelchair::Desk::open(case).expect("the case of a desk");
-        let mut tables = vec![working.table_so_far().to_vec()];
+        let mut tables = vec![working.show().to_vec()];
         let mut settled = false;
         while !settled && tables.len() <= MOST_ROUNDS {
             settled = matches!(working.finish_round(), StepAnswer::Settled { .. });
-            tables.push(working.table_so_far().to_vec());
+            tables.push(working.show().to_vec());
         }
         Some(Rounds {
             lattice: desk.lattice(),

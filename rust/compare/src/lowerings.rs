@@ -154,7 +154,7 @@ impl Made<'_> {
             },
             ..desk.lent()
         };
-        if desk.standing.lowerings == 0 || without_count.table_so_far().is_empty() {
+        if desk.standing.lowerings == 0 || without_count.show().is_empty() {
             return vec![];
         }
         let over = desk.standing.lowerings - limit(desk);

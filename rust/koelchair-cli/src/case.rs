@@ -39,18 +39,6 @@ impl Case {
         }
     }
 
-    /// The case with its models exchanged.
-    pub fn exchanged(&self) -> Case {
-        let mut other = self.clone();
-        other.models.swap(0, 1);
-        other
-    }
-
-    /// The name of a state.
-    pub fn state(&self, model: usize, state: usize) -> &str {
-        &self.models[model].states[state]
-    }
-
     /// The name of an element.
     pub fn element(&self, element: u8) -> String {
         self.lattice.name(usize::from(element))

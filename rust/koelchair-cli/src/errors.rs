@@ -127,16 +127,13 @@ fn cut(line: &str, span: Span) -> Cut {
     }
 }
 
-/// The line of a span with carets under it and a note behind them; of a line that is not to be shown its place and the note alone.
+/// The line of a span with carets under it and a note behind them.
 pub fn marked_line(source: &Source, span: Span, note: &str) -> String {
+    let line = source.lines.get(span.line).map_or("", String::as_str);
     let (name, number) = source.place(span.line);
     let number = number.to_string();
     let margin = " ".repeat(number.len());
-    let place = format!("{margin}--> {name}:{number}:{}", span.start + 1);
-    if source.hidden(span.line).is_some() {
-        return format!("{place}\n{margin} = {note}\n");
-    }
-    let shown = cut(source.written(span.line), span);
+    let shown = cut(line, span);
     let padding: String = shown
         .line
         .chars()
@@ -145,7 +142,9 @@ pub fn marked_line(source: &Source, span: Span, note: &str) -> String {
         .map(|c| if c == '\t' { '\t' } else { ' ' })
         .collect();
     let carets = "^".repeat(shown.end.saturating_sub(shown.start).max(1));
-    let mut text = format!("{place}\n{margin} |\n");
+    let mut text = String::new();
+    let _ = writeln!(text, "{margin}--> {name}:{number}:{}", span.start + 1);
+    let _ = writeln!(text, "{margin} |");
     let _ = writeln!(text, "{number} | {}", shown.line);
     let _ = writeln!(
         text,

@@ -133,6 +133,6 @@ pub fn places(factors: &[Lattice], mut element: usize) -> Vec<usize> {
 }
 
 /// Place 0, 1 or 2 of a panel element: element 9a + 3b + c has a, b, c.
-pub fn panel_place(element: usize, place: usize) -> usize {
+fn panel_place(element: usize, place: usize) -> usize {
     element / [9, 3, 1][place] % 3
 }

@@ -6,7 +6,7 @@ use std::process::ExitCode;
 fn main() -> ExitCode {
     let arguments: Vec<String> = std::env::args_os()
         .skip(1)
-        .map(|a| koelchair_cli::files::argument(&a))
+        .map(|a| a.to_string_lossy().into_owned())
         .collect();
     let status = koelchair_cli::commands::run(
         &arguments,

@@ -5,11 +5,10 @@ mod data;
 mod why;
 
 use crate::case::Case;
-use crate::commands::why::alone;
-use crate::commands::{open, read_course, Arguments, Failure, Opened, Outcome, Printed};
+use crate::commands::why::OWNERS;
+use crate::commands::{open, read_text, Arguments, Failure, Opened, Outcome, Printed};
 use crate::encode::encode;
 use crate::json;
-use crate::owners::{asked, OWNERS};
 use crate::warnings::{warnings, Warning};
 use std::io::Read;
 
@@ -42,15 +41,14 @@ pub fn page(arguments: &[String], input: &mut dyn Read) -> Outcome {
     let flags = ["--bytes", "--deny-warnings"];
     let arguments = Arguments::read(arguments, &flags, &["--course"])?;
     let [file] = arguments.exactly(["FILE"])?;
-    let opened = open(read_course(file, &arguments, input)?)?;
+    let opened = open(read_text(file, &arguments, input)?)?;
     let list = warnings(&opened.text, &opened.case, &opened.facts()?);
     let surroundings = Surroundings {
         warnings: &list,
         ..Surroundings::default()
     };
     let html = html(&opened, &surroundings)?;
-    let printed = Printed::new(html).with_warnings(&opened.text, &list, &arguments);
-    Ok(printed.with_note(alone(&opened)?))
+    Ok(Printed::new(html).with_warnings(&opened.text, &list, &arguments))
 }
 
 /// What stands on a page besides its case.
@@ -66,15 +64,16 @@ pub struct Surroundings<'a> {
 
 /// The page of an opened case.
 pub fn html(opened: &Opened, surroundings: &Surroundings) -> Result<String, Failure> {
-    let data = data::of(&opened.case, &opened.text.bytes, opened.owners())?;
-    let exchanged = match opened.text.course_alone {
-        true => "null".to_string(),
-        false => exchanged(&opened.case)?,
+    let data = data::of(&opened.case, &opened.text.bytes, OWNERS)?;
+    let exchanged = exchanged(&opened.case)?;
+    let title = match &opened.case.title {
+        Some(title) => format!("{title} - koelchair"),
+        None => "koelchair".to_string(),
     };
-    let asked = asked(opened.owners());
-    let case = opened.case.title.as_deref();
-    let parts = [surroundings.student, case, Some(&asked), Some("koelchair")];
-    let title = parts.into_iter().flatten().collect::<Vec<_>>().join(" - ");
+    let title = match surroundings.student {
+        Some(student) => format!("{student} - {title}"),
+        None => title,
+    };
     let script = SCRIPT.concat();
     let student = surroundings.student.map(json::text).unwrap_or_default();
     let class = match surroundings.class {
@@ -83,8 +82,7 @@ pub fn html(opened: &Opened, surroundings: &Surroundings) -> Result<String, Fail
     };
     let warnings = folded_warnings(surroundings.warnings);
     let body = BODY.replacen("<div id=\"warnings\"></div>", &warnings, 1);
-    let head = "<div id=\"head\">";
-    let body = body.replacen(head, &format!("{class}{head}"), 1);
+    let body = body.replacen("<h1 ", &format!("{class}<h1 "), 1);
     let body = format!(
         "{body}<script type=\"application/json\" id=\"case\">{data}</script>\n\
          <script type=\"application/json\" id=\"exchanged\">{exchanged}</script>\n\
@@ -95,7 +93,7 @@ pub fn html(opened: &Opened, surroundings: &Surroundings) -> Result<String, Fail
 
 /// The data of the case with its models exchanged, worked by the library; `null` for a case whose page would be too long.
 fn exchanged(case: &Case) -> Result<String, Failure> {
-    let other = case.exchanged();
+    let other = data::exchanged(case);
     match encode(&other) {
         Ok(bytes) if case.models.iter().all(|m| m.size() <= MOST_STATES) => {
             data::of(&other, &bytes, [OWNERS[1], OWNERS[0]])

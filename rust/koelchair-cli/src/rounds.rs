@@ -1,27 +1,28 @@
 //! Working rounds on a desk: round by round, up to the settled one, and what each entry was in every round.
 
 use crate::progress::Progress;
-use koelchair::{Desk, Settled, StepAnswer};
+use koelchair::{Desk, StepAnswer};
 
 /// Works the rest of the round, in one call of the library. The one place where this tool moves a desk.
 pub fn finish_round(desk: &mut Desk) -> StepAnswer {
     desk.finish_round()
 }
 
-/// Works rounds until the desk is settled, and gives it. Before each round and after the last, `seen` gets the desk.
-pub fn each_round(desk: &mut Desk, mut seen: impl FnMut(&Desk)) -> Settled<'_> {
+/// Works rounds until the desk is settled, and gives T. Before each round and after the last, `seen` gets the desk.
+pub fn each_round(desk: &mut Desk, mut seen: impl FnMut(&Desk)) -> u32 {
     let mut progress = Progress::new("round");
-    seen(desk);
-    while desk.settled().is_none() {
-        finish_round(desk);
+    loop {
         seen(desk);
+        if let StepAnswer::Settled { round, .. } = finish_round(desk) {
+            seen(desk);
+            return round;
+        }
         progress.at(desk.standing().round);
     }
-    desk.settle()
 }
 
-/// Works rounds until the desk is settled, and gives it.
-pub fn settle(desk: &mut Desk) -> Settled<'_> {
+/// Works rounds until the desk is settled, and gives T.
+pub fn settle(desk: &mut Desk) -> u32 {
     each_round(desk, |_| {})
 }
 
@@ -35,16 +36,15 @@ pub struct History {
 impl History {
     /// Works the rounds of a desk at round 0 until it is settled.
     pub fn of(desk: &mut Desk) -> History {
-        let mut changes: Vec<Vec<(u32, u8)>> = vec![Vec::new(); desk.table_so_far().len()];
-        let settled = each_round(desk, |desk| {
+        let mut changes: Vec<Vec<(u32, u8)>> = vec![Vec::new(); desk.show().len()];
+        let rounds = each_round(desk, |desk| {
             let round = desk.standing().round;
-            for (entry, changes) in desk.table_so_far().iter().zip(&mut changes) {
+            for (entry, changes) in desk.show().iter().zip(&mut changes) {
                 if changes.last().map(|(_, last)| last) != Some(entry) {
                     changes.push((round, *entry));
                 }
             }
         });
-        let rounds = settled.rounds();
         History { changes, rounds }
     }
 

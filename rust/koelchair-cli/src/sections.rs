@@ -147,7 +147,7 @@ impl Sections {
 }
 
 const COURSE_ALONE: &str =
-    "a course's file has model 2 alone: `koelchair why FILE` compares it with itself, and `mark` marks students' files by it";
+    "a course's file without model 1 is checked by `koelchair check` or `mark`, and marks students' files by `mark`";
 const STUDENT_ALONE: &str =
     "for a student's file with model 1 alone: `koelchair mark COURSE FILE`, or a line `include \"COURSE\"` in it";
 

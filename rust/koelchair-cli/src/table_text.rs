@@ -1,7 +1,6 @@
-//! A table as text, in the lines of a listing: `row (student) STATE: ENTRY ...` for each state of the student's, and perhaps
-//! `columns (course): STATE ...`, the course's states in the order of the entries; whose they are may be left out. The other lines of a
-//! listing are passed over. States and elements are written by name or by number (`name_or_number`), elements otherwise as in a case
-//! (`lattice_text`). A text without a row, such as that of a case, is one error.
+//! A table as text, in the lines of a listing: `row STATE: ENTRY ...` for each state of the student's, and perhaps `columns: STATE ...`, the
+//! course's states in the order of the entries. The other lines of a listing are passed over. States and elements are written by name or
+//! by number (`name_or_number`), elements otherwise as in a case (`lattice_text`). A text without a row, such as that of a case, is one error.
 
 use crate::case::Case;
 use crate::errors::{listed, with_nearest, Source, Span, TextError, OTHER_LINE};
@@ -9,16 +8,15 @@ use crate::lattice_text;
 use crate::lexer::{lex, Cursor, Kind, Statement};
 use crate::name_or_number::{digits, Sort};
 use crate::names::{self, Name};
-use crate::owners::ALONE;
 
 /// The words that begin a line of a listing which is no part of the table.
-const PASSED_OVER: [&str; 6] = ["rounds", "score", "ceiling", "formula", "values", "share"];
+const PASSED_OVER: [&str; 5] = ["rounds", "score", "formula", "values", "share"];
 
 /// Those of them below which further lines stand, set in.
 const WITH_LINES_BELOW: [&str; 2] = ["formula", "values"];
 
-/// Reads a table for an accepted case whose models are these owners': entry (q1, q2), the number of an element, at q1·N2 + q2.
-pub fn parse(source: &Source, case: &Case, owners: [&str; 2]) -> Result<Vec<u8>, Vec<TextError>> {
+/// Reads a table for an accepted case: entry (q1, q2), the number of an element, at q1·N2 + q2.
+pub fn parse(source: &Source, case: &Case) -> Result<Vec<u8>, Vec<TextError>> {
     let one = |error| vec![error];
     let lexed = lex(&table_lines(source)).map_err(one)?;
     let (heads, rest): (Vec<_>, Vec<_>) =
@@ -27,7 +25,7 @@ pub fn parse(source: &Source, case: &Case, owners: [&str; 2]) -> Result<Vec<u8>,
         return Err(one(error));
     }
     let by_names = !heads.is_empty() || rest.iter().any(|s| row_by_name(s));
-    let mut reader = Reader::new(case, owners, by_names);
+    let mut reader = Reader::new(case, by_names);
     reader.columns(&heads).map_err(one)?;
     let errors: Vec<TextError> = rest.iter().filter_map(|s| reader.line(s).err()).collect();
     match errors.is_empty() {
@@ -65,15 +63,10 @@ fn begins(statement: &Statement, word: &str) -> bool {
     names::is_word(&statement[0], word)
 }
 
-/// Whether a statement is a row whose state is not written in digits, or that says whose it is, as no listing by numbers does.
+/// Whether a statement is a row whose state is not written in digits.
 fn row_by_name(statement: &Statement) -> bool {
-    let next = statement.get(1).map(|token| &token.kind);
-    let by_name = match next {
-        Some(Kind::Word(word)) => !digits(word),
-        Some(Kind::Sign(sign)) => *sign == "(",
-        _ => false,
-    };
-    begins(statement, "row") && by_name
+    let state = statement.get(1).map(|token| &token.kind);
+    begins(statement, "row") && matches!(state, Some(Kind::Word(word)) if !digits(word))
 }
 
 /// The error that a text is no table, for all its lines at once: none of them is a row, or it is a case, whose order can have rows too.
@@ -85,13 +78,15 @@ fn no_table(statements: &[&Statement]) -> Option<TextError> {
     }
     let expected = "expected `row`, a state of the student's, `:` and its entries";
     let error = TextError::new(first[0].span, "this is no table", expected);
-    Some(with_similar(error, first))
+    Some(match begins(first, "round") {
+        true => error.with_help("`step --table` prints a round's table in such lines"),
+        false => with_similar(error, first),
+    })
 }
 
 /// What the lines of a table have said so far.
 struct Reader<'a> {
     case: &'a Case,
-    owners: [&'a str; 2],
     /// The states of the student's model, and those of the course's.
     states: [Sort; 2],
     elements: Sort,
@@ -103,19 +98,14 @@ struct Reader<'a> {
 }
 
 impl<'a> Reader<'a> {
-    fn new(case: &'a Case, owners: [&'a str; 2], by_names: bool) -> Reader<'a> {
+    fn new(case: &'a Case, by_names: bool) -> Reader<'a> {
         let [student, course] = [0, 1].map(|m| case.models[m].states.clone());
         let (rows, columns) = (student.len(), course.len());
         let elements = (0..case.lattice.size()).map(|e| case.lattice.name(e));
-        let of_row = match owners == ALONE {
-            true => "state of the copy",
-            false => "state of the student's model",
-        };
         Reader {
             case,
-            owners,
             states: [
-                Sort::new(of_row, student, by_names),
+                Sort::new("state of the student's model", student, by_names),
                 Sort::new("state of the course's model", course, by_names),
             ],
             elements: Sort::new("element", elements.collect(), by_names),
@@ -125,37 +115,19 @@ impl<'a> Reader<'a> {
         }
     }
 
-    /// `(OWNER)` may come next; an error where the states are said to be another's.
-    fn owner(&self, cursor: &mut Cursor, what: &str, model: usize) -> Result<(), TextError> {
-        if !cursor.take_sign("(") {
-            return Ok(());
-        }
-        let ([rows, columns], owner) = (self.owners, self.owners[model]);
-        let (word, span) = cursor.expect_word(&format!("`{owner}`"))?;
-        if word != owner {
-            let message = format!("the {what} of a table are the {owner}'s states");
-            let expected =
-                format!("expected `{owner}`: rows are the {rows}'s, columns the {columns}'s");
-            return Err(TextError::new(span, message, expected));
-        }
-        cursor.expect_sign(")").map(|_| ())
-    }
-
-    /// `columns (course): STATE STATE ...`, once or not at all.
+    /// `columns: STATE STATE ...`, once or not at all.
     fn columns(&mut self, heads: &[&Statement]) -> Result<(), TextError> {
         let head = match heads {
             [] => return Ok(()),
             [head] => head,
             [head, again, ..] => {
                 let first = head[0].span.line;
-                let error = twice(names::whole(again), "the line `columns`", first);
-                return Err(error.with_help("`step --table` prints the table of one round alone"));
+                return Err(twice(names::whole(again), "the line `columns`", first));
             }
         };
         let course = &self.states[1];
         let mut cursor = Cursor::new(head);
         cursor.take();
-        self.owner(&mut cursor, "columns", 1)?;
         cursor.expect_sign(":")?;
         let list = names::names(&mut cursor, &format!("a {}", course.what))?;
         cursor.expect_end(&format!("a {}", course.what))?;
@@ -173,14 +145,13 @@ impl<'a> Reader<'a> {
         none_missing(course, "column", missing, cursor.here())
     }
 
-    /// `row (student) STATE: ENTRY ENTRY ...`.
+    /// `row STATE: ENTRY ENTRY ...`.
     fn line(&mut self, statement: &Statement) -> Result<(), TextError> {
         let mut cursor = Cursor::new(statement);
         if !cursor.take_word("row") {
             return Err(no_line(statement));
         }
         let student = &self.states[0];
-        self.owner(&mut cursor, "rows", 0)?;
         let (word, span) = cursor.expect_word(&format!("a {}", student.what))?;
         let row = usize::from(student.lookup(word, span)?);
         cursor.expect_sign(":")?;

@@ -5,7 +5,6 @@ use crate::case::Case;
 use crate::errors::{marked_line, Span, MOST_ERRORS};
 use crate::json::{object, string};
 use crate::model::Model;
-use crate::owners::OWNERS;
 use crate::parse::Text;
 use koelchair::{CoveredFrom, FormulaFacts};
 
@@ -28,6 +27,9 @@ pub struct Warning {
 
 /// The sort of warning after which a score says nothing.
 pub const NO_INITIAL: &str = "no-initial-state";
+
+/// Whose models they are.
+const OWNERS: [&str; 2] = ["student", "course"];
 
 /// All warnings about a text's case, whose formulas have these facts; without facts none about formulas. Of a course's file alone, those
 /// about model 2.

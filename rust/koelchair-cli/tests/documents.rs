@@ -116,7 +116,7 @@ fn marked(drawing: &str) -> [String; 4] {
     let row: Vec<&str> = marks.lines().last().expect("a row").split(',').collect();
     let stepped = said(["step", "--course"]).text();
     let (_, lowerings) = stepped.split_once("lowerings in all: ").expect("a sum");
-    [row[3], row[4], lowerings.trim_end(), &row[7..10].join(" ")].map(str::to_string)
+    [row[3], row[4], lowerings.trim_end(), &row[5..8].join(" ")].map(str::to_string)
 }
 
 /// The guide's table of lowerings: of drawings of the class, and of one of them drawn with a state less.
@@ -127,19 +127,18 @@ fn the_guide_has_the_lowerings_of_a_class() {
     };
     let students = folder("../../examples/class/students");
     let drawing = |name: &str| {
-        let file = students.join(name.to_lowercase());
-        let whole = text(&file.with_extension("case"));
+        let whole = text(&students.join(name).with_extension("case"));
         whole.replace("include \"../course.case\"\n", "")
     };
-    let names = ["Anna", "Kamil", "Mehmet", "Elif"];
+    let names = ["anna", "kamil", "mehmet", "elif"];
     let mut rows = names
         .map(|name| row(name, &marked(&drawing(name))))
         .to_vec();
-    let elif = drawing("Elif");
+    let elif = drawing("elif");
     assert_eq!(elif.matches("fading off").count(), 4);
     let (larger, smaller) = (marked(&elif), marked(&elif.replace("fading off", "blank")));
     rows.push(row(
-        "Elif, with one state `blank` for `fading` and `off`",
+        "elif, with one state `blank` for `fading` and `off`",
         &smaller,
     ));
     let guide = text(&folder("../../docs/GUIDE.md"));

@@ -117,6 +117,7 @@ fn pages_ask_for_nothing_elsewhere() {
             "<link",
             "fetch(",
             "XMLHttpRequest",
+            "localStorage",
         ] {
             assert!(!html.contains(word), "{word}");
         }

@@ -101,11 +101,11 @@ fn wrong_commands_are_said() {
     );
     usage_error(
         &["explain", &example, "od", "old"],
-        "`od` is no state of the student's model; a similar name is `old`",
+        "`od` is no state of model 1; a similar name is `old`",
     );
     usage_error(
         &["explain", &example, "old", "elsewhere"],
-        "`elsewhere` is no state of the course's model; expected one of `old`, `between`, `new`",
+        "`elsewhere` is no state of model 2; expected one of `old`, `between`, `new`",
     );
     usage_error(
         &["report", "--share", "", &example],

@@ -34,9 +34,9 @@ fn parts_meet_to_the_library_s_entries() {
             .expect("the case is accepted");
         let columns = case.models[1].size();
         loop {
-            let before = desk.table_so_far().to_vec();
+            let before = desk.show().to_vec();
             let answer = (0..case.models[0].size()).map(|_| desk.step()).last();
-            for (place, found) in desk.table_so_far().iter().enumerate() {
+            for (place, found) in desk.show().iter().enumerate() {
                 let worked = entry(
                     &case,
                     &operations,
@@ -68,7 +68,7 @@ fn explain_runs_on_random_cases() {
         );
         assert_eq!((ran.status, ran.err.as_str()), (0, ""));
         assert!(
-            !ran.text().contains("ERROR") && ran.text().contains("\nsettled at round "),
+            !ran.text().contains("ERROR") && ran.text().contains("(settled)"),
             "{}",
             ran.text()
         );
@@ -83,7 +83,7 @@ fn settled(name: &str) -> (Case, Desk, u32) {
     ))
     .expect("the example can be read");
     let mut desk = Desk::open(&read.bytes).expect("the example is accepted");
-    let rounds = desk.settle().rounds();
+    let rounds = desk.settle();
     (read.case.expect("the example has names"), desk, rounds)
 }
 
@@ -109,14 +109,14 @@ fn in_place(case: &Case, table: &mut [u8]) {
 
 #[test]
 fn rows_worked_in_the_shown_table_give_another_round_1() {
-    let (case, mut settled, rounds) = settled("instead-rows-in-the-shown-table.case");
+    let (case, settled, rounds) = settled("instead-rows-in-the-shown-table.case");
     let mut table = vec![operations(&case).top; 3];
     in_place(&case, &mut table);
-    assert_eq!(table, settled.settle().table(), "all no after one round");
+    assert_eq!(table, settled.show(), "all no after one round");
     let mut desk = Desk::open(&encode(&case).expect("bytes")).expect("accepted");
     step_times(&mut desk, 3);
     assert_eq!(desk.standing().round, 1);
-    assert_ne!(desk.table_so_far(), table, "round 1 is another table");
+    assert_ne!(desk.show(), table, "round 1 is another table");
     assert_eq!(rounds, 4);
 }
 
@@ -130,7 +130,7 @@ fn value_in_1_to_value_in_2_is_no_bound() {
         let operations = operations(&case);
         let [first, second] =
             [1, 2].map(|model| desk.value(0, model, State(0)).expect("a value").element.0);
-        let entry = desk.table_so_far()[0];
+        let entry = desk.show()[0];
         assert!(
             operations.at_most(entry, operations.implies(second, first)),
             "{name}: the bound holds"
@@ -148,7 +148,7 @@ fn propositions_compared_one_way_lose_negated_ones() {
     let operations = operations(&case);
     let [first, second] = [0, 1].map(|m| case.models[m].proposition(0, 1, 0));
     let one_way = operations.implies(second, first);
-    assert_ne!(one_way, desk.table_so_far()[0]);
+    assert_ne!(one_way, desk.show()[0]);
     let [negated1, negated2] =
         [1, 2].map(|model| desk.value(1, model, State(0)).expect("a value").element.0);
     assert!(
@@ -181,29 +181,29 @@ fn a_round_with_an_unchanged_last_row_is_not_settled() {
     let mut desk = Desk::open(&encode(&case).expect("bytes")).expect("accepted");
     let mut by_last_row = None;
     while by_last_row.is_none() {
-        let before = desk.table_so_far()[2];
+        let before = desk.show()[2];
         step_times(&mut desk, 3);
-        by_last_row = (desk.table_so_far()[2] == before).then_some(desk.standing().round);
+        by_last_row = (desk.show()[2] == before).then_some(desk.standing().round);
     }
     assert_eq!((by_last_row, rounds), (Some(1), 3));
 }
 
 #[test]
 fn the_half_worked_table_scores_other_than_the_settled_one() {
-    let (case, mut settled, _) = settled("error-half-worked-table.case");
+    let (case, settled, _) = settled("error-half-worked-table.case");
     let mut desk = Desk::open(&encode(&case).expect("bytes")).expect("accepted");
     while desk.standing().round < 3 {
         desk.step();
     }
-    assert_eq!(case.element(desk.score_so_far().0), "yes");
-    assert_eq!(case.element(settled.settle().score().0), "no");
+    assert_eq!(case.element(desk.score().0), "yes");
+    assert_eq!(case.element(settled.score().0), "no");
 }
 
 #[test]
 fn a_model_compared_with_itself_need_not_score_top() {
-    let (case, mut desk, _) = settled("error-compared-with-itself.case");
+    let (case, desk, _) = settled("error-compared-with-itself.case");
     let mut same = case.models[1].clone();
     same.title.clone_from(&case.models[0].title);
     assert_eq!(case.models[0], same);
-    assert_eq!(case.element(desk.settle().score().0), "unsure");
+    assert_eq!(case.element(desk.score().0), "unsure");
 }

@@ -1,7 +1,7 @@
 //! A desk that owns its standing, its store and both tables.
 
-use crate::{DeskMut, DeskRef, Element, FormulaValue, Refusal, Settled, Sizes, Standing, State};
-use crate::{StepAnswer, WorkedEntry, STORE_LENGTH, TABLE_LENGTH};
+use crate::{DeskMut, DeskRef, Element, FormulaValue, Refusal, Sizes, Standing, State, StepAnswer};
+use crate::{WorkedEntry, STORE_LENGTH, TABLE_LENGTH};
 use std::fmt;
 
 /// A desk with an accepted case. It owns its standing, store and tables, which only its calls alter, so that by demand 3 none
@@ -52,21 +52,18 @@ impl Desk {
         self.lent_mut().finish_round().expect(KEPT)
     }
 
-    /// Works rounds until the desk is settled, and gives the settled desk, of which table, score and shares are asked.
-    pub fn settle(&mut self) -> Settled<'_> {
-        self.lent_mut().settle().expect(KEPT);
-        self.settled().expect("the desk was settled just now")
+    /// Works rounds until the desk is settled, and gives T, the least t above 0 for which round t equals round t − 1.
+    pub fn settle(&mut self) -> u32 {
+        loop {
+            if let StepAnswer::Settled { round, .. } = self.finish_round() {
+                return round;
+            }
+        }
     }
 
-    /// The settled desk; none before the round that equals the one before.
-    pub fn settled(&self) -> Option<Settled<'_>> {
-        Settled::of(self.lent())
-    }
-
-    /// The shown table, of N1·N2 bytes; entry (q1, q2) is byte q1·N2 + q2. Its round is that of the standing, and until the desk is
-    /// settled it is no result.
-    pub fn table_so_far(&self) -> &[u8] {
-        self.lent().table_so_far()
+    /// The shown table, of N1·N2 bytes; entry (q1, q2) is byte q1·N2 + q2. Its round is that of the standing.
+    pub fn show(&self) -> &[u8] {
+        self.lent().show()
     }
 
     /// A formula's element at a state of model 1 or 2, and the facts that say which tables cover the formula. Formulas are
@@ -84,17 +81,16 @@ impl Desk {
         self.lent().whole(formula, model)
     }
 
-    /// The score of the shown table; until the desk is settled it is no result.
-    pub fn score_so_far(&self) -> Element {
-        self.lent().score_so_far().expect(KEPT)
+    /// The score of the shown table.
+    pub fn score(&self) -> Element {
+        self.lent().score().expect(KEPT)
     }
 
-    /// The per cent of shown entries at or above an element, rounded to whole per cent, an exact half to the even neighbour; until
-    /// the desk is settled it is no result.
+    /// The per cent of shown entries at or above an element, rounded to whole per cent, an exact half to the even neighbour.
     ///
     /// Refused with 13 where the element is not of the lattice.
-    pub fn share_so_far(&self, element: Element) -> Result<u8, Refusal> {
-        self.lent().share_so_far(element)
+    pub fn share(&self, element: Element) -> Result<u8, Refusal> {
+        self.lent().share(element)
     }
 
     /// Whether a table of N1·N2 elements is sound: each entry is at or below that of F of the table, in the lattice's order. Such a
@@ -152,7 +148,7 @@ impl Desk {
     /// ];
     /// assert_eq!(desk.write(), written);
     /// let opened = Desk::open(&written)?;
-    /// assert_eq!((opened.standing().round, opened.table_so_far()), (0, &[1][..]));
+    /// assert_eq!((opened.standing().round, opened.show()), (0, &[1][..]));
     /// assert_eq!(opened.write(), written);
     /// # Ok::<(), koelchair::Refusal>(())
     /// ```
@@ -252,7 +248,7 @@ impl fmt::Debug for Desk {
     fn fmt(&self, f: &mut fmt::Formatter) -> fmt::Result {
         f.debug_struct("Desk")
             .field("standing", &self.standing)
-            .field("shown", &self.table_so_far())
+            .field("shown", &self.show())
             .finish_non_exhaustive()
     }
 }

@@ -1,6 +1,6 @@
 //! A desk whose standing, store and tables belong to the caller: `DeskRef` for the calls that read, `DeskMut` for all.
 
-use crate::{answer, raw, Element, FormulaValue, Refusal, Settled, Sizes, State, StepAnswer};
+use crate::{answer, raw, Element, FormulaValue, Refusal, Sizes, State, StepAnswer};
 use crate::{WorkedEntry, WRITTEN_MOST};
 
 /// Where a desk stands. A standing of any content may be passed to any call: one that breaks a rule is refused with 12 by
@@ -38,11 +38,11 @@ pub struct Standing {
 ///     first: &table,
 ///     second: &table,
 /// };
-/// assert_eq!(zeros.score_so_far(), Err(Refusal::SpoiledDesk));
-/// assert!(zeros.table_so_far().is_empty());
+/// assert_eq!(zeros.score(), Err(Refusal::SpoiledDesk));
+/// assert!(zeros.show().is_empty());
 /// ```
 ///
-/// Every call but [`DeskRef::table_so_far`] is refused with [11](Refusal::ShortDesk) where the store or a table is too short, and with
+/// Every call but show is refused with [11](Refusal::ShortDesk) where the store or a table is too short, and with
 /// [12](Refusal::SpoiledDesk) where the desk breaks a rule.
 #[derive(Clone, Copy, Debug)]
 pub struct DeskRef<'a> {
@@ -57,18 +57,9 @@ pub struct DeskRef<'a> {
 }
 
 impl<'a> DeskRef<'a> {
-    /// The settled desk; none where the standing does not say that it is settled.
-    ///
-    /// Refused with 11 or 12.
-    pub fn settled(self) -> Result<Option<Settled<'a>>, Refusal> {
-        self.sizes()?;
-        Ok(Settled::of(self))
-    }
-
-    /// The call show: the first N1·N2 bytes of the whole table, as a part of that table itself. Entry (q1, q2) is byte
-    /// q1·N2 + q2, and the round is that of the standing; until the desk is settled it is no result. Where the desk is refused the
-    /// part is empty.
-    pub fn table_so_far(self) -> &'a [u8] {
+    /// The first N1·N2 bytes of the whole table, as a part of that table itself. Entry (q1, q2) is byte q1·N2 + q2, and the
+    /// round is that of the standing. Where the desk is refused the part is empty.
+    pub fn show(self) -> &'a [u8] {
         let shown = raw::show(self);
         match shown.table {
             0 => &[],
@@ -94,19 +85,17 @@ impl<'a> DeskRef<'a> {
         answer::formula_value(raw::whole(self, formula, model))
     }
 
-    /// The call score, of the shown table: the meet over q1 of Q0(q1) → the join over q2 of Q0(q2) met with the shown entry. Until
-    /// the desk is settled it is no result.
+    /// The score of the shown table: the meet over q1 of Q0(q1) → the join over q2 of Q0(q2) met with the shown entry.
     ///
     /// Refused with 11 or 12.
-    pub fn score_so_far(self) -> Result<Element, Refusal> {
+    pub fn score(self) -> Result<Element, Refusal> {
         answer::element(raw::score(self))
     }
 
-    /// The call share: the per cent of shown entries at or above an element, rounded to whole per cent, an exact half to the even
-    /// neighbour. Until the desk is settled it is no result.
+    /// The per cent of shown entries at or above an element, rounded to whole per cent, an exact half to the even neighbour.
     ///
     /// Refused with 11 or 12, or with 13 where the element is not of the lattice.
-    pub fn share_so_far(self, element: Element) -> Result<u8, Refusal> {
+    pub fn share(self, element: Element) -> Result<u8, Refusal> {
         answer::per_cent(raw::share(self, element.0))
     }
 
@@ -172,7 +161,7 @@ impl<'a> DeskRef<'a> {
 /// };
 /// assert_eq!(zeros.step(), Err(Refusal::SpoiledDesk));
 /// assert_eq!(zeros.open(&[]), Err(Refusal::CaseSize));
-/// assert_eq!(zeros.shared().score_so_far(), Err(Refusal::SpoiledDesk));
+/// assert_eq!(zeros.shared().score(), Err(Refusal::SpoiledDesk));
 /// ```
 #[derive(Debug)]
 pub struct DeskMut<'a> {
@@ -218,14 +207,6 @@ impl DeskMut<'_> {
         let moved = raw::finish_round(self);
         *self.standing = moved.standing;
         answer::stepped(moved.answer)
-    }
-
-    /// Works rounds until the desk is settled, and gives the settled desk.
-    ///
-    /// Refused with 11 or 12; the rounds before that are worked.
-    pub fn settle(&mut self) -> Result<Settled<'_>, Refusal> {
-        while !matches!(self.finish_round()?, StepAnswer::Settled { .. }) {}
-        Ok(Settled::of(self.shared()).expect("the library answered that the desk is settled"))
     }
 
     /// The desk for the calls that read it.

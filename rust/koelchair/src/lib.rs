@@ -1,7 +1,7 @@
 //! The proved desk for latticed simulation, called from Rust.
 //!
 //! ```
-//! use koelchair::{CoveredFrom, Desk, Element};
+//! use koelchair::{CoveredFrom, Desk, Element, StepAnswer};
 //!
 //! // A lattice of three elements, 0 below 1 below 2, whose middle element is its own complement; two models of one state, whose
 //! // one proposition has the middle element there, without transitions; and the formula that is this proposition.
@@ -14,13 +14,15 @@
 //!     2, 0, // formula 0
 //! ];
 //! let mut desk = Desk::open(&case)?;
-//! let settled = desk.settle();
-//! println!("settled after {} rounds and {} lowerings", settled.rounds(), settled.lowerings());
-//! assert_eq!((settled.rounds(), settled.lowerings()), (2, 1));
-//! for row in settled.rows() {
-//!     assert_eq!(row, [1]);
-//! }
-//! assert_eq!(settled.score(), Element(1));
+//! let (rounds, lowerings) = loop {
+//!     if let StepAnswer::Settled { round, lowerings } = desk.step() {
+//!         break (round, lowerings);
+//!     }
+//! };
+//! println!("settled after {rounds} rounds and {lowerings} lowerings");
+//! assert_eq!((rounds, lowerings), (2, 1));
+//! assert_eq!(desk.show(), [1]);
+//! assert_eq!(desk.score(), Element(1));
 //! let whole = desk.whole(0, 1)?;
 //! assert_eq!(whole.element, Element(1));
 //! // The formula has no AX, no fixpoint and no EX, so that entries and score bound it from round 1 on.
@@ -32,11 +34,9 @@
 //! elements of the lattice) and up to eight formulas of the mu-calculus. The desk works out the greatest latticed simulation between
 //! the models, a row of a round at a time, and values the formulas. All of that is done by the proved static library
 //! `libexports.a`; this crate passes its arguments on and reads its answers. Its own is only how [`FormulaFacts`] says which rounds cover a
-//! formula, by the conditions of docs/SPECIFICATION.md, and that [`Settled`] goes by the standing.
+//! formula, by the conditions of docs/SPECIFICATION.md.
 //!
-//! - [`Desk`] owns what the calls need. [`Desk::step`] and [`Desk::finish_round`] work it row by row and round by round.
-//! - [`Settled`] is a settled desk, and its table, score and shares are results. What a desk answers before it is settled ends in
-//!   `_so_far`.
+//! - [`Desk`] owns what the calls need.
 //! - [`DeskRef`] and [`DeskMut`] borrow a standing, a store and two tables of any content and length, for callers that keep these
 //!   themselves: the calls that read the desk, and all of them.
 //! - [`FormulaValue`] is a formula's element with its [`FormulaFacts`], which say from which round on a table covers the formula.
@@ -58,14 +58,12 @@ mod lent;
 #[allow(unsafe_code)]
 mod raw;
 mod refusal;
-mod settled;
 
 pub use answer::{Element, Sizes, State, StepAnswer, WorkedEntry};
 pub use desk::Desk;
 pub use facts::{CoveredFrom, FormulaFacts, FormulaValue};
 pub use lent::{DeskMut, DeskRef, Standing};
 pub use refusal::{Refusal, RefusalEntry, NO_PART, REFUSALS};
-pub use settled::Settled;
 
 /// The fewest bytes of a store that is not refused with 11. What stands beyond them is never written.
 pub const STORE_LENGTH: usize = 24_576;

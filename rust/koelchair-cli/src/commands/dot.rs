@@ -15,7 +15,7 @@ pub fn dot(arguments: &[String], input: &mut dyn Read) -> Outcome {
         return Err(Failure::Other(message.to_string()));
     };
     let first = usize::from(text.course_alone);
-    Ok(Printed::new(drawing(case, first)).with_notes(&text.source))
+    Ok(Printed::new(drawing(case, first)))
 }
 
 /// Both models side by side; of a course's file model 2 alone.

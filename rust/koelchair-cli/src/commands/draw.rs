@@ -12,7 +12,7 @@ const STYLE: &str = include_str!("../draw/style.css");
 /// What stands on the page before the script has run.
 const BODY: &str = include_str!("../draw/body.html");
 /// The script, in the order in which its parts rest on each other. The first four need no browser.
-const SCRIPT: [&str; 11] = [
+const SCRIPT: [&str; 10] = [
     include_str!("../draw/words.js"),
     include_str!("../draw/lattices.js"),
     include_str!("../draw/cases.js"),
@@ -22,7 +22,6 @@ const SCRIPT: [&str; 11] = [
     include_str!("../draw/graph.js"),
     include_str!("../draw/side.js"),
     include_str!("../draw/hand.js"),
-    include_str!("../draw/kept.js"),
     include_str!("../draw/main.js"),
 ];
 /// Tells the browser to load nothing from anywhere.
@@ -44,7 +43,7 @@ pub fn draw(arguments: &[String], input: &mut dyn Read) -> Outcome {
         None => "koelchair".to_string(),
     };
     let text = given(&opened, arguments.has("--with-course"));
-    Ok(Printed::new(html(&title, &text, true)).with_notes(&opened.text.source))
+    Ok(Printed::new(html(&title, &text, true)))
 }
 
 /// What the page has of a case: the student's model if there is one, and what else is the course's only if asked for.

@@ -8,10 +8,9 @@ use std::io::Read;
 pub fn encode(arguments: &[String], input: &mut dyn Read) -> Outcome {
     let arguments = Arguments::read(arguments, &["--numbers"], &["--course"])?;
     let [file] = arguments.exactly(["FILE"])?;
-    let text = read_text(file, &arguments, input)?;
-    let printed = match arguments.has("--numbers") {
-        true => Printed::new(numbers(&text.bytes) + "\n"),
-        false => Printed::new(text.bytes),
-    };
-    Ok(printed.with_notes(&text.source))
+    let bytes = read_text(file, &arguments, input)?.bytes;
+    match arguments.has("--numbers") {
+        true => Ok(Printed::new(numbers(&bytes) + "\n")),
+        false => Ok(Printed::new(bytes)),
+    }
 }

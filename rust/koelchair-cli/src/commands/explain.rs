@@ -1,10 +1,9 @@
 //! `explain`: what held the entry of a pair down, round by round. The entries are the library's; the parts of each entry are
 //! worked out by this tool (`tables`) and compared with it; that they differ would be an error.
 
-use super::{open, read_course, Arguments, Failure, Opened, Outcome, Printed};
+use super::{open, read_text, Arguments, Failure, Opened, Outcome, Printed};
 use crate::case::Case;
 use crate::errors::{expected_one_of, nearest};
-use crate::owners::asked_of_pair;
 use crate::progress::Progress;
 use crate::rounds::finish_round;
 use crate::tables::{parts, Answer, Operations, Part};
@@ -16,8 +15,11 @@ use std::io::Read;
 pub fn explain(arguments: &[String], input: &mut dyn Read) -> Outcome {
     let arguments = Arguments::read(arguments, &["--all", "--bytes"], &["--course"])?;
     let [file, state1, state2] = arguments.exactly(["FILE", "STATE1", "STATE2"])?;
-    let mut opened = open(read_course(file, &arguments, input)?)?;
-    let pair = pair(&opened, state1, state2)?;
+    let mut opened = open(read_text(file, &arguments, input)?)?;
+    let pair = (
+        state(&opened.case, 0, state1)?,
+        state(&opened.case, 1, state2)?,
+    );
     let no_lattice = || {
         Failure::Other(
             "the library accepts this lattice, and this tool finds no meets in it".to_string(),
@@ -26,43 +28,29 @@ pub fn explain(arguments: &[String], input: &mut dyn Read) -> Outcome {
     let operations = Operations::of(&opened.case.lattice).ok_or_else(no_lattice)?;
     let explanation = Explanation {
         operations,
-        owners: opened.owners(),
         pair,
         all: arguments.has("--all"),
     };
-    let printed = explanation.rounds(&mut opened).map(Printed::new)?;
-    Ok(printed.with_notes(&opened.text.source))
+    explanation.rounds(&mut opened).map(Printed::new)
 }
 
-/// The numbers of a state of the student's and of one of the course's.
-pub fn pair(opened: &Opened, student: &str, course: &str) -> Result<(usize, usize), Failure> {
-    Ok((state(opened, 0, student)?, state(opened, 1, course)?))
-}
-
-/// The number of a state of a model; where it is one of the other model alone, the two may have been given in the wrong order.
-fn state(opened: &Opened, model: usize, name: &str) -> Result<usize, Failure> {
-    let [own, other] = [model, 1 - model].map(|m| &opened.case.models[m].states);
-    let [owner, whose] = [model, 1 - model].map(|m| opened.owners()[m]);
-    let has = |states: &[String]| states.iter().position(|s| s == name);
-    has(own).ok_or_else(|| {
-        let names = || own.iter().map(String::as_str);
-        let help = match (has(other), nearest(name, names())) {
-            (Some(_), _) => {
-                format!("it is one of the {whose}'s, and the student's state comes first")
-            }
-            (None, Some(near)) => format!("a similar name is `{near}`"),
-            (None, None) => expected_one_of(names()),
+/// The number of a state of a model.
+pub fn state(case: &Case, model: usize, name: &str) -> Result<usize, Failure> {
+    let states = &case.models[model].states;
+    states.iter().position(|s| s == name).ok_or_else(|| {
+        let names = || states.iter().map(String::as_str);
+        let help = match nearest(name, names()) {
+            Some(near) => format!("a similar name is `{near}`"),
+            None => expected_one_of(names()),
         };
-        Failure::Usage(format!(
-            "`{name}` is no state of the {owner}'s model; {help}"
-        ))
+        let model = model + 1;
+        Failure::Usage(format!("`{name}` is no state of model {model}; {help}"))
     })
 }
 
 /// What is explained, and how.
 struct Explanation {
     operations: Operations,
-    owners: [&'static str; 2],
     pair: (usize, usize),
     all: bool,
 }
@@ -71,35 +59,30 @@ impl Explanation {
     /// The pair's entry in each round; a failure if the parts of one do not meet to it.
     fn rounds(&self, opened: &mut Opened) -> Result<String, Failure> {
         let place = self.pair.0 * opened.case.models[1].size() + self.pair.1;
-        let mut before = opened.desk.table_so_far().to_vec();
+        let mut before = opened.desk.show().to_vec();
         let mut text = self.heading(&opened.case, before[place]);
         let mut agrees = true;
         let mut progress = Progress::new("round");
         loop {
             let settled = matches!(finish_round(&mut opened.desk), StepAnswer::Settled { .. });
-            let (entry, round) = (
-                opened.desk.table_so_far()[place],
-                opened.desk.standing().round,
-            );
+            let (entry, round) = (opened.desk.show()[place], opened.desk.standing().round);
             progress.at(round);
-            let round = match settled {
-                true => format!("settled at round {round}"),
-                false => format!("round {round}, not settled"),
-            };
-            let _ = writeln!(text, "{round}: {}", opened.case.element(entry));
+            let last = if settled { " (settled)" } else { "" };
+            let _ = writeln!(text, "round {round}{last}: {}", opened.case.element(entry));
             agrees &= self.entry(&opened.case, &before, entry, &mut text);
             match (settled, agrees) {
                 (true, true) => return Ok(text),
                 (true, false) => return Err(Failure::Other(text)),
-                (false, _) => before = opened.desk.table_so_far().to_vec(),
+                (false, _) => before = opened.desk.show().to_vec(),
             }
         }
     }
 
     fn heading(&self, case: &Case, entry: u8) -> String {
-        let states = [(0, self.pair.0), (1, self.pair.1)].map(|(m, q)| case.state(m, q));
-        let (asked, entry) = (asked_of_pair(self.owners, states), case.element(entry));
-        format!("{asked}\nround 0, not settled: {entry} (every entry begins at top)\n")
+        let [first, second] = [(0, self.pair.0), (1, self.pair.1)]
+            .map(|(m, q)| format!("{} of {}", case.models[m].states[q], case.model_name(m)));
+        let entry = case.element(entry);
+        format!("{first} against {second}\nround 0: {entry} (every entry begins at top)\n")
     }
 
     /// Puts the parts of an entry of the round after `table` to the text; whether they meet to the library's entry.
@@ -127,14 +110,13 @@ impl Explanation {
 
     fn part(&self, case: &Case, part: &Part) -> String {
         let name = |e: u8| case.element(e);
-        let [one, other] = self.owners;
         match part {
             Part::Proposition {
                 proposition,
                 values,
                 gives,
             } => format!(
-                "{}: proposition {} is {} for the {one} and {} for the {other}",
+                "{}: proposition {} is {} in model 1 and {} in model 2",
                 name(*gives),
                 case.propositions[*proposition],
                 name(values[0]),
@@ -152,7 +134,7 @@ impl Explanation {
                     &case.models[0].states[*to],
                 );
                 format!(
-                    "{}: the {one}'s transition {from} -> {target}: {}; {}",
+                    "{}: transition {from} -> {target}: {} of model 1; {}",
                     name(*gives),
                     name(*value),
                     self.answers(case, target, best, *join)
@@ -163,7 +145,6 @@ impl Explanation {
 
     fn answers(&self, case: &Case, target: &str, best: &[Answer], join: u8) -> String {
         let from = &case.models[1].states[self.pair.1];
-        let other = self.owners[1];
         let said = |a: &Answer| {
             let to = &case.models[1].states[a.to];
             let (value, entry) = (case.element(a.value), case.element(a.entry));
@@ -171,12 +152,12 @@ impl Explanation {
             format!("{from} -> {to}: {value} met with entry ({target}, {to}) {entry} gives {gives}")
         };
         match best {
-            [] => format!("the {other} has no transition from {from}"),
-            [one] => format!("the {other}'s best answer {}", said(one)),
+            [] => format!("model 2 has no transition from {from}"),
+            [one] => format!("best answer {}", said(one)),
             several => {
                 let list: Vec<String> = several.iter().map(said).collect();
                 format!(
-                    "the {other}'s best answers {}, together {}",
+                    "best answers {}, together {}",
                     list.join("; "),
                     case.element(join)
                 )
@@ -189,7 +170,6 @@ impl Explanation {
 mod tests {
     use super::Explanation;
     use crate::errors::Source;
-    use crate::owners::OWNERS;
     use crate::parse::parse;
     use crate::tables::Operations;
 
@@ -205,7 +185,6 @@ mod tests {
         let operations = Operations::of(&case.lattice).expect("a lattice");
         let explanation = Explanation {
             operations,
-            owners: OWNERS,
             pair: (0, 0),
             all: false,
         };
@@ -213,7 +192,7 @@ mod tests {
         assert!(explanation.entry(&case, &[1], 0, &mut text));
         assert_eq!(
             text,
-            "  no: proposition p is yes for the student and no for the course\n"
+            "  no: proposition p is yes in model 1 and no in model 2\n"
         );
         assert!(!explanation.entry(&case, &[1], 1, &mut text));
         let wrong = "ERROR: these parts meet to no, which is not the library's entry\n";

@@ -24,10 +24,8 @@ impl Failure {
     pub fn words(&self, arguments: &[String]) -> String {
         match self {
             Failure::Usage(message) => usage_text(arguments, message),
-            Failure::Text(source, errors) => source.notes() + &render_all(source, errors),
-            Failure::Refused(text, refusal, _) => {
-                text.source.notes() + &refusal_text(text, *refusal)
-            }
+            Failure::Text(source, errors) => render_all(source, errors),
+            Failure::Refused(text, refusal, _) => refusal_text(text, *refusal),
             Failure::Other(message) => format!("error: {message}\n"),
         }
     }

@@ -14,25 +14,18 @@ const COMMANDS: [(&str, &str, &str); 12] = [
         "report",
         "koelchair report [--names] [--values] [--share ELEMENT]... [--json] [--deny-warnings] FILE",
         "Prints the listing: T, the settled table, the score, and each formula's value on both models.\n\
-         A course's file, which has no model 1, is compared with a copy of itself; then it is said why the ceiling is not top.\n\
-         --names   names in place of numbers, the ceiling beside the score, and from which round on entries and score bound each\n\
-         \x20         formula\n\
+         --names   names in place of numbers, and from which round on entries and score bound each formula\n\
          --values  also each formula's value at each state\n\
          --share   also the per cent of entries at or above this element, rounded, an exact half to the even neighbour",
     ),
     (
         "mark",
-        "koelchair mark [--csv [--bom] | --json] [--page FOLDER] [--force] [--share ELEMENT] [--deny-warnings] COURSE STUDENT...",
-        "Marks students' drawings, a row for each: score, where it stands to the ceiling, which is what the course's model scores\n\
-         against itself, the score with the models exchanged (arrows that are left out may lower it), formulas, share and\n\
-         warnings. A value that is lower than the course's own says `below`, in a panel for whom.\n\
-         COURSE has the lattice, the propositions, model 2 and the formulas, and each STUDENT model 1 alone. A drawing that cannot\n\
-         be marked does not stop the others. COURSE alone is checked. A row has the name that the drawing gives itself, else its\n\
-         file's, and an `include` of a file of COURSE's name in STUDENT means COURSE.\n\
-         --csv     comma-separated values, with the reasons; a cell that a spreadsheet would take for a formula begins with '\n\
-         --bom     with --csv: a byte order mark first, for spreadsheets that else read UTF-8 as something else\n\
+        "koelchair mark [--csv | --json] [--page FOLDER] [--share ELEMENT] [--deny-warnings] COURSE STUDENT...",
+        "Marks students' drawings, a row for each: score, formulas, share, warnings, and whether the ceiling is reached, which is\n\
+         what the course's model scores against itself. COURSE has the lattice, the propositions, model 2 and the formulas, and\n\
+         each STUDENT model 1 alone. A drawing that cannot be marked does not stop the others. COURSE alone is checked.\n\
+         --csv     comma-separated values, with the reasons\n\
          --page    also writes a class page, FOLDER/index.html, which leads to a page for each student\n\
-         --force   with --page: also into a folder with files that `mark` did not write; its own begin with a line that says so\n\
          --share   the element whose share of the entries is given; the ceiling if none is named",
     ),
     (
@@ -40,16 +33,15 @@ const COMMANDS: [(&str, &str, &str); 12] = [
         "koelchair why [--all] [--json] FILE [STATE1 STATE2]",
         "Why the score is not higher, or the entry of a state of the student's and one of the course's: from pair to pair, in the\n\
          round in which each fell, down to the proposition that differs or the transition that is not answered. In a panel for\n\
-         each instructor by himself. A course's file, which has no model 1, is compared with a copy of itself: why the ceiling is\n\
-         not top. STATE1 is the student's, STATE2 the course's.\n\
+         each instructor by himself.\n\
          --all     every step of a long way",
     ),
     (
         "step",
         "koelchair step [--rounds R] [--table | --json] FILE",
         "Prints the table after each round with names, how many entries the round lowered, and the score that it would give; at\n\
-         the end the lowerings of all these rounds. Each table says in its first line whether it is settled: only then is it a\n\
-         result.\n\
+         the end the lowerings of all these rounds. Rows are states of model 1, columns states of model 2. Only the settled table\n\
+         is a result.\n\
          --rounds  stops after round R\n\
          --table   the last of these tables alone, as judge reads it",
     ),
@@ -63,8 +55,8 @@ const COMMANDS: [(&str, &str, &str); 12] = [
     (
         "explain",
         "koelchair explain [--all] FILE STATE1 STATE2",
-        "For a state of the student's and one of the course's: their entry in each round, and what held it down: a proposition, or\n\
-         a transition of the student's with the course's best answer. Entries come from the library, the parts of an entry from\n\
+        "For a state of model 1 and a state of model 2: their entry in each round, and what held it down: a proposition, or a\n\
+         transition of model 1 with its best answer in model 2. Entries come from the library, the parts of an entry from\n\
          this tool; that they did not meet to the library's entry would be an error.\n\
          --all     also parts that are top",
     ),
@@ -72,8 +64,7 @@ const COMMANDS: [(&str, &str, &str); 12] = [
         "page",
         "koelchair page [--deny-warnings] FILE",
         "Writes a page of HTML to standard output, to be shown to a class. It needs no network. Its address can say what is shown,\n\
-         as in page.html#round=2&pair=STATE1,STATE2&theme=dark. Of a course's file, which has no model 1, the page compares the\n\
-         course's model with a copy of itself and says why the ceiling is not top.",
+         as in page.html#round=2&pair=STATE1,STATE2&theme=dark.",
     ),
     (
         "dot",

@@ -5,15 +5,10 @@ use crate::case::Case;
 use crate::decode::decode;
 use crate::encoding;
 use crate::errors::{Source, TextError};
-use crate::files::{self, limited, TOO_LONG};
-use crate::include::{said, Loader};
-use crate::owners::{ALONE, OWNERS};
+use crate::include::Loader;
 use crate::parse::{parse, parse_course, Places, Text};
 use koelchair::{Desk, FormulaFacts};
-use std::fs::File;
-use std::io::{self, ErrorKind, Read};
-
-pub use crate::files::shown_name;
+use std::io::{ErrorKind, Read};
 
 /// An accepted case on a desk.
 pub struct Opened {
@@ -26,14 +21,6 @@ pub struct Opened {
 }
 
 impl Opened {
-    /// Whose the two models are.
-    pub fn owners(&self) -> [&'static str; 2] {
-        match self.text.course_alone {
-            true => ALONE,
-            false => OWNERS,
-        }
-    }
-
     /// The library's facts of each formula. They are the same on both models, and model 1 is there in a course's file alone too, since
     /// its model 2 stands for both.
     pub fn facts(&self) -> Result<Vec<FormulaFacts>, Failure> {
@@ -46,43 +33,38 @@ impl Opened {
     }
 }
 
-/// What `read` makes of a file, or of standard input for `-`.
-fn read_by<T>(
-    file: &str,
-    input: &mut dyn Read,
-    read: impl FnOnce(&mut dyn Read) -> io::Result<T>,
-) -> Result<T, Failure> {
-    if file == "-" {
-        let failed = |error| Failure::Other(format!("standard input: {error}"));
-        return read(input).map_err(failed);
-    }
-    let opened = File::open(files::path(file));
-    opened
-        .and_then(|mut file| read(&mut file))
-        .map_err(|error| {
-            let file = shown_name(file);
-            Failure::Other(match error.kind() {
-                ErrorKind::IsADirectory => {
-                    let folder = file.trim_end_matches('/');
-                    format!("{file}: this is a folder; name the files in it, as {folder}/*.case")
-                }
-                _ => format!("{file}: {error}"),
-            })
-        })
-}
-
 /// All bytes of a file, or of standard input for `-`.
 pub fn read_bytes(file: &str, input: &mut dyn Read) -> Result<Vec<u8>, Failure> {
-    let mut bytes = Vec::new();
-    read_by(file, input, |from| from.read_to_end(&mut bytes))?;
-    Ok(bytes)
+    if file == "-" {
+        let mut bytes = Vec::new();
+        return match input.read_to_end(&mut bytes) {
+            Ok(_) => Ok(bytes),
+            Err(error) => Err(Failure::Other(format!("standard input: {error}"))),
+        };
+    }
+    std::fs::read(file).map_err(|error| {
+        Failure::Other(match error.kind() {
+            ErrorKind::IsADirectory => {
+                let folder = file.trim_end_matches('/');
+                format!("{file}: this is a folder; name the files in it, as {folder}/*.case")
+            }
+            _ => format!("{file}: {error}"),
+        })
+    })
 }
 
-/// The letters in a file, which has limited size.
+/// The name by which errors speak of a file.
+pub fn shown_name(file: &str) -> &str {
+    match file {
+        "-" => "<stdin>",
+        _ => file,
+    }
+}
+
+/// The letters in a file.
 pub fn read_letters(file: &str, input: &mut dyn Read) -> Result<String, Failure> {
-    let bytes = read_by(file, input, |from| limited(from))?;
-    let letters = bytes.ok_or(TOO_LONG.to_string()).and_then(encoding::text);
-    letters.map_err(|said| Failure::Other(format!("{}: {said}", shown_name(file))))
+    let bytes = read_bytes(file, input)?;
+    encoding::text(bytes).map_err(|said| Failure::Other(format!("{}: {said}", shown_name(file))))
 }
 
 /// The case in a file, with that of `--course` before it, or what the bytes in a file say (with `--bytes`).
@@ -108,10 +90,11 @@ fn read_with(
     input: &mut dyn Read,
     parse: Parse,
 ) -> Result<Text, Failure> {
+    let name = shown_name(file);
     if arguments.has("--bytes") {
         let bytes = read_bytes(file, input)?;
         return Ok(Text {
-            source: Source::new(&shown_name(file), ""),
+            source: Source::new(name, ""),
             case: decode(&bytes),
             bytes,
             places: Places::default(),
@@ -119,24 +102,21 @@ fn read_with(
             course_alone: false,
         });
     }
-    let mut loader = Loader::default();
+    let mut loader = Loader::new(name);
     for course in arguments.values("--course") {
-        loader.course(course, &read_letters(course, input)?);
+        loader.add(shown_name(course), &read_letters(course, input)?);
     }
-    loader.add(file, &read_letters(file, input)?);
+    let letters = read_letters(file, input)?;
+    loader.add(name, &letters);
     together(loader, parse)
 }
 
 /// The case in texts that were put together.
 pub fn together(loader: Loader, parse: Parse) -> Result<Text, Failure> {
-    let failed = |source: Source, errors| {
-        let said = said(&source, errors);
-        Failure::Text(source, said)
-    };
     let source = loader
         .finish()
-        .map_err(|(source, errors)| failed(source, errors))?;
-    parse(source.clone()).map_err(|errors| failed(source, errors))
+        .map_err(|(source, errors)| Failure::Text(source, errors))?;
+    parse(source.clone()).map_err(|errors| Failure::Text(source, errors))
 }
 
 /// Opens a text's case on a desk.

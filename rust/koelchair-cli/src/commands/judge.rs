@@ -4,7 +4,7 @@
 //! library would be an error.
 
 use super::input::{read_letters, shown_name};
-use super::{document, open, read_course, Arguments, Failure, Opened, Outcome, Printed};
+use super::{document, open, read_text, Arguments, Failure, Opened, Outcome, Printed};
 use crate::case::Case;
 use crate::errors::Source;
 use crate::json::{object, string, strings};
@@ -25,21 +25,20 @@ pub fn judge(arguments: &[String], input: &mut dyn Read) -> Outcome {
         let message = "standard input is named twice; `-` can stand for one file alone";
         return Err(Failure::Usage(message.to_string()));
     }
-    let opened = open(read_course(file, &arguments, input)?)?;
-    let table = read_table(table, &opened, input)?;
+    let opened = open(read_text(file, &arguments, input)?)?;
+    let table = read_table(table, &opened.case, input)?;
     let judged = Judged::of(&opened, &table)?;
     let printed = match arguments.has("--json") {
-        true => document("judge", judged.fields(&opened)),
-        false => judged.words(&opened),
+        true => document("judge", judged.fields(&opened.case)),
+        false => judged.words(&opened.case),
     };
-    Ok(Printed::new(printed).with_notes(&opened.text.source))
+    Ok(Printed::new(printed))
 }
 
 /// The table in a file.
-fn read_table(file: &str, opened: &Opened, input: &mut dyn Read) -> Result<Vec<u8>, Failure> {
-    let source = Source::new(&shown_name(file), &read_letters(file, input)?);
-    let parsed = table_text::parse(&source, &opened.case, opened.owners());
-    parsed.map_err(|errors| Failure::Text(source, errors))
+fn read_table(file: &str, case: &Case, input: &mut dyn Read) -> Result<Vec<u8>, Failure> {
+    let source = Source::new(shown_name(file), &read_letters(file, input)?);
+    table_text::parse(&source, case).map_err(|errors| Failure::Text(source, errors))
 }
 
 /// A round worked on a table of N1·N2 elements, that is F of it, entry by entry from the library: it is lent the desk with this table in place of
@@ -98,7 +97,7 @@ impl Judged {
         })
     }
 
-    fn words(&self, opened: &Opened) -> String {
+    fn words(&self, case: &Case) -> String {
         let counted = |count: usize| match count {
             1 => format!("1 entry of {}", self.entries),
             _ => format!("{count} entries of {}", self.entries),
@@ -114,22 +113,21 @@ impl Judged {
                     1 => ("is", ""),
                     _ => ("are", "the first, "),
                 };
-                let (count, pair) = (counted(*count), first.words(opened));
+                let (count, pair) = (counted(*count), first.words(case));
                 format!("no: the table is not sound, {count} {are} too high\n{which}{pair}\n")
             }
         }
     }
 
-    fn fields(&self, opened: &Opened) -> Vec<(&'static str, String)> {
+    fn fields(&self, case: &Case) -> Vec<(&'static str, String)> {
         let null = "null".to_string();
         let (raised, count, first) = match &self.verdict {
             Verdict::Sound { raised } => (raised.to_string(), 0, null),
-            Verdict::NotSound { count, first } => (null, *count, first.json(&opened.case)),
+            Verdict::NotSound { count, first } => (null, *count, first.json(case)),
         };
         let tight = self.verdict == Verdict::Sound { raised: 0 };
         vec![
             ("accepted", "true".to_string()),
-            ("owners", strings(opened.owners())),
             ("sound", (count == 0).to_string()),
             ("tight", tight.to_string()),
             ("entries", self.entries.to_string()),
@@ -186,8 +184,7 @@ impl TooHigh {
         labels.filter(|label| !label.is_empty()).collect()
     }
 
-    fn words(&self, opened: &Opened) -> String {
-        let (case, [one, other]) = (&opened.case, opened.owners());
+    fn words(&self, case: &Case) -> String {
         let [student, course] = self.states(case);
         let [entry, next] = [self.entry, self.next].map(|e| case.element(e));
         let [high, low] = [self.entry, self.next].map(usize::from);
@@ -199,7 +196,7 @@ impl TooHigh {
             [] => String::new(),
             labels => format!(" (too high for {})", labels.join(" and ")),
         };
-        format!("{one} {student}, {other} {course}: the table says {entry}, and a round worked on it {gives}{whose}")
+        format!("student {student}, course {course}: the table says {entry}, and a round worked on it {gives}{whose}")
     }
 
     fn json(&self, case: &Case) -> String {

@@ -22,7 +22,7 @@ pub use arguments::{count, Arguments};
 pub use failure::{refusal_text, Failure};
 pub use input::{open, read_bytes, read_course, read_text, Opened};
 
-use crate::errors::{did_you_mean, Source};
+use crate::errors::did_you_mean;
 use crate::json::{object, string};
 use crate::warnings::{self, Warning};
 use std::io::{ErrorKind, Read, Write};
@@ -63,22 +63,6 @@ impl Printed {
     ) -> Printed {
         self.told = warnings::render_all(text, list);
         self.deny(list.len(), arguments);
-        self.with_notes(&text.source)
-    }
-
-    /// The same with what is to be said of the files.
-    pub fn with_notes(mut self, source: &Source) -> Printed {
-        self.told.insert_str(0, &source.notes());
-        self
-    }
-
-    /// The same with a note before the warnings.
-    pub fn with_note(mut self, note: String) -> Printed {
-        let between = match note.is_empty() || self.told.is_empty() {
-            true => "",
-            false => "\n",
-        };
-        self.told = note + between + &self.told;
         self
     }
 

@@ -1,9 +1,7 @@
 //! `report`: the listing of document 01, or with names, and below each formula from which round on entries and score bound it. Names are
 //! put to the numbers of the library's listing.
 
-use super::table::{columns, RoundTable};
-use super::why::{alone, ceiling};
-use super::{document, open, read_course, Arguments, Failure, Opened, Outcome, Printed};
+use super::{document, open, read_text, table, Arguments, Failure, Opened, Outcome, Printed};
 use crate::errors::Source;
 use crate::facts;
 use crate::json::{array, object, string, strings};
@@ -27,7 +25,7 @@ pub fn report(arguments: &[String], input: &mut dyn Read) -> Outcome {
     ];
     let arguments = Arguments::read(arguments, &flags, &["--course", "--share"])?;
     let [file] = arguments.exactly(["FILE"])?;
-    let text = read_course(file, &arguments, input)?;
+    let text = read_text(file, &arguments, input)?;
     let bytes = text.bytes.clone();
     let mut opened = open(text).map_err(|failure| match failure {
         Failure::Refused(text, refusal, _) => {
@@ -43,8 +41,7 @@ pub fn report(arguments: &[String], input: &mut dyn Read) -> Outcome {
         true => json(&opened, &facts, &shares, arguments.has("--values"), &list)?,
         false => lines(&opened, &facts, &shares, &arguments)?,
     };
-    let printed = Printed::new(printed).with_warnings(&opened.text, &list, &arguments);
-    Ok(printed.with_note(alone(&opened)?))
+    Ok(Printed::new(printed).with_warnings(&opened.text, &list, &arguments))
 }
 
 /// The listing as text, by names if they are wanted, with the values and shares that are.
@@ -77,28 +74,16 @@ fn numbers(opened: &Opened) -> Result<Listing, Failure> {
 fn named_listing(opened: &Opened, facts: &[FormulaFacts]) -> Result<String, Failure> {
     let (case, listing) = (&opened.case, numbers(opened)?);
     let name = |e: &u8| case.element(*e);
-    let [one, other] = opened.owners();
     let mut text = format!("rounds {}\n", listing.rounds);
-    let table = RoundTable {
-        case,
-        owners: opened.owners(),
-        round: listing.rounds,
-        settled: true,
-        entries: &listing.rows.concat(),
-    };
-    text.push_str(&table.lines(""));
+    text.push_str(&table::listed(case, listing.rows.iter().map(Vec::as_slice)));
     let _ = writeln!(text, "score {}", name(&listing.score));
-    if let Some(ceiling) = ceiling(case).as_ref().map(name) {
-        let what = "what the course's model scores against itself";
-        let _ = writeln!(text, "ceiling {ceiling}: {what}");
-    }
     let formulas = case.formulas.iter().zip(&listing.formulas);
     for ((named, [student, course]), facts) in formulas.zip(facts) {
         let (formula, student, course) = (&named.name, name(student), name(course));
         let bounded = facts::bounded(*facts);
         let _ = writeln!(
             text,
-            "formula {formula}: {one} {student}, {other} {course}\n  {bounded}"
+            "formula {formula}: student {student}, course {course}\n  {bounded}"
         );
     }
     Ok(text)
@@ -122,7 +107,7 @@ fn values_text(opened: &Opened) -> String {
         return text;
     }
     for (m, model) in case.models.iter().enumerate() {
-        let _ = writeln!(text, "values at the {}'s states", opened.owners()[m]);
+        let _ = writeln!(text, "values in model {}", m + 1);
         let mut rows = vec![vec![String::new()]];
         rows[0].extend(model.states.iter().cloned());
         for (f, named) in case.formulas.iter().enumerate() {
@@ -130,22 +115,21 @@ fn values_text(opened: &Opened) -> String {
             row.extend(values_of(opened, f, m));
             rows.push(row);
         }
-        text.push_str(&columns(&rows));
+        text.push_str(&table::columns(&rows));
     }
     text
 }
 
-/// Elements that are written as in a text, each with the per cent of settled entries at or above it.
+/// Elements that are written as in a text, each with the per cent of entries at or above it. Afterwards the desk is settled.
 fn shares_of(opened: &mut Opened, written: &[&str]) -> Result<Vec<(u8, u8)>, Failure> {
     let elements: Vec<u8> = written
         .iter()
         .map(|w| element(opened, w))
         .collect::<Result<_, _>>()?;
-    if elements.is_empty() {
-        return Ok(Vec::new());
+    if !elements.is_empty() {
+        settle(&mut opened.desk);
     }
-    let settled = settle(&mut opened.desk);
-    let share = |e: u8| match settled.share(Element(e)) {
+    let share = |e: u8| match opened.desk.share(Element(e)) {
         Ok(share) => Ok((e, share)),
         Err(refusal) => Err(Failure::Other(refusal.to_string())),
     };
@@ -188,13 +172,10 @@ fn json(
     let fields = vec![
         ("accepted", "true".to_string()),
         ("rounds", listing.rounds.to_string()),
-        ("settled", "true".to_string()),
-        ("owners", strings(opened.owners())),
         ("rows", strings(&case.models[0].states)),
         ("columns", strings(&case.models[1].states)),
         ("table", array(listing.rows.iter().map(row))),
         ("score", name(listing.score)),
-        ("ceiling", ceiling(case).map_or("null".to_string(), name)),
         ("formulas", array(formulas)),
         ("shares", array(shares.iter().map(share))),
         (

@@ -1,7 +1,6 @@
 //! `step`: the table after each round with how many entries it lowered, or the last of them alone in the lines that `judge` reads.
 
-use super::table::RoundTable;
-use super::{document, open, read_course, Arguments, Failure, Opened, Outcome, Printed};
+use super::{document, open, read_text, table, Arguments, Failure, Opened, Outcome, Printed};
 use crate::case::Case;
 use crate::json::{array, object, string, strings};
 use crate::progress::Progress;
@@ -25,19 +24,18 @@ pub fn step(arguments: &[String], input: &mut dyn Read) -> Outcome {
             .parse()
             .map_err(|_| Failure::Usage(format!("`{number}` is no number of rounds")))?,
     };
-    let mut opened = open(read_course(file, &arguments, input)?)?;
+    let mut opened = open(read_text(file, &arguments, input)?)?;
     let printed = match forms {
         (true, _) => json(&mut opened, most),
         (_, true) => last(&mut opened, most),
         _ => words(&mut opened, most),
     };
-    Ok(Printed::new(printed).with_notes(&opened.text.source))
+    Ok(Printed::new(printed))
 }
 
 /// A round as the desk shows it after its last row.
 struct Shown<'a> {
     case: &'a Case,
-    owners: [&'a str; 2],
     desk: &'a Desk,
     /// The entries that it lowered: what the library's count of lowerings rose by. 0 for round 0.
     lowered: u32,
@@ -46,14 +44,12 @@ struct Shown<'a> {
 
 /// Works rounds up to the settled one, or to `most`, and gives each from round 0 on.
 fn rounds(opened: &mut Opened, most: u32, mut each: impl FnMut(Shown)) {
-    let owners = opened.owners();
     let Opened { case, desk, .. } = opened;
     let mut progress = Progress::new("round");
     let (mut lowered, mut settled) = (0, false);
     loop {
         each(Shown {
             case,
-            owners,
             desk,
             lowered,
             settled,
@@ -84,19 +80,20 @@ fn words(opened: &mut Opened, most: u32) -> String {
 
 /// A round's table, from round 1 on how many entries it lowered, and the score.
 fn round_in_words(shown: &Shown) -> String {
-    let table = RoundTable::shown(shown.case, shown.owners, shown.desk).lines("  ");
-    let lowered = match shown.desk.standing().round {
+    let round = shown.desk.standing().round;
+    let (table, score) = (named_table(shown), shown.case.element(shown.desk.score().0));
+    let lowered = match round {
         0 => String::new(),
         _ => format!("  lowered: {}\n", entries(shown.lowered)),
     };
-    match shown.desk.settled() {
-        Some(settled) => {
-            let score = shown.case.element(settled.score().0);
-            format!("{table}{lowered}score {score}\n")
+    match shown.settled {
+        true => {
+            let former = round - 1;
+            let head = format!("round {round} equals round {former}: settled, T = {round}");
+            format!("{head}\n{table}{lowered}score {score}\n")
         }
-        None => {
-            let score = shown.case.element(shown.desk.score_so_far().0);
-            format!("{table}{lowered}  score of this table: {score}\n")
+        false => {
+            format!("round {round}: not a result\n{table}{lowered}  score of this table: {score}\n")
         }
     }
 }
@@ -112,7 +109,22 @@ fn entries(number: u32) -> String {
 /// The table of the last round alone, in the lines of a listing by names.
 fn last(opened: &mut Opened, most: u32) -> String {
     rounds(opened, most, |_| {});
-    RoundTable::shown(&opened.case, opened.owners(), &opened.desk).lines("")
+    let columns = opened.case.models[1].size();
+    table::listed(&opened.case, opened.desk.show().chunks(columns))
+}
+
+/// The shown table with names.
+fn named_table(shown: &Shown) -> String {
+    let columns = &shown.case.models[1].states;
+    let mut rows = vec![vec![String::new()]];
+    rows[0].extend(columns.iter().cloned());
+    let lines = shown.desk.show().chunks(columns.len());
+    for (state, line) in shown.case.models[0].states.iter().zip(lines) {
+        let mut row = vec![state.clone()];
+        row.extend(line.iter().map(|e| shown.case.element(*e)));
+        rows.push(row);
+    }
+    table::columns(&rows)
 }
 
 fn json(opened: &mut Opened, most: u32) -> String {
@@ -122,7 +134,6 @@ fn json(opened: &mut Opened, most: u32) -> String {
     let fields = vec![
         ("accepted", "true".to_string()),
         ("settled", standing.settled.to_string()),
-        ("owners", strings(opened.owners())),
         ("rows", strings(&opened.case.models[0].states)),
         ("columns", strings(&opened.case.models[1].states)),
         ("rounds", array(list)),
@@ -138,10 +149,9 @@ fn round_as_json(shown: &Shown) -> String {
     let row = |row: &[u8]| strings(row.iter().map(|e| case.element(*e)));
     object(&[
         ("round", desk.standing().round.to_string()),
-        ("settled", shown.settled.to_string()),
         ("result", shown.settled.to_string()),
-        ("table", array(desk.table_so_far().chunks(columns).map(row))),
-        ("score", string(&case.element(desk.score_so_far().0))),
+        ("table", array(desk.show().chunks(columns).map(row))),
+        ("score", string(&case.element(desk.score().0))),
         ("lowered", shown.lowered.to_string()),
         ("lowerings", desk.standing().lowerings.to_string()),
     ])

@@ -39,11 +39,6 @@ function withCode(text) {
   return text.split("`").map((part, i) => (i % 2 ? make("code", {}, part) : part));
 }
 
-// Puts the focus on the control, state or arrow with this key.
-function focusOn(key) {
-  document.querySelector(`[data-key="${CSS.escape(key)}"]`)?.focus();
-}
-
 function say(text) {
   at("said").replaceChildren(...withCode(text));
 }
@@ -51,9 +46,8 @@ function say(text) {
 // What the tool wrote into this page: a text, and whether lattice and propositions are the course's.
 const given = JSON.parse(at("case").textContent);
 
-// `which` model is drawn, what is `chosen` (a state or an arrow of it by number), the state that an arrow begins at by keys, and as
-// texts what the page began with and what was saved or opened last.
-const now = { drawing: null, which: 0, chosen: null, linking: null, zoom: 1, past: [], future: [], first: "", saved: "" };
+// `which` model is drawn, what is `chosen` (a state or an arrow of it by number), and the state that an arrow begins at by keys.
+const now = { drawing: null, which: 0, chosen: null, linking: null, zoom: 1, past: [], future: [], kept: "" };
 
 function model() {
   return now.drawing.models[now.which];

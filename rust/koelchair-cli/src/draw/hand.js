@@ -21,7 +21,7 @@ function link(number) {
   now.linking = number;
   say(`An arrow begins at \`${model().states[number].name}\`: choose the state that it leads to, or press Escape.`);
   show();
-  focusOn(`state ${number}`);
+  at("states").children[number].focus();
 }
 
 function unlink() {
@@ -98,7 +98,7 @@ function tap({ handle, state, arrow }, x, y) {
   else choose(null);
   show();
   if (twice && state !== undefined && at("state-name")) at("state-name").select();
-  else if (now.chosen) focusOn(`${now.chosen.sort} ${now.chosen.number}`);
+  else document.querySelector(`[data-key="${now.chosen?.sort} ${now.chosen?.number}"]`)?.focus();
 }
 
 function cancel() {

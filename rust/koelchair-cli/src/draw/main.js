@@ -8,13 +8,10 @@ function savable() {
   return { student, case: student && course, course: course && !given.fixed };
 }
 
-// The name of the model that is saved, or of the whole case, as that of a file.
 function fileName(sort) {
-  const { title, models } = now.drawing;
-  const [student, course] = models.map((m) => m?.title);
-  const named = { student, case: title || student, course: course || title }[sort] || "";
-  const plain = [...named].map((c) => (/[\p{L}\p{N}._-]/u.test(c) ? c : "-")).join("").toLowerCase();
-  return `${plain.replace(/^[.-]+|[.-]+$/g, "") || "drawing"}.case`;
+  const named = sort === "student" ? now.drawing.models[0].title : now.drawing.title;
+  const plain = [...(named || "")].map((c) => (/[\p{L}\p{N}._-]/u.test(c) ? c : "-")).join("").toLowerCase();
+  return `${plain.replace(/^[.-]+/, "") || "drawing"}.case`;
 }
 
 // What is saved. The comment at the head of the text in this page is the course's, and no student's file has it.
@@ -23,22 +20,13 @@ function textOf(sort) {
   return writeCase({ ...now.drawing, head }, sort);
 }
 
-// Takes what stands in the field that is being written in, which keeps the focus.
-function takeField() {
-  const field = document.activeElement;
-  if (!field.matches("input[data-key]")) return;
-  field.blur();
-  focusOn(field.dataset.key);
-}
-
 function save() {
-  takeField();
   const sort = at("sort").value;
   if (!savable()[sort]) return void say(`There is no ${SORTS[sort]} to save yet: a model needs a state.`);
   const link = make("a", { download: fileName(sort), href: URL.createObjectURL(new Blob([textOf(sort)], { type: "text/plain" })) });
   link.click();
   setTimeout(() => URL.revokeObjectURL(link.href), 1000);
-  now.saved = JSON.stringify(now.drawing);
+  now.kept = JSON.stringify(now.drawing);
   guard();
   say(`Saved the ${SORTS[sort]} as \`${fileName(sort)}\`.`);
 }
@@ -60,42 +48,17 @@ function take(text, name) {
   // A student's file leaves the rest as it is; so does any file where the rest is the course's.
   if (given.fixed) Object.assign(drawing, { title: now.drawing.title, lattice: now.drawing.lattice, formulas: now.drawing.formulas, models: [drawing.models[0], models[1]] });
   else if (!drawing.models[1] && !/^\s*lattice\b/m.test(text)) Object.assign(drawing, { formulas: now.drawing.formulas, models: [drawing.models[0], models[1]] });
-  replace(whole(drawing));
-  if (now.drawing.models[now.which].states.length === 0) now.which = 1 - now.which;
-  const left = included.map((file) => ` Its line \`include "${file}"\` is left out.`).join("");
-  say(`Opened ${name}.${left}`);
-  show();
-  return true;
-}
-
-// Puts a drawing that need not be saved in place of the one before, to which undo goes back.
-function replace(drawing) {
   choose(null);
   now.linking = null;
   now.past.push(now.drawing);
   now.future = [];
-  now.drawing = drawing;
-  now.saved = JSON.stringify(drawing);
-}
-
-// Goes back to what the page began with.
-function beginAnew() {
-  replace(JSON.parse(now.first));
-  say("Begun anew. Undo brings back what was drawn.");
+  now.drawing = whole(drawing);
+  if (now.drawing.models[now.which].states.length === 0) now.which = 1 - now.which;
+  now.kept = JSON.stringify(now.drawing);
+  const left = included.map((file) => ` Its line \`include "${file}"\` is left out.`).join("");
+  say(`Opened ${name}.${left}`);
   show();
-}
-
-// Brings back what was drawn in this page before and not saved, unless it cannot be shown.
-function bringBack() {
-  const [first, left] = [now.drawing, leftBefore()];
-  if (!left) return;
-  try {
-    now.drawing = left;
-    show();
-    say("Here is what was drawn before and not saved. To leave it, choose Begin anew.");
-  } catch {
-    now.drawing = first;
-  }
+  return true;
 }
 
 // A drawing in which both models are there to be drawn; the course's stays absent where it is not in this page.
@@ -116,13 +79,10 @@ function ask(event) {
   event.preventDefault();
 }
 
-// Has the browser keep a drawing that is not saved, and where it does not, ask before it is lost.
+// The browser asks before a drawing is lost that is not saved.
 function guard() {
-  const drawn = JSON.stringify(now.drawing);
-  const unsaved = drawn !== now.saved;
-  if (!unsaved) letGo();
-  window[unsaved && !keep(drawn) ? "addEventListener" : "removeEventListener"]("beforeunload", ask);
-  at("anew").disabled = drawn === now.first;
+  const unsaved = JSON.stringify(now.drawing) !== now.kept;
+  window[unsaved ? "addEventListener" : "removeEventListener"]("beforeunload", ask);
 }
 
 // Shows what is drawn; the focus stays at what it was at.
@@ -142,7 +102,7 @@ function show() {
   at("redo").disabled = now.future.length === 0;
   showSorts();
   guard();
-  if (key) focusOn(key);
+  if (key) document.querySelector(`[data-key="${CSS.escape(key)}"]`)?.focus();
 }
 
 // What can be saved, and its text.
@@ -173,9 +133,9 @@ function start() {
   now.drawing = whole(readCase(given.text, now.drawing, false).drawing);
   now.courseHead = now.drawing.head;
   now.drawing.head = [];
-  now.first = now.saved = JSON.stringify(now.drawing);
+  now.kept = JSON.stringify(now.drawing);
   at("title").textContent = given.fixed ? now.drawing.title || "Drawing" : "Drawing";
-  const click = { undo: () => travel(now.past, now.future), redo: () => travel(now.future, now.past), open: () => at("file").click(), save, anew: beginAnew,
+  const click = { undo: () => travel(now.past, now.future), redo: () => travel(now.future, now.past), open: () => at("file").click(), save,
     "zoom-in": () => zoom(0.2), "zoom-out": () => zoom(-0.2), read: () => take(at("text").value, "the text"),
     theme: () => setTheme(document.documentElement.dataset.theme === "dark" ? "light" : "dark") };
   for (const [id, handler] of Object.entries(click)) at(id).addEventListener("click", handler);
@@ -192,7 +152,6 @@ function start() {
   window.addEventListener("resize", show);
   setTheme(window.matchMedia("(prefers-color-scheme: dark)").matches ? "dark" : "light");
   listenToHands();
-  bringBack();
   show();
   document.documentElement.dataset.ready = "true";
 }

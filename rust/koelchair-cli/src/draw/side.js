@@ -32,13 +32,10 @@ function picker(lattice, value, set, label, key) {
   }
 }
 
-// A field for a text, with what is done after Enter.
-function field(label, id, value, onchange, more = {}, entered = () => {}) {
+function field(label, id, value, onchange, more = {}) {
   const input = make("input", { id, "data-key": id, value, autocomplete: "off", spellcheck: "false", onchange: (event) => onchange(event.target.value.trim()), ...more });
   input.addEventListener("keydown", (event) => {
-    if (event.key !== "Enter") return;
-    input.blur();
-    entered();
+    if (event.key === "Enter") input.blur();
   });
   return make("p", { class: "field" }, make("label", { for: id }, label), input);
 }
@@ -62,7 +59,7 @@ function stateSide(state, number) {
   const initial = button("initial", state.initial !== bottom(), () => set(state.initial === bottom() ? top() : bottom()), "initial", { class: "chip" });
   return [
     make("h2", {}, "State"),
-    field("Name", "state-name", state.name, (name) => renameState(number, name), {}, () => focusOn(`state ${number}`)),
+    field("Name", "state-name", state.name, (name) => renameState(number, name)),
     make("div", { class: "row" }, initial, picker(lattice, state.initial, set, "initial value", "initial value")),
     ...propositions.map((_, p) => proposition(state, number, p)),
     make("p", {}, button("Arrow from here", undefined, () => link(number), "link"), " ", button("Remove state", undefined, removeChosen, "remove")),

@@ -10,11 +10,11 @@ function failed(message) {
 window.addEventListener("error", (event) => failed(event.message));
 window.addEventListener("unhandledrejection", (event) => failed(String(event.reason)));
 
-// The case as the tool wrote it, or exchanged where the address says so, and the other of the two, null where there is none. All that
-// the page says of it stands there; the script looks it up.
-const ways = ["case", "exchanged"].map((id) => JSON.parse(document.getElementById(id).textContent));
-const exchanged = ways[1] !== null && location.hash.slice(1).split("&").includes("exchanged");
-const [data, otherWay] = exchanged ? ways.reverse() : ways;
+// The case as the tool wrote it, or exchanged where the address says so. All that the page says of it stands there; the script
+// looks it up.
+const other = JSON.parse(document.getElementById("exchanged").textContent);
+const exchanged = other !== null && location.hash.slice(1).split("&").includes("exchanged");
+const data = exchanged ? other : JSON.parse(document.getElementById("case").textContent);
 const lattice = data.lattice;
 const T = data.rounds.length - 1;
 const SVG = document.querySelector("svg").namespaceURI;
@@ -48,17 +48,9 @@ function modelName(m) {
   return title && title !== owner ? `${owner}'s model (${title})` : `${owner}'s model`;
 }
 
-// Whether the course's model is compared with a copy of itself, so that the score is the ceiling.
-const courseAlone = data.owners[0] === "copy";
-
-// Whose colour a model has: the copy of the course's stands in the student's place.
-function colourOf(m) {
-  return data.owners[m] === "copy" ? "student" : data.owners[m];
-}
-
 // `student` or `course` in its colour.
 function person(m) {
-  return make("span", { class: `person ${colourOf(m)}` }, data.owners[m]);
+  return make("span", { class: `person ${data.owners[m]}` }, data.owners[m]);
 }
 
 function capital(text) {

@@ -4,7 +4,7 @@
 
 use super::why;
 use crate::case::{Case, NamedFormula};
-use crate::commands::why::ceiling;
+use crate::commands::why::{ceiling, OWNERS};
 use crate::commands::Failure;
 use crate::facts;
 use crate::formula_text;
@@ -12,7 +12,6 @@ use crate::json::{array, numbers, object, string, strings};
 use crate::lattice::Lattice;
 use crate::lattice_text::covers;
 use crate::model::Model;
-use crate::owners::{asked, OWNERS};
 use crate::progress::Progress;
 use crate::reasons::Reasoning;
 use crate::rounds::{finish_round, History};
@@ -25,7 +24,7 @@ pub fn of(case: &Case, bytes: &[u8], owners: [&str; 2]) -> Result<String, Failur
     let operations =
         Operations::of(&case.lattice).ok_or_else(|| Failure::Other(no_lattice.to_string()))?;
     let mut desk = open(bytes)?;
-    let first = numbers(desk.table_so_far());
+    let first = numbers(desk.show());
     let (rounds, lowerings) = rounds(&mut desk);
     let formula = |(f, named)| formula(case, &desk, f, named);
     let formulas: Vec<String> = case
@@ -45,7 +44,6 @@ pub fn of(case: &Case, bytes: &[u8], owners: [&str; 2]) -> Result<String, Failur
         ("title", string(case.title.as_deref().unwrap_or(""))),
         ("about", string(&case.head.join(" "))),
         ("owners", strings(owners)),
-        ("asked", string(&asked(owners))),
         ("ceiling", ceiling_of(case, owners)),
         ("lattice", lattice(&case.lattice, &operations)),
         ("propositions", strings(&case.propositions)),
@@ -54,7 +52,7 @@ pub fn of(case: &Case, bytes: &[u8], owners: [&str; 2]) -> Result<String, Failur
         ("first", first),
         ("rounds", array(rounds)),
         ("lowerings", numbers(lowerings)),
-        ("why", why::of(&reasoning, desk.settle().score().0, owners)?),
+        ("why", why::of(&reasoning, desk.score().0, owners)?),
     ]))
 }
 
@@ -65,30 +63,37 @@ fn open(bytes: &[u8]) -> Result<Desk, Failure> {
 
 /// What the course's model scores against itself, whichever of the two it is.
 fn ceiling_of(case: &Case, owners: [&str; 2]) -> String {
-    let ceiling = match owners[1] == OWNERS[1] {
+    let ceiling = match owners == OWNERS {
         true => ceiling(case),
-        false => ceiling(&case.exchanged()),
+        false => ceiling(&exchanged(case)),
     };
     ceiling.map_or("null".to_string(), |e| e.to_string())
+}
+
+/// The case with its models exchanged.
+pub fn exchanged(case: &Case) -> Case {
+    let mut other = case.clone();
+    other.models.swap(0, 1);
+    other
 }
 
 /// For each round from 0 to T: its score, then for each entry that differs from the round before its place and its element; and the
 /// library's count of lowerings, those of all rounds up to it. The last is the round that the library calls settled. An entry never
 /// rises, so there are at most N1·N2·(n − 1) changes.
 fn rounds(desk: &mut Desk) -> (Vec<String>, Vec<u32>) {
-    let mut rounds = vec![numbers([desk.score_so_far().0])];
+    let mut rounds = vec![numbers([desk.score().0])];
     let mut lowerings = vec![desk.standing().lowerings];
     let mut progress = Progress::new("round");
     loop {
-        let before = desk.table_so_far().to_vec();
+        let before = desk.show().to_vec();
         let answer = finish_round(desk);
         progress.at(desk.standing().round);
         let changes = desk
-            .table_so_far()
+            .show()
             .iter()
             .enumerate()
             .filter(|(i, e)| before[*i] != **e);
-        let mut round = vec![usize::from(desk.score_so_far().0)];
+        let mut round = vec![usize::from(desk.score().0)];
         round.extend(changes.flat_map(|(i, e)| [i, usize::from(*e)]));
         rounds.push(numbers(round));
         lowerings.push(desk.standing().lowerings);

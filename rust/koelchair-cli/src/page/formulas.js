@@ -26,7 +26,7 @@ function showWhole() {
   const scoreHead = make("span", {}, "The score ", chip(score), " is");
   const head = boundHead(modelName(0), modelName(1), scoreHead);
   const lines = data.formulas.map((formula) => wholeLine(formula, score));
-  at("whole").replaceChildren(tableOf(`On the whole models. ${worth()}`, [head, ...lines]));
+  at("whole").replaceChildren(tableOf("On the whole models", [head, ...lines]));
 }
 
 function showFormulas() {

@@ -86,7 +86,7 @@ function tips(m) {
     { id, viewBox: "0 0 12 10", refX: 1, refY: 5, markerWidth: 12, markerHeight: 10, markerUnits: "userSpaceOnUse", orient: "auto" },
     draw("path", { class: name, d: "M0 0 L12 5 L0 10 Z" }),
   );
-  return draw("defs", {}, tip(`tip${m}`, "tip"), tip(`lit${m}`, `tip lit ${colourOf(m)}`));
+  return draw("defs", {}, tip(`tip${m}`, "tip"), tip(`lit${m}`, `tip lit ${data.owners[m]}`));
 }
 
 function drawGraph(m) {
@@ -295,7 +295,7 @@ function showModels() {
     const title = model.title && model.title !== data.owners[m] ? ` ${model.title}` : "";
     const box = make("div", { class: "drawing", "data-graph": m + 1 });
     const said = make("p", { class: "said", "aria-hidden": "true" });
-    at(`model${m + 1}`).classList.add(colourOf(m));
+    at(`model${m + 1}`).classList.add(data.owners[m]);
     at(`model${m + 1}`).append(
       make("div", { class: "line" }, make("h3", {}, person(m), title),
         button("+", "enlarge", () => zoom(m, 1 / 1.3)), button("\u2212", "shrink", () => zoom(m, 1.3)), button("Fit", "fit", () => fitPart(m)), large),

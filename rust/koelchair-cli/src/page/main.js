@@ -2,28 +2,21 @@
 
 function showHead() {
   const [one, other] = data.owners;
-  at("title").textContent = data.title || "Latticed simulation";
-  at("asked").replaceChildren(...inColour(data.asked));
-  if (exchanged) document.title = document.title.replace(otherWay.asked, data.asked);
-  at("direction").textContent =
-    `${courseAlone ? "The file has no student's model, so the course's is compared with a copy of itself, and its score is the ceiling. " : ""}` +
-    `Rows are the ${one}'s states, columns the ${other}'s. What is true of all ways on in the ${other}'s model carries over to the ${one}'s: from state to state as far as the entry says, and of the whole models as far as the score says, ` +
-    "in the settled table, and before it for the formulas that the shown round covers. Nothing is said the other way round.";
+  at("title").textContent = (data.title || "Latticed simulation") + (exchanged ? ", exchanged" : "");
+  at("direction").replaceChildren(
+    "How far can the ", person(1), " follow the ", person(0), `? Rows are the ${one}'s states, columns the ${other}'s. ` +
+    `What is true of all ways on in the ${other}'s model carries over to the ${one}'s: from state to state as far as the entry says, and of the whole models as far as the score says, ` +
+    "in the settled table, and before it for the formulas that the shown round covers. Nothing is said the other way round.",
+  );
   at("about").textContent = data.about;
-  at("exchange").textContent = `\u21C4 ${otherWay?.asked}`;
-  at("exchange").setAttribute("aria-label", `Exchange the models: ${otherWay?.asked}`);
-  at("exchange").hidden = otherWay === null;
+  at("exchange").textContent = exchanged ? "Student against course" : "Exchange";
+  at("exchange").title = `How far can the ${one} follow the ${other}?`;
+  at("exchange").hidden = at("exchanged").textContent === "null";
   at("exchange").addEventListener("click", () => {
     const theme = chosenTheme === null ? "" : `&theme=${chosenTheme}`;
     location.hash = exchanged ? theme.slice(1) : `exchanged${theme}`;
     location.reload();
   });
-}
-
-// A sentence with whose models it speaks of in their colours.
-function inColour(sentence) {
-  const part = (word) => (data.owners.includes(word) ? person(data.owners.indexOf(word)) : word);
-  return sentence.split(/\b(student|course|copy)\b/).map(part);
 }
 
 // What an address asks for that the case does not have, part by part.
@@ -59,7 +52,7 @@ function readAddress() {
   const said = new Map(parts.map(([name, ...rest]) => [name, rest.join("=")]));
   const known = ["round", "pair", "theme", "exchanged"];
   for (const name of said.keys()) if (!known.includes(name)) unread.push(`${name} is none of ${known.join(", ")}`);
-  if (said.has("exchanged") && otherWay === null) unread.push("exchanged: this page has no exchanged case");
+  if (said.has("exchanged") && other === null) unread.push("exchanged: a case of this size is not exchanged");
   if (["light", "dark"].includes(said.get("theme"))) {
     chosenTheme = said.get("theme");
     showTheme();

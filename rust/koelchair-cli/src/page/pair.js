@@ -143,7 +143,7 @@ function showPair() {
   const heading = make("h3", { id: "pair-heading" }, person(0), ` ${rows[q1]}, `, person(1), ` ${columns[q2]}: `, chip(entry));
   at("pair").replaceChildren(
     heading,
-    ...(shownRound === T ? [] : [make("p", { class: "middle" }, worth())]),
+    ...(shownRound === T ? [] : [make("p", { class: "middle" }, `Round ${shownRound} of ${T}, not a result`)]),
     ...(chosenArrow === null ? showWhy(entry) : showArrow()),
   );
   showBounds(entry);
@@ -155,7 +155,7 @@ function showBounds(entry) {
   const [q1, q2] = chosen;
   const lines = data.formulas.map((formula) => pairLine(formula, entry));
   const head = boundHead(`${data.owners[0]}, at ${rows[q1]}`, `${data.owners[1]}, at ${columns[q2]}`, "The entry is");
-  const table = tableOf(worth(), [head, ...lines]);
+  const table = tableOf("", [head, ...lines]);
   at("bounds").querySelector("div").replaceChildren(...(lines.length === 0 ? [make("p", {}, "The case has no formulas.")] : [
     make("p", {}, ...boundWords("value", "entry"), ` The pair is (${rows[q1]}, ${columns[q2]}).`),
     scrolling("formulas at the chosen pair", table),

@@ -60,8 +60,7 @@ function nextCell(from, key) {
 function showCell(place) {
   const [element, button] = [entries[place], cells[place]];
   const lower = shownRound > 0 && lowered.has(place);
-  const [one, other] = data.owners;
-  const pair = `${one} ${rows[button.dataset.row]}, ${other} ${columns[button.dataset.column]}`;
+  const pair = `${rows[button.dataset.row]}, ${columns[button.dataset.column]}`;
   button.className = `cell ${coloured(element)}${lower ? " lower" : ""}`;
   button.textContent = lattice.names[element];
   button.setAttribute("aria-label", `${pair}: ${lattice.names[element]}${lower ? ", lower than before" : ""}`);
@@ -134,32 +133,25 @@ function goTo(round) {
 // The reasons of the settled score that lie in the initial values alone, so that no pair shows them.
 const initialReasons = data.why.score.filter(([, [, cause]]) => cause === null).map(([sentence]) => sentence);
 
-// The reasons of the ceiling.
-const ceilingReasons = courseAlone ? data.why.score.map(([sentence]) => sentence) : [];
-
-// What the shown table is worth: above each table that goes by the shown round.
-function worth() {
-  return shownRound === T ? `Settled at round ${T}` : `Round ${shownRound} of ${T}, not settled: not a result`;
-}
-
 // The banner, the score and the controls.
 function showStanding() {
   const settled = shownRound === T;
   const score = lattice.names[data.rounds[shownRound][0]];
   at("banner").dataset.settled = at("table-box").dataset.settled = settled;
-  at("banner-text").textContent = settled ? `${worth()}: this is the greatest simulation.` : `${worth()}.`;
-  at("score").replaceChildren(`${courseAlone ? "Ceiling" : "Score"}${settled ? "" : ", not a result"}: `, chip(data.rounds[shownRound][0]));
+  at("banner-text").textContent = settled
+    ? `Settled at round ${T}: this is the greatest simulation.`
+    : `Round ${shownRound} of ${T}: in the middle of the calculation, not a result.`;
+  at("score").replaceChildren(settled ? "Score: " : "Score, not a result: ", chip(data.rounds[shownRound][0]));
   at("score").dataset.score = score;
-  at("ceiling").replaceChildren(...(data.ceiling === null || courseAlone ? [] : [" Ceiling: ", chip(data.ceiling)]));
+  at("ceiling").replaceChildren(...(data.ceiling === null ? [] : [" Ceiling: ", chip(data.ceiling)]));
   at("why-score").hidden = !settled || data.why.score.length === initialReasons.length;
-  const reason = ceilingReasons.length > 0 ? `The ceiling is not top: ${ceilingReasons.join(" ")}` : initialReasons.join(" ");
-  at("score-reason").hidden = !settled || reason === "";
-  at("score-reason").replaceChildren(...withCode(reason));
+  at("score-reason").hidden = !settled || initialReasons.length === 0;
+  at("score-reason").textContent = initialReasons.join(" ");
   at("ceiling").title = "what the course's model scores against itself";
   at("banner").querySelector("svg").replaceChildren(...shape(settled));
-  at("table-caption").textContent = worth();
+  at("table-caption").textContent = settled ? `Round ${T}, settled` : `Round ${shownRound} of ${T}, not a result`;
   at("round").value = shownRound;
-  at("round").setAttribute("aria-valuetext", worth());
+  at("round").setAttribute("aria-valuetext", settled ? `round ${T}, settled` : `round ${shownRound} of ${T}, not a result`);
   at("round-number").textContent = `${shownRound} of ${T}`;
   at("previous").disabled = at("start").disabled = shownRound === 0;
   at("next").disabled = at("settled").disabled = settled;

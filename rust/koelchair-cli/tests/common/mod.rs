@@ -66,13 +66,13 @@ pub fn listing_by_calls(case: &[u8]) -> String {
         Ok(desk) => desk,
         Err(refusal) => return refused(refusal),
     };
-    let settled = desk.settle();
-    let mut text = format!("rounds {}\n", settled.rounds());
-    for (q1, row) in settled.rows().enumerate() {
+    let mut text = format!("rounds {}\n", desk.settle());
+    let columns = usize::from(desk.standing().states2);
+    for (q1, row) in desk.show().chunks(columns).enumerate() {
         let entries: Vec<String> = row.iter().map(u8::to_string).collect();
         let _ = writeln!(text, "row {q1}: {}", entries.join(" "));
     }
-    let _ = writeln!(text, "score {}", settled.score());
+    let _ = writeln!(text, "score {}", desk.score());
     for formula in 0..case[0] - 3 {
         let whole = |model| {
             let whole = desk.whole(formula, model);

@@ -2,7 +2,7 @@
 #![allow(dead_code)]
 
 /// A value.
-#[derive(Clone, Debug, PartialEq)]
+#[derive(Debug, PartialEq)]
 pub enum Json {
     Null,
     Number(usize),

@@ -1,6 +1,5 @@
 //! `page`: what stands in the page of each example is what the library says, and no name can break out of it.
 
-mod asked;
 mod bounds;
 mod json;
 mod lowerings;
@@ -106,12 +105,8 @@ fn bytes(text: &str) -> Vec<u8> {
 }
 
 fn shown(desk: &Desk) -> (usize, Vec<usize>) {
-    let entries = desk
-        .table_so_far()
-        .iter()
-        .map(|e| usize::from(*e))
-        .collect();
-    (usize::from(desk.score_so_far().0), entries)
+    let entries = desk.show().iter().map(|e| usize::from(*e)).collect();
+    (usize::from(desk.score().0), entries)
 }
 
 #[test]
@@ -232,7 +227,7 @@ fn the_page_says_where_initial_values_hold_the_score_down() {
          No better: d (course a, student d fell in round 1)."
     );
     assert_eq!(html.matches("id=\"score-reason\"").count(), 1);
-    assert!(html.contains("at(\"score-reason\").replaceChildren(...withCode(reason));"));
+    assert!(html.contains("at(\"score-reason\").textContent = initialReasons.join(\" \");"));
 }
 
 #[test]

@@ -100,8 +100,6 @@ fn a_table_is_written_in_many_ways() {
         "columns: new old\nrow new: yes no\nrow half: no no\nrow old: no no\n",
         "row new: yes no\nrow half: no no\nrow old: no no\ncolumns: new old\n",
         "columns: 1 0\nrow 2: yes 0\nrow half: 0 no\nrow old: bottom no\n",
-        "columns (course): new old\nrow (student) new: yes no\nrow half: no no\nrow (student) old: no no\n",
-        "columns ( course ) : old new\nrow(student)old: no no\nrow (student) 1: no no\nrow (student) new: no yes\n",
         "# by hand\n\n  columns:  old  new # the course's\nrow  old:no no\r\nrow half: no no\r\n\r\nrow new : no top",
         "\u{feff}rounds 3\nrow old: no no\nrow half: no no\nrow new: no yes\nscore no\n",
         "rounds: 3\nrow old: no no\nrow half: no no\nrow new: no yes\nscore: no\nvalues:\n  old: yes\n",
@@ -125,19 +123,16 @@ fn names_that_are_numbers_are_read_as_they_are_printed() {
     let names = run(&["report", "--names", &file], &[]).text();
     assert!(numbers.contains("row 0: 1 1\nrow 1: 1 2\n"), "{numbers}");
     assert!(
-        names.contains("row (student) 1:   0  0\nrow (student) 0:   0  2\n"),
+        names.contains("row 1:    0  0\nrow 0:    0  2\n"),
         "{names}"
     );
     for listing in [&numbers, &names] {
         assert_eq!(judged(&file, listing), tight());
     }
-    // Rows that say whose they are have names. Without that, and without the line `columns`, they are read by numbers, since their states
-    // are digits, and are another table.
+    // The second without its line `columns` is read by numbers, since its states are digits, and is another table.
     let rows: Vec<&str> = names.lines().filter(|l| l.starts_with("row ")).collect();
-    assert_eq!(judged(&file, &rows.join("\n")), tight());
     let said = no((1, 4), "1, course 0", "2", "only 0");
-    let rows = rows.join("\n").replace("(student) ", "");
-    assert_eq!(judged(&file, &rows), said);
+    assert_eq!(judged(&file, &rows.join("\n")), said);
 }
 
 /// A row by its state's name says that digits are names; rows by digits alone say that they are numbers.
@@ -267,7 +262,7 @@ fn json_says_the_same() {
         (ran.status, ran.text())
     };
     let settled = "row old: ?yy ?yy\nrow half: nyn nyn\nrow new: yyy yyy\n";
-    let head = "{\"format\":1,\"command\":\"judge\",\"accepted\":true,\"owners\":[\"student\",\"course\"],";
+    let head = "{\"format\":1,\"command\":\"judge\",\"accepted\":true,";
     let none = "\"tooHighCount\":0,\"tooHigh\":null}\n";
     let tight = format!("\"sound\":true,\"tight\":true,\"entries\":6,\"raised\":0,{none}");
     assert_eq!(said(settled), (0, format!("{head}{tight}")));
@@ -360,10 +355,10 @@ fn expected(case: &Case, operations: &Operations, table: &[u8]) -> String {
 /// The tables of all rounds; the last two are the same.
 fn rounds(case: &Case) -> Vec<Vec<u8>> {
     let mut desk = Desk::open(&encode(case).expect("bytes")).expect("accepted");
-    let mut tables = vec![desk.table_so_far().to_vec()];
+    let mut tables = vec![desk.show().to_vec()];
     while !desk.standing().settled {
         desk.finish_round();
-        tables.push(desk.table_so_far().to_vec());
+        tables.push(desk.show().to_vec());
     }
     tables
 }

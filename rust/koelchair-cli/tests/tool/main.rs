@@ -1,28 +1,20 @@
-//! What the tool says by itself: warnings, marks of a class and where they stand to the course's, reasons, judged tables, lowerings, what a table
-//! is worth and whose it is, a course against itself, JSON, and what happens where something goes wrong.
+//! What the tool says by itself: warnings, marks of a class, reasons, judged tables, lowerings, JSON, and what happens where something goes wrong.
 
 #[path = "../common/mod.rs"]
 mod common;
 #[path = "../page/json.rs"]
 mod json;
 
-mod class_pages;
-mod csv;
 mod faults;
 mod formulas;
-mod handed_in;
 mod includes;
-mod itself;
 mod judged;
 mod lowered;
 mod marks;
 mod reasons;
 mod said;
-mod settled;
 mod slow;
-mod stands;
 mod warned;
-mod whose;
 
 use common::folder;
 use std::path::PathBuf;
@@ -48,12 +40,6 @@ fn scratch(name: &str) -> PathBuf {
     let path = PathBuf::from(env!("CARGO_TARGET_TMPDIR")).join(name);
     std::fs::create_dir_all(&path).expect("a folder");
     path
-}
-
-/// The same, without files of an earlier run.
-fn fresh(name: &str) -> PathBuf {
-    let _ = std::fs::remove_dir_all(PathBuf::from(env!("CARGO_TARGET_TMPDIR")).join(name));
-    scratch(name)
 }
 
 /// A file in a folder, by its name.

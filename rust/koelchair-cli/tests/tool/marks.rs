@@ -2,7 +2,7 @@
 
 use crate::common::{files, folder, run, text};
 use crate::json::{read, Json};
-use crate::{example, fresh, put, scratch};
+use crate::{example, put, scratch};
 use std::time::{Duration, Instant};
 
 const STUDENT: &str = "model 1\n  states current\n  initial current\n  current: shown, whole, current\n  current -> current\n";
@@ -113,7 +113,7 @@ fn the_ceiling_is_the_course_against_itself() {
 
 #[test]
 fn the_class_page_leads_to_the_students_pages() {
-    let folder = fresh("class-page");
+    let folder = scratch("class-page");
     let name = folder.display().to_string();
     let (_, table, _) = class(&["--page", &name]);
     let expected = format!("{}Class page: {name}/index.html\n", stored("marks.txt"));
@@ -138,7 +138,7 @@ fn the_class_page_leads_to_the_students_pages() {
     }
     assert!(text(&folder.join("sven.html"))
         .contains("<li>Warning: the student's model has no initial state"));
-    let broken = "<th scope=\"row\">Wim</th><td>-</td><td>not marked</td>";
+    let broken = "<th scope=\"row\">wim</th><td>-</td><td>not marked</td>";
     assert!(index.contains(broken) && index.contains("`intial` is no state"));
     assert!(index.contains("<td>nothing compared</td>"));
 }
@@ -153,7 +153,7 @@ fn each_instructor_of_a_panel_has_a_sentence() {
     let student = put(&folder, "student.case", &format!("model 1{student}"));
     let ran = run(&["mark", "--csv", &course, &student], &[]);
     let said = ",For instructor 1 (unsure): the student can go old -> half (unsure); there (the course at old) `whole` is no for the \
-                student and yes for the course.\r\n";
+                student and yes for the course.\n";
     assert!(ran.text().ends_with(said), "{}", ran.text());
 }
 
@@ -221,7 +221,7 @@ fn files_that_are_not_there_and_equal_names_do_not_stop_it() {
     let said = read(ran.text().trim_end());
     let students = said.get("students").items();
     let names: Vec<&str> = students.iter().map(|s| s.get("name").text()).collect();
-    let expected = ["one/ann", "no-such-file", "two/ann", "index", "a b", "a_b"];
+    let expected = ["ann", "no-such-file", "ann-2", "index-2", "a b", "a_b-2"];
     assert_eq!(names, expected);
     let states: Vec<&str> = students.iter().map(|s| s.get("status").text()).collect();
     assert_eq!(states[..3], ["marked", "error", "marked"]);

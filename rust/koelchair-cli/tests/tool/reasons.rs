@@ -14,12 +14,12 @@ use koelchair_cli::views::views;
 
 fn entries(case: &Case) -> Vec<Vec<u8>> {
     let mut desk = Desk::open(&encode(case).expect("bytes")).expect("accepted");
-    let mut tables = vec![desk.table_so_far().to_vec()];
+    let mut tables = vec![desk.show().to_vec()];
     while !desk.standing().settled {
         for _ in 0..case.models[0].size() {
             desk.step();
         }
-        tables.push(desk.table_so_far().to_vec());
+        tables.push(desk.show().to_vec());
     }
     tables
 }
@@ -210,7 +210,7 @@ fn a_wrong_pair_is_said() {
     assert_eq!(ran.status, 2);
     assert!(
         ran.err
-            .starts_with("error: `aa` is no state of the student's model; a similar name is `a`\n"),
+            .starts_with("error: `aa` is no state of model 1; a similar name is `a`\n"),
         "{}",
         ran.err
     );

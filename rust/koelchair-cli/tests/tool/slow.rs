@@ -24,15 +24,12 @@ fn names_come_from_the_listing() {
             .into_iter()
             .chain(entries.map(str::to_string))
             .collect();
-        let named = named.strip_prefix("row (student) ").expect("a row");
-        let found: Vec<&str> = named.split_whitespace().collect();
+        let found: Vec<&str> = named["row ".len()..].split_whitespace().collect();
         assert_eq!(found, expected);
         count += 1;
     }
     assert_eq!(count, 64);
-    let after = "score no\nceiling unsure: what the course's model scores against itself\n\
-                 formula never-flashing: student no, course unsure\n";
-    assert!(named.contains(after), "{named}");
+    assert!(named.contains("score no\nformula never-flashing: student no, course unsure\n"));
 }
 
 /// Each round is one call of the library, so that commands that work every round take about a second too.
@@ -42,7 +39,7 @@ fn the_way_goes_through_4032_rounds() {
     let said = run(&["why", &file], &[]).text();
     let first = "\n1. student q1, course c1: unsure in round 4031, no in round 4032\n";
     assert!(
-        said.contains("\nThe score is no (settled at round 4033).\n") && said.contains(first),
+        said.starts_with("The score is no (settled at round 4033).\n") && said.contains(first),
         "{said}"
     );
     assert!(

@@ -91,7 +91,7 @@ fn the_next_round_has_the_entries() {
                 desk.finish_round();
             }
             let expected: Vec<u8> = before.iter().map(|entry| entry.value.0).collect();
-            assert_eq!(desk.table_so_far(), expected);
+            assert_eq!(desk.show(), expected);
             if desk.standing().settled {
                 break;
             }

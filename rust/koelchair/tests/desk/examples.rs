@@ -13,10 +13,10 @@ fn steps(case: &[u8]) -> Vec<(StepAnswer, Vec<u8>)> {
     let mut seen = Vec::new();
     loop {
         assert_eq!(desk.standing(), lent.standing);
-        assert_eq!(desk.table_so_far(), lent.lent().table_so_far());
+        assert_eq!(desk.show(), lent.lent().show());
         let answer = desk.step();
         assert_eq!(lent.lent_mut().step(), Ok(answer));
-        seen.push((answer, desk.table_so_far().to_vec()));
+        seen.push((answer, desk.show().to_vec()));
         if let StepAnswer::Settled { .. } = answer {
             break;
         }
@@ -45,7 +45,7 @@ fn settled(round: u32, lowerings: u32) -> StepAnswer {
 
 /// Bytes past N1·N2 of a table and past 24,576 of the store are as they were.
 fn assert_kept_beyond(lent: &Lent) {
-    let count = lent.lent().table_so_far().len();
+    let count = lent.lent().show().len();
     assert!(lent.first[count..].iter().all(|&byte| byte == 0xA5));
     assert!(lent.second[count..].iter().all(|&byte| byte == 0xA5));
     let beyond = &lent.store[koelchair::STORE_LENGTH..];
@@ -70,13 +70,13 @@ fn example_1() {
     let seen = steps(&case);
     assert_eq!(seen, [(round(1, 1), vec![1]), (settled(2, 1), vec![1])]);
     let mut desk = Desk::open(&case).unwrap();
-    assert_eq!(desk.table_so_far(), [2]);
-    let settled = desk.settle();
-    assert_eq!((settled.rounds(), settled.score()), (2, Element(1)));
-    assert_eq!(settled.share(Element(1)), Ok(100));
-    assert_eq!(settled.share(Element(2)), Ok(0));
+    assert_eq!(desk.show(), [2]);
+    assert_eq!(desk.settle(), 2);
+    assert_eq!(desk.score(), Element(1));
     assert_eq!(desk.value(0, 1, State(0)), Ok(formula_value(1, 0)));
     assert_eq!(desk.whole(0, 2), Ok(formula_value(1, 0)));
+    assert_eq!(desk.share(Element(1)), Ok(100));
+    assert_eq!(desk.share(Element(2)), Ok(0));
     // The greatest simulation is 1, and 0 is sound without being a simulation.
     assert_eq!(
         [0, 1, 2].map(|e| desk.judge(&[e])),
@@ -113,7 +113,8 @@ fn judge_goes_by_the_order() {
 fn judge_of_tables_lowered_at_some_entries() {
     let model = [2, 0, 1, 0, 0, 1, 0, 1];
     let mut desk = Desk::open(&cases::case(&[&cases::L2, &model, &model])).unwrap();
-    assert_eq!(desk.settle().table(), [1; 4]);
+    desk.settle();
+    assert_eq!(desk.show(), [1; 4]);
     for number in 0..16u8 {
         let table = [0, 1, 2, 3].map(|place| number >> place & 1);
         let sound = table[3] == 1 || table == [0; 4];
@@ -163,10 +164,10 @@ fn example_4_lent() {
     let whole = |model| desk.whole(0, model);
     assert_eq!(whole(2), Ok(formula_value(1, 1)));
     assert_eq!(whole(1), Ok(formula_value(0, 1)));
-    assert_eq!(desk.score_so_far(), Ok(Element(1)));
+    assert_eq!(desk.score(), Ok(Element(1)));
     assert_eq!(desk.judge(&[0; 4]), Ok(true));
     assert_eq!(desk.judge(&[1, 0, 0, 0]), Ok(false));
-    assert_eq!(lent.lent_mut().shared().score_so_far(), Ok(Element(1)));
+    assert_eq!(lent.lent_mut().shared().score(), Ok(Element(1)));
 }
 
 /// Formulas over propositions 0 to 10: their nested AX, whether a fixpoint and whether EX occurs.
@@ -229,13 +230,13 @@ fn example_6() {
     assert_eq!(steps(&one), [(settled(1, 0), vec![0])]);
     for (ones, per_cent) in [0, 12, 25, 38, 50, 62, 75, 88, 100].into_iter().enumerate() {
         let mut desk = Desk::open(&cases::eighths(ones)).unwrap();
-        let share = desk.settle().share(Element(1));
-        assert_eq!(share, Ok(per_cent), "{ones} in 8");
+        desk.settle();
+        assert_eq!(desk.share(Element(1)), Ok(per_cent), "{ones} in 8");
         let mut lent = Lent::opened(&cases::eighths(ones));
         while !lent.standing.settled {
             lent.lent_mut().step().unwrap();
         }
-        let share = lent.lent().share_so_far(Element(1));
+        let share = lent.lent().share(Element(1));
         assert_eq!(share, Ok(per_cent), "{ones} in 8");
     }
 }
@@ -272,6 +273,6 @@ fn the_listing() {
 #[test]
 fn a_desk_goes_to_another_thread() {
     let mut desk = Desk::open(&cases::example_4()).unwrap();
-    let settled = std::thread::spawn(move || desk.settle().rounds());
+    let settled = std::thread::spawn(move || desk.settle());
     assert_eq!(settled.join().unwrap(), 3);
 }

@@ -38,12 +38,12 @@ fn the_whole_rounds_are_counted() {
         (case(&[&L1, &[1, 0, 0, 0], &[1, 0, 0, 0]]), 0),
     ] {
         let mut desk = Desk::open(&case).unwrap();
-        let (mut shown, mut counted) = (desk.table_so_far().to_vec(), 0);
+        let (mut shown, mut counted) = (desk.show().to_vec(), 0);
         assert_eq!(desk.standing().lowerings, 0);
         while !desk.standing().settled {
             let answer = desk.step();
-            counted += differing(desk.table_so_far(), &shown);
-            shown = desk.table_so_far().to_vec();
+            counted += differing(desk.show(), &shown);
+            shown = desk.show().to_vec();
             assert_eq!(carried(answer), counted);
             assert_eq!(desk.standing().lowerings, counted);
         }
@@ -64,10 +64,10 @@ fn an_entry_lowered_in_several_rounds() {
         [&[3, 1, 2, 0, 0][..], &labels, &transitions].concat()
     };
     let mut desk = Desk::open(&case(&[&L3, &line([2, 2, 2]), &line([2, 1, 0])])).unwrap();
-    let (mut front, mut counts) = (vec![desk.table_so_far()[0]], vec![0]);
+    let (mut front, mut counts) = (vec![desk.show()[0]], vec![0]);
     while !desk.standing().settled {
         counts.push(carried(desk.finish_round()));
-        front.push(desk.table_so_far()[0]);
+        front.push(desk.show()[0]);
     }
     assert_eq!(front, [2, 2, 1, 0, 0]);
     // More than the nine entries, and at most 9 times 2.
@@ -113,7 +113,7 @@ fn over_the_limit_and_then_refused() {
     let before = desk.clone();
     assert_eq!(desk.lent_mut().step(), Err(Refusal::SpoiledDesk));
     assert_eq!(desk.lent_mut().finish_round(), Err(Refusal::SpoiledDesk));
-    assert_eq!(desk.lent().score_so_far(), Err(Refusal::SpoiledDesk));
+    assert_eq!(desk.lent().score(), Err(Refusal::SpoiledDesk));
     assert_eq!(desk.lent_mut().open(&[]), Err(Refusal::CaseSize));
     assert_eq!(desk, before);
 }
@@ -124,7 +124,7 @@ fn any_count_up_to_the_limit() {
     let mut desk = Lent::opened(&cases::example_4());
     for lowerings in 0..=4 {
         desk.standing.lowerings = lowerings;
-        assert_eq!(desk.lent().table_so_far(), [1; 4]);
+        assert_eq!(desk.lent().show(), [1; 4]);
     }
     let row = StepAnswer::Row { lowerings: 4 };
     assert_eq!(desk.lent_mut().step(), Ok(row));

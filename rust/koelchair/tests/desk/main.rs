@@ -7,6 +7,5 @@ mod examples;
 mod finishing;
 mod lowerings;
 mod refusals;
-mod settling;
 mod sizes;
 mod writing;

@@ -55,9 +55,9 @@ fn a_refused_case_leaves_the_former_desk() {
     let standing = desk.standing();
     assert_eq!(desk.replace(&[]), Err(Refusal::CaseSize));
     assert_eq!(desk.standing(), standing);
-    assert_eq!(desk.table_so_far(), [0; 4]);
+    assert_eq!(desk.show(), [0; 4]);
     assert_eq!(desk.replace(&cases::example_1()), Ok(()));
-    assert_eq!(desk.settle().rounds(), 2);
+    assert_eq!(desk.settle(), 2);
 }
 
 /// All calls but open are refused thus, show is empty, and nothing is altered.
@@ -66,11 +66,11 @@ fn assert_refused(desk: &Lent, refusal: Refusal) {
     assert_eq!(stepped.lent_mut().step(), Err(refusal));
     assert_eq!(&stepped, desk);
     let desk = desk.lent();
-    assert!(desk.table_so_far().is_empty());
+    assert!(desk.show().is_empty());
     assert_eq!(desk.value(0, 1, State(0)), Err(refusal));
     assert_eq!(desk.whole(0, 1), Err(refusal));
-    assert_eq!(desk.score_so_far(), Err(refusal));
-    assert_eq!(desk.share_so_far(Element(0)), Err(refusal));
+    assert_eq!(desk.score(), Err(refusal));
+    assert_eq!(desk.share(Element(0)), Err(refusal));
     assert_eq!(desk.judge(&[0; 4]), Err(refusal));
     assert_eq!(desk.sizes(), Err(refusal));
     assert_eq!(desk.entry(State(0), State(0)), Err(refusal));
@@ -131,7 +131,7 @@ fn a_spoiled_desk() {
     within.standing.round = 4;
     within.standing.lowerings = 4;
     within.first[4] = 2;
-    assert_eq!(within.lent().table_so_far(), [1; 4]);
+    assert_eq!(within.lent().show(), [1; 4]);
 }
 
 #[test]
@@ -139,7 +139,7 @@ fn arguments_out_of_range() {
     let mut desk = Desk::open(&cases::example_4()).unwrap();
     desk.step();
     let standing = desk.standing();
-    let shown = desk.table_so_far().to_vec();
+    let shown = desk.show().to_vec();
     let refused = Err(Refusal::OutOfRange);
     assert_eq!(desk.value(1, 1, State(0)), refused);
     assert_eq!(desk.value(0, 0, State(0)), refused);
@@ -147,7 +147,7 @@ fn arguments_out_of_range() {
     assert_eq!(desk.value(0, 2, State(2)), refused);
     assert_eq!(desk.whole(255, 1), refused);
     assert_eq!(desk.whole(0, 255), refused);
-    assert_eq!(desk.share_so_far(Element(2)), Err(Refusal::OutOfRange));
+    assert_eq!(desk.share(Element(2)), Err(Refusal::OutOfRange));
     assert_eq!(desk.judge(&[0; 3]), Err(Refusal::OutOfRange));
     assert_eq!(desk.judge(&[0; 5]), Err(Refusal::OutOfRange));
     assert_eq!(desk.judge(&[]), Err(Refusal::OutOfRange));
@@ -157,7 +157,7 @@ fn arguments_out_of_range() {
         assert_eq!(entry, Err(Refusal::OutOfRange), "{q1}, {q2}");
     }
     assert_eq!(desk.standing(), standing);
-    assert_eq!(desk.table_so_far(), shown);
+    assert_eq!(desk.show(), shown);
 }
 
 #[test]
@@ -173,6 +173,6 @@ fn what_a_refusal_says() {
         refusal.to_string(),
         format!("{} (part 1 of the case)", refusal.words())
     );
-    let short = Lent::of(0, 0).lent().score_so_far().unwrap_err();
+    let short = Lent::of(0, 0).lent().score().unwrap_err();
     assert_eq!(short.to_string(), "the desk breaks a rule");
 }

@@ -160,14 +160,8 @@ fn the_form_of_the_lattice_is_kept() {
         assert_eq!(written(&desk), case);
         desk
     });
-    assert_eq!(
-        by_byte.lent().table_so_far(),
-        by_order.lent().table_so_far()
-    );
-    assert_eq!(
-        by_byte.lent().score_so_far(),
-        by_order.lent().score_so_far()
-    );
+    assert_eq!(by_byte.lent().show(), by_order.lent().show());
+    assert_eq!(by_byte.lent().score(), by_order.lent().score());
 }
 
 /// What was written of a settled desk is opened: the desk is that of the case before its first step, and writes the same again.

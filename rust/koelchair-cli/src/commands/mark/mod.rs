@@ -2,86 +2,57 @@
 
 mod csv;
 mod json;
-mod naming;
 mod pages;
-mod stands;
 mod student;
 mod terminal;
 
 use super::input::{read_letters, shown_name, together};
 use super::report::element;
 use super::{document, open, Arguments, Failure, Opened, Outcome, Printed, REFUSED, WRONG};
-use crate::case::Case;
-use crate::encode::encode;
 use crate::errors::TextError;
-use crate::files;
-use crate::include::{same, Loader};
+use crate::include::Loader;
 use crate::names;
 use crate::parse::{parse_course, Text};
 use crate::progress::Progress;
 use crate::rounds::settle;
 use crate::warnings::{self, warnings, Warning};
-use koelchair::{Desk, Element, Settled};
+use koelchair::{Desk, Element};
 use std::io::Read;
 use student::Student;
 
 /// Runs `mark`.
 pub fn mark(arguments: &[String], input: &mut dyn Read) -> Outcome {
-    let flags = ["--csv", "--bom", "--json", "--force", "--deny-warnings"];
+    let flags = ["--csv", "--json", "--deny-warnings"];
     let arguments = Arguments::read(arguments, &flags, &["--page", "--share"])?;
-    fitting(&arguments)?;
+    if arguments.has("--csv") && arguments.has("--json") {
+        let message = "expected one of `--csv` and `--json`, got both";
+        return Err(Failure::Usage(message.to_string()));
+    }
     let Some((file, files)) = arguments.plain.split_first() else {
         let message = "expected COURSE and the students' files, got 0 arguments";
         return Err(Failure::Usage(message.to_string()));
     };
-    if !arguments.has("--force") {
-        arguments.values("--page").try_for_each(pages::only_own)?;
-    }
     let course = Course::read(file, &arguments, input)?;
     let mut students = Vec::new();
     let mut progress = Progress::new("drawing");
-    let is_course = |other: &&String| same(files::path(other)) == same(files::path(file));
-    let (own, files): (Vec<_>, Vec<_>) = files.iter().partition(is_course);
     for file in files {
         students.push(Student::mark(&course, file, input));
         progress.at(students.len());
     }
-    naming::tell_apart(&mut students);
-    let note = |f: &String| {
-        let name = shown_name(f);
-        format!("note: {name} is the course's own file, and is not marked\n")
-    };
-    let class = Class {
-        notes: own.into_iter().map(note).collect(),
-        course,
-        students,
-    };
+    student::tell_apart(&mut students);
+    let class = Class { course, students };
     for folder in arguments.values("--page") {
         pages::write(&class, folder)?;
     }
     Ok(class.printed(&arguments))
 }
 
-/// Says which options do not go together.
-fn fitting(arguments: &Arguments) -> Result<(), Failure> {
-    let usage = |message: &str| Err(Failure::Usage(message.to_string()));
-    if arguments.has("--csv") && arguments.has("--json") {
-        return usage("expected one of `--csv` and `--json`, got both");
-    }
-    for (option, with) in [("--bom", "--csv"), ("--force", "--page")] {
-        if arguments.has(option) && !arguments.has(with) {
-            return usage(&format!("`{option}` goes with `{with}`"));
-        }
-    }
-    Ok(())
-}
-
 /// The course with what its model scores against itself.
 pub struct Course {
     /// The file.
     pub file: String,
-    /// Its lines, to which a student's are added.
-    loader: Loader,
+    /// Its text.
+    letters: String,
     /// The course's model against itself; the desk is settled.
     pub opened: Opened,
     /// The element whose share of the entries is given.
@@ -92,12 +63,10 @@ pub struct Course {
     pub warnings: Vec<Warning>,
 }
 
-/// What the library says of a case, in numbers of elements.
+/// What the library says of a settled desk, in numbers of elements.
 pub struct Marks {
     /// The score.
     pub score: u8,
-    /// The score with the models exchanged.
-    pub exchanged: u8,
     /// Each formula's value on model 1.
     pub formulas: Vec<u8>,
     /// The per cent of entries at or above the shared element.
@@ -105,54 +74,51 @@ pub struct Marks {
 }
 
 impl Marks {
-    /// Of a case and its settled desk.
-    fn of(case: &Case, settled: Settled, shared: u8) -> Result<Marks, Failure> {
+    /// Of a settled desk with so many formulas.
+    fn of(desk: &Desk, formulas: usize, shared: u8) -> Result<Marks, Failure> {
+        let refused = |refusal: koelchair::Refusal| Failure::Other(refusal.to_string());
         let whole = |f: usize| {
-            let whole = settled.desk().whole(f as u8, 1).map_err(refused)?;
+            let whole = desk.whole(f as u8, 1).map_err(refused)?;
             Ok(whole.element.0)
         };
-        let formulas = 0..case.formulas.len();
         Ok(Marks {
-            score: settled.score().0,
-            exchanged: exchanged(case)?,
-            formulas: formulas.map(whole).collect::<Result<_, _>>()?,
-            share: settled.share(Element(shared)).map_err(refused)?,
+            score: desk.score().0,
+            formulas: (0..formulas).map(whole).collect::<Result<_, _>>()?,
+            share: desk.share(Element(shared)).map_err(refused)?,
         })
     }
 }
 
-/// The score with the models exchanged, by a desk of its own.
-fn exchanged(case: &Case) -> Result<u8, Failure> {
-    let too_long = |_| Failure::Other("the exchanged case is too long to be written".to_string());
-    let bytes = encode(&case.exchanged()).map_err(too_long)?;
-    let mut desk = Desk::open(&bytes).map_err(refused)?;
-    Ok(settle(&mut desk).score().0)
-}
-
-/// A refusal of what a desk with an accepted case is asked.
-fn refused(refusal: koelchair::Refusal) -> Failure {
-    Failure::Other(refusal.to_string())
-}
-
 impl Course {
     fn read(file: &str, arguments: &Arguments, input: &mut dyn Read) -> Result<Course, Failure> {
-        let mut loader = Loader::default();
-        loader.course(file, &read_letters(file, input)?);
-        let text = without_model_1(together(loader.clone(), parse_course)?)?;
+        let letters = read_letters(file, input)?;
+        let mut loader = Loader::new(shown_name(file));
+        loader.add(shown_name(file), &letters);
+        let text = without_model_1(together(loader, parse_course)?)?;
         let mut opened = open(text)?;
-        let score = settle(&mut opened.desk).score();
+        settle(&mut opened.desk);
         let shared = match arguments.values("--share").last() {
             Some(written) => element(&opened, written)?,
-            None => score.0,
+            None => opened.desk.score().0,
         };
         Ok(Course {
-            file: shown_name(file),
-            loader,
+            file: shown_name(file).to_string(),
+            letters,
             shared,
-            ceiling: Marks::of(&opened.case, opened.desk.settle(), shared)?,
+            ceiling: Marks::of(&opened.desk, opened.case.formulas.len(), shared)?,
             warnings: warnings(&opened.text, &opened.case, &opened.facts()?),
             opened,
         })
+    }
+
+    /// Where a score stands: `reached` is the ceiling itself, `above` is higher, and `below` all else.
+    pub fn stands(&self, score: u8) -> &'static str {
+        let (ceiling, score) = (usize::from(self.ceiling.score), usize::from(score));
+        match self.opened.case.lattice.at_most(ceiling, score) {
+            true if ceiling == score => "reached",
+            true => "above",
+            false => "below",
+        }
     }
 }
 
@@ -169,8 +135,6 @@ fn without_model_1(text: Text) -> Result<Text, Failure> {
 
 /// The course and all students.
 pub struct Class {
-    /// What is to be said of the files.
-    notes: String,
     /// The course.
     pub course: Course,
     /// The students, in the order of the command line.
@@ -181,17 +145,10 @@ impl Class {
     fn printed(&self, arguments: &Arguments) -> Printed {
         let out = match (arguments.has("--json"), arguments.has("--csv")) {
             (true, _) => document("mark", json::fields(self)),
-            (false, true) => {
-                let mark = if arguments.has("--bom") {
-                    "\u{feff}"
-                } else {
-                    ""
-                };
-                mark.to_string() + &csv::text(self)
-            }
+            (false, true) => csv::text(self),
             (false, false) => {
                 let pages = arguments.values("--page");
-                let said = pages.map(|f| format!("Class page: {}/index.html\n", shown_name(f)));
+                let said = pages.map(|folder| format!("Class page: {folder}/index.html\n"));
                 terminal::text(self) + &said.collect::<String>()
             }
         };
@@ -211,7 +168,7 @@ impl Class {
     fn told(&self) -> String {
         let course = warnings::render_all(&self.course.opened.text, &self.course.warnings);
         let students = self.students.iter().map(Student::told);
-        let all: Vec<String> = [self.notes.clone(), course]
+        let all: Vec<String> = [course]
             .into_iter()
             .chain(students)
             .filter(|t| !t.is_empty())
@@ -231,11 +188,6 @@ impl Class {
         };
         self.students.iter().map(status).max().unwrap_or(0)
     }
-}
-
-/// Whether a statement begins the model with this number.
-fn model(statement: &crate::lexer::Statement, number: &str) -> bool {
-    begins(statement, &["model"]) && statement.get(1).is_some_and(|t| names::is_word(t, number))
 }
 
 /// Whether a statement begins with one of these words.

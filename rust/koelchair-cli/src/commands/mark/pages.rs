@@ -1,70 +1,21 @@
 //! The class page, and a page for each student that it links to.
 
-use super::stands::{words, Against, Stand};
 use super::student::Marked;
 use super::{Class, Marks, Student};
 use crate::commands::Failure;
-use crate::files;
 use crate::json::{text, text_with_code};
 use crate::page;
 use crate::warnings::Warning;
-use std::ffi::OsString;
-use std::fs::{DirEntry, File};
-use std::io::{ErrorKind, Read};
 use std::path::Path;
-
-/// The first line of every page that `mark` writes, by which it knows its own.
-const FIRST_LINE: &str = "<!doctype html><!-- koelchair mark -->\n";
-
-/// The failure that a file or a folder cannot be read or written.
-fn cannot(path: &Path, error: std::io::Error) -> Failure {
-    Failure::Other(format!("{}: {error}", path.display()))
-}
-
-/// Refuses a folder that has files which `mark` did not write; one that is not there has none.
-pub fn only_own(folder: &str) -> Result<(), Failure> {
-    let path = files::path(folder);
-    let entries = match std::fs::read_dir(&path) {
-        Err(error) if error.kind() == ErrorKind::NotFound => return Ok(()),
-        entries => entries.map_err(|e| cannot(&path, e))?,
-    };
-    let entries: Vec<DirEntry> = entries
-        .collect::<Result<_, _>>()
-        .map_err(|e| cannot(&path, e))?;
-    let foreign = entries.iter().filter(|entry| !own(&entry.path()));
-    let mut names: Vec<OsString> = foreign.map(DirEntry::file_name).collect();
-    names.sort();
-    let Some(first) = names.first() else {
-        return Ok(());
-    };
-    let more = match names.len() {
-        1 => String::new(),
-        n => format!(" and {} more", n - 1),
-    };
-    let first = first.to_string_lossy();
-    Err(Failure::Other(format!(
-        "{folder}: the folder has `{first}`{more}, which `mark` did not write; name another one, or give `--force`"
-    )))
-}
-
-/// Whether this is a file with the first line of `mark`'s pages.
-fn own(path: &Path) -> bool {
-    let begins = || {
-        let mut first = [0; FIRST_LINE.len()];
-        File::open(path)?.read_exact(&mut first)?;
-        Ok::<_, std::io::Error>(first == *FIRST_LINE.as_bytes())
-    };
-    let file = path.symlink_metadata().is_ok_and(|about| about.is_file());
-    file && begins().unwrap_or(false)
-}
 
 /// Writes `index.html` and a page for each marked student into a folder, which is made if it is not there.
 pub fn write(class: &Class, folder: &str) -> Result<(), Failure> {
-    let folder = files::path(folder);
-    std::fs::create_dir_all(&folder).map_err(|e| cannot(&folder, e))?;
+    let cannot =
+        |path: &Path, e: std::io::Error| Failure::Other(format!("{}: {e}", path.display()));
+    let folder = Path::new(folder);
+    std::fs::create_dir_all(folder).map_err(|e| cannot(folder, e))?;
     let put = |name: &str, html: String| {
         let path = folder.join(name);
-        let html = html.replacen("<!doctype html>\n", FIRST_LINE, 1);
         std::fs::write(&path, html).map_err(|e| cannot(&path, e))
     };
     for student in &class.students {
@@ -75,7 +26,7 @@ pub fn write(class: &Class, folder: &str) -> Result<(), Failure> {
                 warnings: &marked.warnings,
             };
             let html = page::html(&marked.again()?, &surroundings)?;
-            put(&student.page, html)?;
+            put(&student.page(), html)?;
         }
     }
     put("index.html", index(class))
@@ -92,46 +43,33 @@ fn index(class: &Class) -> String {
         .map(|named| format!("<th scope=\"col\">{}</th>", text(&named.name)))
         .collect();
     let rows: String = class.students.iter().map(|s| row(class, s)).collect();
-    let marks = &class.course.ceiling;
-    let against = Against::own(&class.course);
     let own = format!(
         "<tr class=\"course\"><th scope=\"row\">The course's own</th>{}<td></td></tr>\n",
-        cells(class, marks, &against, "<td>the ceiling</td>")
+        cells(class, &class.course.ceiling, "<td>the ceiling</td>")
     );
     let body = format!(
         "<header><h1>{}</h1></header>\n<main class=\"class\">\n\
-         <p class=\"note\">The ceiling is <strong>{ceiling}</strong>: what the course's model scores against itself. {REACHED}\
-         A name leads to the student's page.</p>\n{}\
+         <p class=\"note\">The ceiling is <strong>{ceiling}</strong>: what the course's model scores against itself. A drawing that \
+         reaches it is as good as the course's own; one above it has left out what the course is unsure of. A name leads to the student's page.</p>\n{}\
          <div class=\"scroll\" tabindex=\"0\" role=\"region\" aria-label=\"Marks\"><table>\n\
-         <thead><tr><th scope=\"col\">Student</th><th scope=\"col\">Score</th><th scope=\"col\">Ceiling</th>\
-         <th scope=\"col\">Score, models exchanged</th>{formulas}\
+         <thead><tr><th scope=\"col\">Student</th><th scope=\"col\">Score</th><th scope=\"col\">Ceiling</th>{formulas}\
          <th scope=\"col\">Share {shared}</th><th scope=\"col\">Warnings, and why it is not higher</th></tr></thead>\n\
          <tbody>\n{own}{rows}</tbody>\n</table></div>\n</main>\n\
-         <footer><p>Scores, formulas' values and shares are the proved library's; the reasons, the warnings and what is below the course's \
-         are worked out by the tool.</p></footer>\n",
+         <footer><p>Scores, formulas' values and shares are the proved library's; the reasons and the warnings are worked out by the tool.</p></footer>\n",
         text(title),
         page::warning_list(&class.course.warnings),
     );
     page::document(title, &body)
 }
 
-/// What does not follow from reaching the ceiling, and where it is seen.
-const REACHED: &str = "A drawing that reaches it need not be as good: it may be unsure where the course is sure, or leave arrows \
-    out. Arrows left out never lower the score; they may lower the score with the models exchanged. What is lower than the course's own is \
-    marked. ";
-
-/// Both scores, ceiling, formulas and share; what is lower than the course's is marked.
-fn cells(class: &Class, marks: &Marks, against: &Against, ceiling: &str) -> String {
+/// Score, ceiling, formulas and share.
+fn cells(class: &Class, marks: &Marks, ceiling: &str) -> String {
     let case = &class.course.opened.case;
-    let name = |e: u8| text(&case.element(e));
-    let values = [marks.exchanged].into_iter().chain(marks.formulas.clone());
-    let value = |(element, lower): (u8, Option<String>)| match lower {
-        None => format!("<td>{}</td>", name(element)),
-        Some(lower) => format!("<td class=\"below\">{}, {lower}</td>", name(element)),
-    };
-    let values: String = values.zip(against.lower()).map(value).collect();
-    let (score, share) = (name(marks.score), marks.share);
-    format!("<td><strong>{score}</strong></td>{ceiling}{values}<td>{share} %</td>")
+    let cell = |e: &u8| format!("<td>{}</td>", text(&case.element(*e)));
+    let formulas: String = marks.formulas.iter().map(cell).collect();
+    let score = text(&case.element(marks.score));
+    let share = marks.share;
+    format!("<td><strong>{score}</strong></td>{ceiling}{formulas}<td>{share} %</td>")
 }
 
 fn row(class: &Class, student: &Student) -> String {
@@ -139,7 +77,7 @@ fn row(class: &Class, student: &Student) -> String {
     let marked = match &student.result {
         Ok(marked) => marked,
         Err(failure) => {
-            let empty = "<td>-</td>".repeat(class.course.ceiling.formulas.len() + 2);
+            let empty = "<td>-</td>".repeat(class.course.ceiling.formulas.len() + 1);
             let short = text_with_code(&capital(&failure.short(&student.file)));
             let said = text(&failure.words(&[]));
             let full = format!("<details><summary>In full</summary><pre>{said}</pre></details>");
@@ -148,20 +86,16 @@ fn row(class: &Class, student: &Student) -> String {
             );
         }
     };
-    let against = &marked.against;
-    let stand = against.score.map(|stands| stands.whole);
-    let lower = against.lower().any(|lower| lower.is_some());
-    let class_of = match (stand, lower) {
-        (Some(Stand::Reached), false) if marked.warnings.is_empty() => " class=\"reached\"",
-        (Some(Stand::Below | Stand::NotInOrder), _) => " class=\"below\"",
-        _ => "",
+    let stands = marked.stands(&class.course);
+    let good = matches!(stands, "reached" | "above");
+    let ceiling = match stands == "reached" && marked.warnings.is_empty() {
+        true => format!("<td class=\"reached\">{stands}</td>"),
+        false => format!("<td>{stands}</td>"),
     };
-    let ceiling = format!("<td{class_of}>{}</td>", words(against.score));
-    let good = matches!(stand, Some(Stand::Reached | Stand::Above));
     format!(
         "<tr><th scope=\"row\"><a href=\"{}\">{name}</a></th>{}<td>{}</td></tr>\n",
-        href(&student.page),
-        cells(class, &marked.marks, against, &ceiling),
+        href(&student.page()),
+        cells(class, &marked.marks, &ceiling),
         remarks(marked, good)
     )
 }

@@ -1,26 +1,25 @@
 //! One student's drawing, marked.
 
-use super::stands::Against;
-use super::{begins, model, naming, Course, Marks};
+use super::{begins, Course, Marks};
 use crate::commands::input::{read_letters, shown_name, together};
 use crate::commands::why::{self, Answer};
 use crate::commands::{open, Failure, Opened};
 use crate::errors::{Source, TextError};
+use crate::include::Loader;
 use crate::lexer::lex;
 use crate::names;
 use crate::parse::parse;
-use crate::warnings::{self, warnings, Warning};
+use crate::warnings::{self, warnings, Warning, NO_INITIAL};
 use koelchair::Desk;
 use std::io::Read;
+use std::path::Path;
 
 /// A student's drawing.
 pub struct Student {
-    /// The name: the drawing's own, else that of its file; told apart from others.
+    /// The name: the file's without folder and extension, told apart from others.
     pub name: String,
     /// The file.
     pub file: String,
-    /// The file of the student's page.
-    pub page: String,
     /// What it gets, or why it gets nothing.
     pub result: Result<Marked, Failure>,
 }
@@ -31,8 +30,6 @@ pub struct Marked {
     pub opened: Opened,
     /// What the library says of it.
     pub marks: Marks,
-    /// Where that stands to the course's own.
-    pub against: Against,
     /// T.
     pub rounds: u32,
     /// Why the score is not higher, in a sentence for each view.
@@ -42,16 +39,23 @@ pub struct Marked {
 }
 
 impl Student {
-    /// Marks a file against a course; its page gets a file once all drawings are there.
+    /// Marks a file against a course.
     pub fn mark(course: &Course, file: &str, input: &mut dyn Read) -> Student {
-        let read = read_letters(file, input);
-        let own = read.as_deref().ok().and_then(naming::own);
+        let stem = Path::new(file).file_stem().map(|s| s.to_string_lossy());
         Student {
-            name: own.unwrap_or_else(|| naming::stem(&shown_name(file))),
-            file: shown_name(file),
-            page: String::new(),
-            result: read.and_then(|letters| Marked::of(course, file, &letters)),
+            name: stem.map_or(file.to_string(), |s| s.into_owned()),
+            file: shown_name(file).to_string(),
+            result: Marked::of(course, file, input),
         }
+    }
+
+    /// The file of the student's page: the name, with `_` for signs that an address cannot have.
+    pub fn page(&self) -> String {
+        let safe = |c: char| match c.is_alphanumeric() || "-_.".contains(c) {
+            true => c,
+            false => '_',
+        };
+        self.name.chars().map(safe).chain(".html".chars()).collect()
     }
 
     /// The warnings about the drawing.
@@ -62,10 +66,7 @@ impl Student {
     /// The warnings or the errors in words.
     pub fn told(&self) -> String {
         match &self.result {
-            Ok(marked) => {
-                let text = &marked.opened.text;
-                text.source.notes() + &warnings::render_all(text, &marked.warnings)
-            }
+            Ok(marked) => warnings::render_all(&marked.opened.text, &marked.warnings),
             Err(failure) => failure.words(&[]),
         }
     }
@@ -81,24 +82,33 @@ impl Student {
 }
 
 impl Marked {
-    fn of(course: &Course, file: &str, letters: &str) -> Result<Marked, Failure> {
-        model_1_alone(&shown_name(file), letters)?;
-        let mut loader = course.loader.clone();
-        loader.add(file, letters);
+    fn of(course: &Course, file: &str, input: &mut dyn Read) -> Result<Marked, Failure> {
+        let (name, letters) = (shown_name(file), read_letters(file, input)?);
+        model_1_alone(name, &letters)?;
+        let mut loader = Loader::new(name);
+        loader.add(&course.file, &course.letters);
+        loader.add(name, &letters);
         let mut opened = open(together(loader, parse)?)?;
+        let formulas = opened.case.formulas.len();
         let answer = Answer::of(&mut opened, None)?;
-        let marks = Marks::of(&opened.case, opened.desk.settle(), course.shared)?;
+        let marks = Marks::of(&opened.desk, formulas, course.shared)?;
         // The formulas are the course's, and are warned of there.
-        let mut warnings = warnings(&opened.text, &opened.case, &[]);
-        warnings.retain(|w| w.model == Some(0));
+        let all = warnings(&opened.text, &opened.case, &[]);
         Ok(Marked {
-            against: Against::of(course, &marks, &warnings),
             marks,
             rounds: answer.rounds,
             why: why::in_short(&opened.case, &answer),
-            warnings,
+            warnings: all.into_iter().filter(|w| w.model == Some(0)).collect(),
             opened,
         })
+    }
+
+    /// Where the score stands to the ceiling; a score that compares nothing stands nowhere.
+    pub fn stands(&self, course: &Course) -> &'static str {
+        match self.warnings.iter().any(|w| w.kind == NO_INITIAL) {
+            true => "nothing compared",
+            false => course.stands(self.marks.score),
+        }
     }
 
     /// A desk of the same case at round 0, for the rounds on the student's page.
@@ -110,36 +120,53 @@ impl Marked {
     }
 }
 
-/// Says where a student's file has something else than model 1, or that it is a course's.
+/// Says where a student's file has something else than model 1.
 fn model_1_alone(name: &str, letters: &str) -> Result<(), Failure> {
     let source = Source::new(name, letters);
     let lexed = match lex(&source) {
         Ok(lexed) => lexed,
         Err(error) => return Err(Failure::Text(source, vec![error])),
     };
-    let other = ["title", "lattice", "propositions", "formula", "bytes"];
-    let mut all = lexed.statements.iter();
-    let strange = all.find(|s| begins(s, &other) || model(s, "2"));
-    let has = |number: &str| lexed.statements.iter().any(|s| model(s, number));
-    let error = match strange {
-        None if has("1") => return Ok(()),
-        None => {
-            let expected = "expected a line `model 1` in a student's file";
-            TextError::new(Default::default(), "`model 1` is missing", expected)
-        }
-        Some(statement) => {
-            let (message, expected) = match has("2") && !has("1") {
-                true => (COURSE_S, "expected a student's file, with `model 1` alone"),
-                false => (
-                    "a student's file has model 1 alone",
-                    "expected `model 1` alone: the rest is the course's",
-                ),
-            };
-            TextError::new(names::whole(statement), message, expected)
-        }
+    let model = |statement: &crate::lexer::Statement, number: &str| {
+        begins(statement, &["model"]) && statement.get(1).is_some_and(|t| names::is_word(t, number))
     };
-    Err(Failure::Text(source, vec![error]))
+    let strange = lexed.statements.iter().filter(|s| {
+        begins(s, &["title", "lattice", "propositions", "formula", "bytes"]) || model(s, "2")
+    });
+    let mut errors: Vec<TextError> = strange
+        .map(|s| {
+            let expected = "expected `model 1` alone: the rest is the course's";
+            TextError::new(
+                names::whole(s),
+                "a student's file has model 1 alone",
+                expected,
+            )
+        })
+        .collect();
+    if errors.is_empty() && !lexed.statements.iter().any(|s| model(s, "1")) {
+        let expected = "expected a line `model 1` in a student's file";
+        errors.push(TextError::new(
+            Default::default(),
+            "`model 1` is missing",
+            expected,
+        ));
+    }
+    match errors.is_empty() {
+        true => Ok(()),
+        false => Err(Failure::Text(source, errors)),
+    }
 }
 
-/// What is said of a course's file among the students'.
-const COURSE_S: &str = "this is a course's file, which has no model 1";
+/// Tells students apart whose files have the same name in different folders, or whose pages would have; `index` is the class page's.
+pub fn tell_apart(students: &mut [Student]) {
+    let mut taken = vec!["index.html".to_string()];
+    for student in students {
+        let first = student.name.clone();
+        let mut count = 1;
+        while taken.contains(&student.page()) {
+            count += 1;
+            student.name = format!("{first}-{count}");
+        }
+        taken.push(student.page());
+    }
+}

@@ -2,13 +2,11 @@
 
 use super::{Answer, Reason};
 use crate::case::Case;
-use crate::commands::Opened;
 use crate::json::{array, object, string, strings};
 use crate::reasons::{Cause, Initial, Step, Tried};
 
 /// The fields of the answer.
-pub fn fields(opened: &Opened, answer: &Answer) -> Vec<(&'static str, String)> {
-    let case = &opened.case;
+pub fn fields(case: &Case, answer: &Answer) -> Vec<(&'static str, String)> {
     let pair = answer.pair.map(|(q1, q2)| {
         object(&[
             ("student", state(case, 0, q1)),
@@ -17,7 +15,6 @@ pub fn fields(opened: &Opened, answer: &Answer) -> Vec<(&'static str, String)> {
     });
     vec![
         ("accepted", "true".to_string()),
-        ("owners", strings(opened.owners())),
         ("pair", or_null(pair)),
         ("element", element(case, answer.element)),
         ("top", answer.top.to_string()),

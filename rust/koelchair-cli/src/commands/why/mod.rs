@@ -1,17 +1,15 @@
 //! `why`: from the score, or from a pair, along the transitions down to the cause.
 
-mod heading;
 mod json;
 mod words;
 
-pub use words::Words;
+pub use words::{Words, OWNERS};
 
-use super::explain::pair;
-use super::{count, document, open, read_course, Arguments, Failure, Opened, Outcome, Printed};
+use super::explain::state;
+use super::{count, document, open, read_text, Arguments, Failure, Opened, Outcome, Printed};
 use crate::case::Case;
 use crate::encode::encode;
 use crate::listing;
-use crate::owners::OWNERS;
 use crate::reasons::{followed, Initial, Reasoning, Step};
 use crate::rounds::History;
 use crate::tables::Operations;
@@ -31,17 +29,20 @@ pub fn why(arguments: &[String], input: &mut dyn Read) -> Outcome {
             )))
         }
     };
-    let mut opened = open(read_course(file, &arguments, input)?)?;
+    let mut opened = open(read_text(file, &arguments, input)?)?;
     let pair = match states {
         None => None,
-        Some((first, second)) => Some(pair(&opened, first, second)?),
+        Some((first, second)) => Some((
+            state(&opened.case, 0, first)?,
+            state(&opened.case, 1, second)?,
+        )),
     };
     let answer = Answer::of(&mut opened, pair)?;
     let printed = match arguments.has("--json") {
-        true => document("why", json::fields(&opened, &answer)),
-        false => words::text(&opened, &answer, arguments.has("--all")),
+        true => document("why", json::fields(&opened.case, &answer)),
+        false => words::text(&opened.case, &answer, arguments.has("--all")),
     };
-    Ok(Printed::new(printed).with_notes(&opened.text.source))
+    Ok(Printed::new(printed))
 }
 
 /// What is said of the score or of a pair.
@@ -94,7 +95,7 @@ impl Answer {
             operations: &operations,
             history: &history,
         };
-        Answer::by(&reasoning, pair, opened.desk.settle().score().0)
+        Answer::by(&reasoning, pair, opened.desk.score().0)
     }
 
     /// The same where the rounds are worked already; the score is the settled table's.
@@ -130,21 +131,6 @@ pub fn ceiling(case: &Case) -> Option<u8> {
     course.models[0] = case.models[1].clone();
     let bytes = encode(&course).ok()?;
     listing::of(&bytes).map(|listing| listing.score)
-}
-
-/// What is said beside the answers of a course's file alone: what is compared, and why the ceiling is not top. Nothing of another file.
-pub fn alone(opened: &Opened) -> Result<String, Failure> {
-    if !opened.text.course_alone {
-        return Ok(String::new());
-    }
-    let answer = Answer::of(&mut open(opened.text.clone())?, None)?;
-    let reasons = in_short_of(&opened.case, &answer, opened.owners());
-    let not_top = |sentence: String| format!("  the ceiling is not top: {sentence}\n");
-    let reasons: String = reasons.into_iter().map(not_top).collect();
-    let compared = heading::COMPARED;
-    Ok(format!(
-        "note: the score is the ceiling: {compared}\n{reasons}"
-    ))
 }
 
 /// The same with other owners of the two models.

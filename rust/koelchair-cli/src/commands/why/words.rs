@@ -1,9 +1,7 @@
 //! What `why` says, in words.
 
-use super::heading::heading;
 use super::{Answer, Reason};
 use crate::case::Case;
-use crate::commands::Opened;
 use crate::lattice::Lattice;
 use crate::reasons::{Cause, Difference, Initial, Step, Tried};
 use crate::views::View;
@@ -16,12 +14,11 @@ const ENDS: usize = 4;
 const MOST_OTHERS: usize = 3;
 
 /// The answer as text; a way of many steps is cut in the middle unless all of it is wanted.
-pub fn text(opened: &Opened, answer: &Answer, all: bool) -> String {
-    let (case, owners) = (&opened.case, opened.owners());
-    let mut text = heading(case, answer, owners);
+pub fn text(case: &Case, answer: &Answer, all: bool) -> String {
+    let mut text = heading(case, answer);
     for reason in &answer.reasons {
-        let view = &reason.view();
-        let words = Words { case, view, owners };
+        let view = reason.view();
+        let words = Words::of(case, &view);
         text.push('\n');
         text.push_str(&words.reason(answer, reason, all));
     }
@@ -47,11 +44,61 @@ pub fn in_short(case: &Case, answer: &Answer, owners: [&str; 2]) -> Vec<String> 
     answer.reasons.iter().map(sentence).collect()
 }
 
+fn heading(case: &Case, answer: &Answer) -> String {
+    let element = case.element(answer.element);
+    let mut text = match answer.pair {
+        None => format!("The score is {element}"),
+        Some((q1, q2)) => {
+            let [student, course] = [(0, q1), (1, q2)].map(|(m, q)| &case.models[m].states[q]);
+            format!("The course's {course} follows the student's {student}: {element}")
+        }
+    };
+    let _ = writeln!(text, " (settled at round {}).", answer.rounds);
+    if let (None, Some(ceiling)) = (answer.pair, answer.ceiling) {
+        let name = case.element(ceiling);
+        let _ = match ceiling == answer.element {
+            true => writeln!(
+                text,
+                "The course's model against itself scores {name} too, so the drawing reaches the ceiling."
+            ),
+            false => {
+                let [low, high] = [ceiling, answer.element].map(usize::from);
+                let above = match case.lattice.at_most(low, high) {
+                    true => "; the score is above it",
+                    false => "",
+                };
+                writeln!(
+                    text,
+                    "The ceiling, the course's model against itself, is {name}{above}."
+                )
+            }
+        };
+    }
+    let _ = match (answer.top, answer.pair, answer.no_initial) {
+        (true, None, true) => writeln!(
+            text,
+            "But the student's model has no initial state, so that nothing was compared."
+        ),
+        (true, pair, _) => {
+            let what = pair.map_or("score", |_| "entry");
+            writeln!(
+                text,
+                "The {what} is top in every round: nothing holds it down."
+            )
+        }
+        _ => Ok(()),
+    };
+    text
+}
+
 /// What the entry or the score is in a view: this element, or a set without the member that the view is of.
 enum Of {
     Has(String),
     Lacks(String),
 }
+
+/// Whose the models are.
+pub const OWNERS: [&str; 2] = ["student", "course"];
 
 /// The words of one view.
 pub struct Words<'a> {
@@ -63,7 +110,12 @@ pub struct Words<'a> {
     pub owners: [&'a str; 2],
 }
 
-impl Words<'_> {
+impl<'a> Words<'a> {
+    fn of(case: &'a Case, view: &'a View) -> Words<'a> {
+        let owners = OWNERS;
+        Words { case, view, owners }
+    }
+
     fn state(&self, model: usize, state: usize) -> &str {
         &self.case.models[model].states[state]
     }
@@ -154,12 +206,12 @@ impl Words<'_> {
     }
 
     fn step(&self, number: usize, step: &Step) -> String {
-        let ((q1, q2), [one, other]) = (step.pair, self.owners);
+        let (q1, q2) = step.pair;
         let (student, course) = (self.state(0, q1), self.state(1, q2));
         let [before, after] = [step.entries.0, step.entries.1].map(|e| self.element(e));
         let (earlier, round) = (step.round - 1, step.round);
         let mut text = format!(
-            "{number}. {one} {student}, {other} {course}: {before} in round {earlier}, {after} in round {round}\n"
+            "{number}. student {student}, course {course}: {before} in round {earlier}, {after} in round {round}\n"
         );
         match &step.cause {
             Cause::Propositions(list) => {
@@ -170,7 +222,7 @@ impl Words<'_> {
             Cause::Transition { to, value, answers } => {
                 let target = self.state(0, *to);
                 let value = self.unless_top(*value);
-                let _ = write!(text, "   The {one} goes {student} -> {target}{value}. ");
+                let _ = write!(text, "   The student goes {student} -> {target}{value}. ");
                 text.push_str(&self.answers(number, q2, answers));
                 let others = answers.get(1..).unwrap_or_default();
                 text.push_str(&self.others(*to, Some(q2), others, "   "));
@@ -180,16 +232,16 @@ impl Words<'_> {
     }
 
     fn answers(&self, number: usize, from: usize, answers: &[Tried]) -> String {
-        let (from, other) = (self.state(1, from), self.owners[1]);
+        let from = self.state(1, from);
         match answers.first() {
-            None => format!("The {other} has no transition from {from}.\n"),
+            None => format!("The course has no transition from {from}.\n"),
             Some(best) if best.low => format!(
-                "The {other}'s {from} -> {} is only {}.\n",
+                "The course's {from} -> {} is only {}.\n",
                 self.state(1, best.to),
                 self.element(best.value)
             ),
             Some(best) => format!(
-                "The {other}'s best answer is {from} -> {}{}; see {}.\n",
+                "The course's best answer is {from} -> {}{}; see {}.\n",
                 self.state(1, best.to),
                 self.unless_top(best.value),
                 number + 1
