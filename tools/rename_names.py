@@ -11,6 +11,7 @@ import collections
 import glob
 import os
 import re
+import subprocess
 import sys
 
 TOKEN = re.compile(r"[^\s(){}\[\],;.:→×≡λ·`\"«»@]+")
@@ -53,7 +54,8 @@ def defined(paths):
 
 def std_words():
     """Words that the library's Prelude passes on: what a dash may join."""
-    kit = os.environ.get("RATTLE_KIT", "/opt/rattle")
+    page = subprocess.run(["rt", "doc"], capture_output=True, text=True, check=True).stdout.strip()
+    kit = os.path.dirname(page)
     words = set()
     with open(os.path.join(kit, "rattle/std/specs/Prelude.antt"), encoding="utf-8") as f:
         for part in re.findall(r"\{([^}]*)\}", f.read()):
