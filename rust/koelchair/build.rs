@@ -13,7 +13,8 @@ const ARCHIVE: &str = "libexports.a";
 const SCRIPT: &str = "tools/archive";
 
 /// How long the proofs take where nothing is proved yet. They took six to ten minutes with the kit before this one; that of today was not measured.
-const TIME: &str = "took four minutes on four cores, with other work beside it, and takes longer on fewer";
+const TIME: &str =
+    "took four minutes on four cores, with other work beside it, and takes longer on fewer";
 
 /// A shell's exit status where a command is not found.
 const NOT_FOUND: i32 = 127;
