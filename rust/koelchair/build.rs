@@ -12,7 +12,7 @@ const ARCHIVE: &str = "libexports.a";
 /// The script that makes the archive, in the repository's root.
 const SCRIPT: &str = "tools/archive";
 
-/// How long the proofs take where nothing is proved yet. They took six to ten minutes with the kit before this one; that of today was not measured.
+/// How long the proofs took where nothing was proved yet, when that was last measured. They took six to ten minutes with the kit before this one.
 const TIME: &str =
     "took four minutes on four cores, with other work beside it, and takes longer on fewer";
 
