@@ -3,7 +3,7 @@
 --   model_exactly: a part is accepted exactly when it has its shape and every value is an element
 --   accepted_shape, accepted_valued, shape_of, sizes_pass: what holds of an accepted part
 --   answers_accepted, answers_refused: what the code answers
-use Rattle.std.specs.Prelude.{ℕ, zero, suc, ◌+◌, ◌*◌, ◌-◌, ◌/◌, ◌%◌, ◌≤◌, ◌<◌, ◌≡◌, refl, Bool, true, false, ◌⊎◌, ◌↔◌, List, leb, eqb, length}
+use Rattle.std.specs.Prelude.{ℕ, zero, suc, ◌+◌, ◌*◌, ◌-◌, ◌/◌, ◌%◌, ◌≤◌, ◌<◌, ◌≡◌, refl, Bool, true, false, ◌⊎◌, ◌↔◌, List, leb, eqb, length, Some, None}
 use Rattle.std.proofs.Common.{sym, inl, inr, mul-zero, mod-lt, div-add-mod', div-lt_iff_lt-mul, zero-lt-suc, arith, ltb-true, ltb-false, leb-true, eqb-true, lt-ltb, le-leb, eq-eqb}
 use Rattle.std.proofs.Math.Logic.{⊎_elim}
 use Rattle.std.proofs.Math.Dec.{ltb}
@@ -12,8 +12,7 @@ use Rattle.theory.specs.Model.{Valued}
 use Rattle.theory.specs.Part.{LatticePart, ops_of, model_of, model_length, ModelShape}
 use Rattle.theory.specs.TestLaws.{and_l, and_r, and_in, all_four, all_at, all_in, not_passed}
 use Rattle.model.specs.Places.{row_le}
-use Rattle.model.specs.declared.ModelCheck.TheVariants.{Refused, Accepted}
-use Rattle.model.specs.Reading.{elements_only, sizes_test, model_test, model_answer}
+use Rattle.model.specs.Reading.{elements_only, sizes_test, model_test, size_of, model_answer}
 use Rattle.model.specs.Accepted.{Cell}
 
 -- ---- an accepted part has its shape
@@ -115,10 +114,10 @@ model_exactly P b = (λ t. (accepted_shape P.size b t, accepted_valued P b t), �
 
 -- ---- what the code answers
 
-pub answers_accepted : (n : ℕ) (b : List ℕ) → ModelShape b → elements_only n b ≡ true → Accepted (get_or b 0 0) (get_or b 1 0) ≡ model_answer n b
+pub answers_accepted : (n : ℕ) (b : List ℕ) → ModelShape b → elements_only n b ≡ true → Some (size_of b) ≡ model_answer n b
 unfolding model_answer
 answers_accepted n b s v = sym (rw (test_in n b s v))
 
-pub answers_refused : (n : ℕ) (b : List ℕ) → (ModelShape b → elements_only n b ≡ true → ⊥) → Refused ≡ model_answer n b
+pub answers_refused : (n : ℕ) (b : List ℕ) → (ModelShape b → elements_only n b ≡ true → ⊥) → None ≡ model_answer n b
 unfolding model_answer
 answers_refused n b h = sym (rw (not_passed (model_test n b) (λ t. h (accepted_shape n b t) (values_pass n b t))))

@@ -6,3 +6,4 @@ pub mod Accepted  -- a part is accepted exactly when it has its shape and every 
 pub mod Examples  -- the models of the worked examples are accepted
 -- ---- for the code
 pub mod Places  -- rows of values lie within the part
+pub mod Unique  -- `ModelShape` has one proof at most

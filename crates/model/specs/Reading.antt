@@ -1,12 +1,11 @@
 -- When a model part is accepted, what the check answers, and where a part's values stand. Rests on theory's Part and Test.
 --   sizes_test, elements_only, model_test: whether a part is a model part; model_answer: what the check answers
 --   label_row, transition_row: where the values of a state stand; leaving_code: the code of a transition, or of its complement
-use Rattle.std.specs.Prelude.{ℕ, ◌+◌, ◌*◌, ◌-◌, Bool, cond, ◌&&◌, List, ltb, leb, eqb, length, get_or}
+use Rattle.std.specs.Prelude.{ℕ, ◌+◌, ◌*◌, ◌-◌, Bool, cond, ◌&&◌, List, ltb, leb, eqb, length, get_or, Option, Some, None}
 use Rattle.theory.specs.Part.{model_length, model_of}
 use Rattle.theory.specs.Test.{all_below}
 use Rattle.elements.specs.Words.{value_code}
-use Rattle.model.specs.declared.ModelCheck.{ModelCheck}
-use Rattle.model.specs.declared.ModelCheck.TheVariants.{Refused, Accepted}
+use Rattle.model.specs.declared.ModelSize.{ModelSize}
 
 -- 'Every value is an element': each byte after the two sizes is below n
 unfoldable pub elements_only : ℕ → List ℕ → Bool
@@ -23,10 +22,14 @@ unfoldable pub model_test : ℕ → List ℕ → Bool
 unfolding elements_only
 model_test n b = sizes_test b && elements_only n b
 
+-- its sizes, as the check answers them
+abbrev pub size_of : List ℕ → ModelSize
+size_of b = record { states = get_or b 0 0; propositions = get_or b 1 0 }
+
 -- what the check answers
-unfoldable pub model_answer : ℕ → List ℕ → ModelCheck
+unfoldable pub model_answer : ℕ → List ℕ → Option ModelSize
 unfolding model_test
-model_answer n b = cond (model_test n b) (Accepted (get_or b 0 0) (get_or b 1 0)) Refused
+model_answer n b = cond (model_test n b) (Some (size_of b)) None
 
 -- the places of the proposition values and of the transition values of state q
 abbrev pub label_row : List ℕ → ℕ → ℕ

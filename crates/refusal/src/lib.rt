@@ -4,7 +4,7 @@
 ghost use Rattle.std.specs.Prelude.{◌≡◌};
 ghost use Rattle.refusal.specs.Number.{number_of, part_of};
 
-#[derive(Clone, Copy)]
+#[derive(Clone, Copy, PartialEq, Eq)]
 pub enum Refusal {
     // The store or a table of the desk is too short.
     ShortDesk,
@@ -32,46 +32,48 @@ pub enum Refusal {
     ShortBuffer,
 }
 
-// The number of a refusal.
-pub fn number(r: Refusal) -> u8
-    ensures { result ≡ number_of r }
-{
-    match r {
-        Refusal::ShortDesk => 11,
-        Refusal::CaseSize => 1,
-        Refusal::Directory => 2,
-        Refusal::PartPlace(_) => 3,
-        Refusal::LatticeForm => 4,
-        Refusal::NoPartialOrder => 5,
-        Refusal::NoMeetOrJoin => 6,
-        Refusal::NotDistributive => 7,
-        Refusal::BadComplement => 8,
-        Refusal::BadModel(_) => 9,
-        Refusal::BadFormula(_) => 10,
-        Refusal::SpoiledDesk => 12,
-        Refusal::OutOfRange => 13,
-        Refusal::ShortBuffer => 14,
+impl Refusal {
+    // The number of a refusal.
+    pub fn number(self) -> u8
+        ensures { result ≡ number_of self }
+    {
+        match self {
+            Refusal::ShortDesk => 11,
+            Refusal::CaseSize => 1,
+            Refusal::Directory => 2,
+            Refusal::PartPlace(_) => 3,
+            Refusal::LatticeForm => 4,
+            Refusal::NoPartialOrder => 5,
+            Refusal::NoMeetOrJoin => 6,
+            Refusal::NotDistributive => 7,
+            Refusal::BadComplement => 8,
+            Refusal::BadModel(_) => 9,
+            Refusal::BadFormula(_) => 10,
+            Refusal::SpoiledDesk => 12,
+            Refusal::OutOfRange => 13,
+            Refusal::ShortBuffer => 14,
+        }
     }
-}
 
-// The part that a refusal names; 255 where it names none.
-pub fn part(r: Refusal) -> u8
-    ensures { result ≡ part_of r }
-{
-    match r {
-        Refusal::ShortDesk => 255,
-        Refusal::CaseSize => 255,
-        Refusal::Directory => 255,
-        Refusal::PartPlace(p) => p,
-        Refusal::LatticeForm => 0,
-        Refusal::NoPartialOrder => 0,
-        Refusal::NoMeetOrJoin => 0,
-        Refusal::NotDistributive => 0,
-        Refusal::BadComplement => 0,
-        Refusal::BadModel(p) => p,
-        Refusal::BadFormula(p) => p,
-        Refusal::SpoiledDesk => 255,
-        Refusal::OutOfRange => 255,
-        Refusal::ShortBuffer => 255,
+    // The part that a refusal names; 255 where it names none.
+    pub fn part(self) -> u8
+        ensures { result ≡ part_of self }
+    {
+        match self {
+            Refusal::ShortDesk => 255,
+            Refusal::CaseSize => 255,
+            Refusal::Directory => 255,
+            Refusal::PartPlace(p) => p,
+            Refusal::LatticeForm => 0,
+            Refusal::NoPartialOrder => 0,
+            Refusal::NoMeetOrJoin => 0,
+            Refusal::NotDistributive => 0,
+            Refusal::BadComplement => 0,
+            Refusal::BadModel(p) => p,
+            Refusal::BadFormula(p) => p,
+            Refusal::SpoiledDesk => 255,
+            Refusal::OutOfRange => 255,
+            Refusal::ShortBuffer => 255,
+        }
     }
 }

@@ -10,3 +10,4 @@ pub mod Monotone  -- theorem 2, the first part: values are monotone
 pub mod Irreducible  -- join-irreducible elements
 pub mod Descent  -- theorem 4, the general part: how often a descending sequence of tables changes
 pub mod Share  -- theorem 9: a share is the nearest whole number of per cent, and of two the even one
+pub mod Parts  -- a test of every element of a list, or of a part of it

@@ -2,7 +2,7 @@
 --   written_none, written_byte, written_turn: nothing, one byte more, and one turn more of a loop that writes f 0, f 1, ..
 --   written-length, written_at, written-before, written_after: the length, what is written, and what is unchanged
 --   written_all: what holds of every byte written and of every byte before, holds of every byte
---   Slice: what a loop that writes f 0, f 1, .. has written; slice_none, slice_more, slice_all: its begin, turn and end; slice_at: a byte of it
+--   Slice: what a loop that writes f 0, f 1, .. has written; slice_none, slice_more, slice_next, slice_all: its begin, turn and end; slice_at: a byte of it
 use Rattle.std.specs.Prelude.{ℕ, suc, ◌+◌, ◌-◌, ◌≤◌, ◌<◌, ◌≡◌, refl, Bool, true, false, List, [], ◌∷◌, ◌++◌, ltb, length, get_or, take, drop, set}
 use Rattle.std.proofs.Math.Path.{sym}
 use Rattle.std.proofs.Common.{ap, ap₂, ◌∙◌, append_assoc, append-nil, arith, ltb-true, ltb-false, length-append, length-drop, take-append-drop, length-take-le, drop-cons, get_or-append-add, get_or-take, get_or-drop}
@@ -92,6 +92,13 @@ module _ {at : ℕ} {f : ℕ → ℕ} {before : List ℕ} where
 
   pub slice_all : {i n : ℕ} {out : List ℕ} → Slice at f i before out → i ≤ n → n ≤ i → out ≡ written at (tab f n 0) before
   slice_all {i} {n} u p q = let e : i ≡ n = omega arith in rw e at u.out_is
+
+-- one turn more at the front of out
+pub slice_next : {f : ℕ → ℕ} {before : List ℕ} {n v : ℕ} {out : List ℕ} → Slice 0 f n before out → n < length before → v ≡ f n → Slice 0 f (n + 1) before (set out n v)
+slice_next {n = n} {v = v} u l e =
+    let z : 0 + n ≡ n = omega arith in
+    let w = slice_more {v = v} u (omega arith) e in
+    rw z at w
 
 -- what is written at a place is there
 pub slice_at : (at : ℕ) (f : ℕ → ℕ) (n : ℕ) (before : List ℕ) {out : List ℕ} → out ≡ written at (tab f n 0) before → at + n ≤ length before → (i : ℕ) → i < n → get_or out (at + i) 0 ≡ f i
