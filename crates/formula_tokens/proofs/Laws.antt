@@ -1,43 +1,92 @@
--- The token at a place, by the code that stands there. Rests on Tokens and Sizes.
---   at_code, at_pair, at_other: by a single code, by a pair of codes, by a code from 11 on
---   number_there, number_missing: a number that follows a code
-use Prim.Native.Nat.{ℕ, suc, ◌+◌, ◌≤◌, ◌<◌}
-use mathlib.Core.Path.{◌≡◌, refl, sym, ap, ◌∙◌}
-use mathlib.Core.Bool.{Bool}
-use mathlib.Core.Logic.{⊎_elim}
-use mathlib.Core.List.{List}
-use native.Mathlib.Nat.{eq-or-lt_of_le}
-use native.Mathlib.Numerals.{add-one}
+-- The token at the front of the bytes that are left, by the code that stands there. Rests on Tokens and Sizes.
+--   front: a law for each code, for a number that is missing and for no byte, by which the check proves `token_of`
+use Prim.Native.Nat.{ℕ, zero, suc, ◌≤◌, ◌<◌}
+use mathlib.Core.Path.{◌≡◌, refl}
+use mathlib.Core.Bool.{true, false}
+use mathlib.Core.List.{List, [], ◌∷◌}
 use native.Mathlib.Omega.{arith}
-use lib.Dec.{eqb}
-use lib.ListN.{length, get_or, drop, drop_of_length-le}
-use lib.Seq.{drop-cons}
+use lib.ListN.{length, get_or}
 use Rattle.formula_tokens.specs.declared.Token.{Token}
-use Rattle.formula_tokens.specs.declared.Token.TheVariants.{Broken}
-use Rattle.formula_tokens.specs.Tokens.{with_number, token_by_code, token_of, token_at}
+use Rattle.formula_tokens.specs.declared.Token.TheVariants.{Bottom, Top, Variable, Two, Next, Fixpoint, End, Broken}
+use Rattle.formula_tokens.specs.Tokens.{literal, with_number, token_by_code, token_of}
 use Rattle.formula_tokens.specs.Sizes.{code_other}
 
-module _ (f : List ℕ) (at : ℕ) (l : at < length f) where
-  pub at_code : (c : ℕ) → get_or f at 0 ≡ c → token_by_code c (drop (at + 1) f) ≡ token_at f at
-  unfolding token_of
-  at_code c q = rw (drop-cons f at 0 l, q, add-one)
+pub no_byte : (b : List ℕ) → length b < 1 → token_of b ≡ End
+unfolding token_of
+no_byte [] l = refl
+no_byte (c ∷ b) l = absurd (omega arith)
 
-  -- c or the next code, where a test for the code x decides
-  pub at_pair : (c x : ℕ) (t : Bool → List ℕ → Token)
-      → ((b : List ℕ) → t (eqb c x) b ≡ token_by_code c b) → ((b : List ℕ) → t (eqb (suc c) x) b ≡ token_by_code (suc c) b)
-      → c ≤ get_or f at 0 → get_or f at 0 ≤ suc c → t (eqb (get_or f at 0) x) (drop (at + 1) f) ≡ token_at f at
-  at_pair c x t u w y z =
-      ⊎_elim (λ e. ap (λ (i : ℕ). t (eqb i x) (drop (at + 1) f)) e ∙ w _ ∙ at_code (suc c) e)
-      (λ h. let e : get_or f at 0 ≡ c = omega arith in ap (λ (i : ℕ). t (eqb i x) (drop (at + 1) f)) e ∙ u _ ∙ at_code c e)
-      (eq-or-lt_of_le z)
+-- t is the token of a code that no number follows
+alone : (c : ℕ) (t : Token) → ((b : List ℕ) → token_by_code c b ≡ t) → (b : List ℕ) → 1 ≤ length b → get_or b 0 0 ≡ c → token_of b ≡ t
+unfolding token_of
+alone c t w [] l e = absurd (omega arith)
+alone c t w (x ∷ b) l e = rw e (w b)
 
-  pub at_other : 11 ≤ get_or f at 0 → Broken ≡ token_at f at
-  at_other h = sym (code_other (get_or f at 0) (drop (at + 1) f) h) ∙ at_code (get_or f at 0) refl
+pub bottom : (b : List ℕ) → 1 ≤ length b → get_or b 0 0 ≡ 0 → token_of b ≡ Bottom
+unfolding token_by_code
+bottom = alone 0 Bottom (λ b. refl)
 
--- 'followed by its number': it is there, or missing
-module _ (f : List ℕ) (at : ℕ) (t : ℕ → Token) where
-  pub number_there : at < length f → t (get_or f at 0) ≡ with_number t (drop at f)
-  number_there l = rw (drop-cons f at 0 l)
+pub top : (b : List ℕ) → 1 ≤ length b → get_or b 0 0 ≡ 1 → token_of b ≡ Top
+unfolding token_by_code
+top = alone 1 Top (λ b. refl)
 
-  pub number_missing : length f ≤ at → Broken ≡ with_number t (drop at f)
-  number_missing l = rw (drop_of_length-le f l)
+pub or : (b : List ℕ) → 1 ≤ length b → get_or b 0 0 ≡ 5 → token_of b ≡ Two true
+unfolding token_by_code
+or = alone 5 (Two true) (λ b. refl)
+
+pub and : (b : List ℕ) → 1 ≤ length b → get_or b 0 0 ≡ 6 → token_of b ≡ Two false
+unfolding token_by_code
+and = alone 6 (Two false) (λ b. refl)
+
+pub AX : (b : List ℕ) → 1 ≤ length b → get_or b 0 0 ≡ 7 → token_of b ≡ Next true
+unfolding token_by_code
+AX = alone 7 (Next true) (λ b. refl)
+
+pub EX : (b : List ℕ) → 1 ≤ length b → get_or b 0 0 ≡ 8 → token_of b ≡ Next false
+unfolding token_by_code
+EX = alone 8 (Next false) (λ b. refl)
+
+pub mu : (b : List ℕ) → 1 ≤ length b → get_or b 0 0 ≡ 9 → token_of b ≡ Fixpoint true
+unfolding token_by_code
+mu = alone 9 (Fixpoint true) (λ b. refl)
+
+pub nu : (b : List ℕ) → 1 ≤ length b → get_or b 0 0 ≡ 10 → token_of b ≡ Fixpoint false
+unfolding token_by_code
+nu = alone 10 (Fixpoint false) (λ b. refl)
+
+-- t gives the token of a code that a number follows
+numbered : (c : ℕ) (t : ℕ → Token) → ((b : List ℕ) → token_by_code c b ≡ with_number t b) → (b : List ℕ) → 2 ≤ length b → get_or b 0 0 ≡ c → token_of b ≡ t (get_or b 1 0)
+unfolding token_of
+numbered c t w [] l e = absurd (omega arith)
+numbered c t w (x ∷ []) l e = absurd (omega arith)
+numbered c t w (x ∷ (p ∷ b)) l e = rw e (w (p ∷ b))
+
+pub prop : (b : List ℕ) → 2 ≤ length b → get_or b 0 0 ≡ 2 → token_of b ≡ literal false (get_or b 1 0)
+unfolding token_by_code
+prop = numbered 2 (literal false) (λ b. refl)
+
+pub negated : (b : List ℕ) → 2 ≤ length b → get_or b 0 0 ≡ 3 → token_of b ≡ literal true (get_or b 1 0)
+unfolding token_by_code
+negated = numbered 3 (literal true) (λ b. refl)
+
+pub var : (b : List ℕ) → 2 ≤ length b → get_or b 0 0 ≡ 4 → token_of b ≡ Variable (get_or b 1 0)
+unfolding token_by_code
+var = numbered 4 (λ v. Variable v) (λ b. refl)
+
+pub missing : (b : List ℕ) → length b < 2 → 2 ≤ get_or b 0 0 → get_or b 0 0 ≤ 4 → token_of b ≡ Broken
+unfolding token_of token_by_code
+missing [] l x y = absurd (omega arith)
+missing (zero ∷ []) l x y = absurd (omega arith)
+missing (suc zero ∷ []) l x y = absurd (omega arith)
+missing (suc (suc zero) ∷ []) l x y = refl
+missing (suc (suc (suc zero)) ∷ []) l x y = refl
+missing (suc (suc (suc (suc zero))) ∷ []) l x y = refl
+missing (suc (suc (suc (suc (suc n)))) ∷ []) l x y = absurd (omega arith)
+missing (c ∷ (p ∷ b)) l x y = absurd (omega arith)
+
+pub past : (b : List ℕ) → 1 ≤ length b → 11 ≤ get_or b 0 0 → token_of b ≡ Broken
+unfolding token_of
+past [] l x = absurd (omega arith)
+past (c ∷ b) l x = code_other c b x
+
+pub ruleset front = (no_byte, bottom, top, prop, negated, var, or, and, AX, EX, mu, nu, missing, past)

@@ -3,7 +3,7 @@
 #![tactic(auto)]
 
 ghost use Rattle.std.specs.Prelude.{◌≡◌};
-ghost use Rattle.formula_tokens.specs.Tokens.{token_at, token_end, token_size};
+ghost use Rattle.formula_tokens.specs.Tokens.{token_of, token_at, token_end, token_size};
 
 use model::Proposition;
 
@@ -27,64 +27,70 @@ pub enum Token {
     Broken,
 }
 
-// The token at a place.
-pub fn token_at(f: &[u8], at: usize) -> Token
-    ensures { result ≡ token_at f.now at }
+// The token at the front of the bytes that are left.
+#[tactic(auto, using(crate::proofs::Laws::front))]
+fn token_of(left: &[u8]) -> Token
+    ensures { result ≡ token_of left.now }
 {
-    if at < f.len() {
-        let code = f[at];
-        let next = at + 1;
-        match code {
-            0 => Token::Bottom,
-            1 => Token::Top,
-            2 | 3 => {
-                if next < f.len() {
-                    Token::Literal {
-                        p: Proposition(f[next]),
-                        negated: code == 3,
-                    }
-                } else {
-                    Token::Broken
-                }
-            }
-            4 => {
-                if next < f.len() {
-                    Token::Variable(f[next])
-                } else {
-                    Token::Broken
-                }
-            }
-            5 | 6 => Token::Two { or: code == 5 },
-            7 | 8 => Token::Next { all: code == 7 },
-            9 | 10 => Token::Fixpoint { least: code == 9 },
-            11..=255 => Token::Broken,
-        }
-    } else {
-        Token::End
+    match *left {
+        [] => Token::End,
+        [0, ..] => Token::Bottom,
+        [1, ..] => Token::Top,
+        [2, p, ..] => Token::Literal {
+            p: Proposition(p),
+            negated: false,
+        },
+        [3, p, ..] => Token::Literal {
+            p: Proposition(p),
+            negated: true,
+        },
+        [4, v, ..] => Token::Variable(v),
+        [5, ..] => Token::Two { or: true },
+        [6, ..] => Token::Two { or: false },
+        [7, ..] => Token::Next { all: true },
+        [8, ..] => Token::Next { all: false },
+        [9, ..] => Token::Fixpoint { least: true },
+        [10, ..] => Token::Fixpoint { least: false },
+        // The number that belongs to the code is missing.
+        [2..=4] => Token::Broken,
+        [11..=255, ..] => Token::Broken,
     }
 }
 
-// How many bytes a token has: its code, and its number if it has one. The end and a broken place have none.
-#[tactic(auto, unfolding(crate::specs::Tokens::token_size))]
-pub fn size(t: Token) -> usize
-    ensures { result ≡ token_size t }
+// The token at a place; past the part's end, the end.
+#[tactic(auto, using(crate::specs::Sizes::at_end))]
+pub fn token_at(f: &[u8], at: usize) -> Token
+    ensures { result ≡ token_at f.now at }
 {
-    match t {
-        Token::Bottom => 1,
-        Token::Top => 1,
-        Token::Literal { p: _, negated: _ } => 2,
-        Token::Variable(_) => 2,
-        Token::Two { or: _ } => 1,
-        Token::Next { all: _ } => 1,
-        Token::Fixpoint { least: _ } => 1,
-        Token::End => 0,
-        Token::Broken => 0,
+    match f.get(at..) {
+        Some(left) => token_of(left),
+        None => Token::End,
+    }
+}
+
+impl Token {
+    // How many bytes the token has: its code, and its number if it has one. The end and a broken place have none.
+    #[tactic(auto, unfolding(crate::specs::Tokens::token_size))]
+    pub fn size(self) -> usize
+        ensures { result ≡ token_size self }
+    {
+        match self {
+            Token::Literal { .. } => 2,
+            Token::Variable(_) => 2,
+            Token::End | Token::Broken => 0,
+            Token::Bottom
+            | Token::Top
+            | Token::Two { .. }
+            | Token::Next { .. }
+            | Token::Fixpoint { .. } => 1,
+        }
     }
 }
 
 // Where the token at a place ends and the next one begins; the end of the part and a broken place are not passed.
+#[tactic(auto, using(crate::specs::Sizes::end_most))]
 pub fn token_end(f: &[u8], at: usize) -> usize
     ensures { result ≡ token_end f.now at }
 {
-    at + size(token_at(f, at))
+    at + token_at(f, at).size()
 }
