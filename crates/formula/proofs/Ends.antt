@@ -7,7 +7,7 @@
 --   length_before: how many bytes stand before a place
 use Prim.Native.Nat.{ℕ, suc, max, ◌+◌, ◌-◌, ◌≤◌}
 use mathlib.Core.Path.{◌≡◌, refl, sym, ap, ◌∙◌}
-use mathlib.Core.Bool.{Bool, true, false, not, ◌&&◌, ◌||◌, and-true, or-false, or-true}
+use mathlib.Core.Bool.{Bool, true, false, not, ◌&&◌, and-true, or-false, or-true}
 use mathlib.Core.List.{List, ◌++◌}
 use native.Mathlib.Nat.{add-zero}
 use native.Mathlib.Numerals.{add-one}
@@ -16,6 +16,7 @@ use lib.Dec.{ltb, leb}
 use lib.ListN.{length, drop, length-append, length-drop}
 use lib.Seq.{drop-drop, drop_at}
 use borrow.Author.Tests.{le-leb, lt-leb, leb-true}
+use Rattle.std.specs.Prelude.{Option, Some, None}
 use Rattle.theory.specs.Formula.{Formula, bottom, top, prop, negated, var, or, and, AX, EX, mu, nu, closed_under, over_props, nested_binders, nested_AX, fixpoint_free, universal}
 use Rattle.theory.specs.TestLaws.{and_l, and_r, and_in, and_false, not_and, bool_same}
 use Rattle.formula.specs.Bytes.{bytes_of, Parsed, parsed, unparsed, unary, binary, parse}
@@ -24,8 +25,6 @@ use Rattle.formula.specs.Answer.{facts_of}
 use Rattle.formula.specs.Check.{allowed_under, end_if, end_of, two_facts, next_facts, fixpoint_facts, map_facts}
 use Rattle.formula.specs.declared.FormulaFacts.{FormulaFacts}
 use Rattle.formula.specs.declared.NodeRead.{NodeRead}
-use Rattle.formula.specs.declared.NodeEnd.{NodeEnd}
-use Rattle.formula.specs.declared.NodeEnd.TheVariants.{At, Broken}
 
 -- ---- the rules under binders, by the formula's shape
 
@@ -145,19 +144,19 @@ pub unary_end : (k d : ℕ) (g : Formula → Formula) (h : FormulaFacts → Form
 unary_end k d g h d' n w v unparsed = refl
 unary_end k d g h d' n w v (parsed a t) = rw (w a, v a) (map_end h (allowed_under k d' a) (n - length t) (facts_of a))
 
-unary-broken : (k d : ℕ) (g : Formula → Formula) (n : ℕ) → ((a : Formula) → allowed_under k d (g a) ≡ false) → (p : Parsed) → Broken ≡ end_of k d n (unary g p)
+unary-broken : (k d : ℕ) (g : Formula → Formula) (n : ℕ) → ((a : Formula) → allowed_under k d (g a) ≡ false) → (p : Parsed) → None ≡ end_of k d n (unary g p)
 unary-broken k d g n w unparsed = refl
 unary-broken k d g n w (parsed a t) = rw (w a)
 
-pub never_at : (i : NodeRead) → At i ≡ Broken → ⊥
+pub never_at : (i : NodeRead) → Some i ≡ None → ⊥
 never_at i e = let z : ◌≡◌ {A = ℕ} 0 1 = cc in omega arith
 
 -- an answer that is given under a test
-pub cond_at : (t : Bool) (i : NodeRead) (j : ℕ) (x : FormulaFacts) → At i ≡ end_if t j x → (t ≡ true) × (i.end ≡ j) × (i.facts ≡ x)
+pub cond_at : (t : Bool) (i : NodeRead) (j : ℕ) (x : FormulaFacts) → Some i ≡ end_if t j x → (t ≡ true) × (i.end ≡ j) × (i.facts ≡ x)
 cond_at true i j x e = let s : i ≡ record { end = j; facts = x } = cc in (refl, ap (λ (y : NodeRead). y.end) s, ap (λ (y : NodeRead). y.facts) s)
 cond_at false i j x e = absurd (never_at i e)
 
-pub cond-broken : (t : Bool) (j : ℕ) (x : FormulaFacts) → Broken ≡ end_if t j x → t ≡ false
+pub cond-broken : (t : Bool) (j : ℕ) (x : FormulaFacts) → None ≡ end_if t j x → t ≡ false
 cond-broken true j x e = absurd (never_at (record { end = j; facts = x }) (sym e))
 cond-broken false j x e = refl
 
@@ -175,7 +174,7 @@ length_before b j l = omega (arith, length-drop j b)
 
 module _ (b : List ℕ) (k d n j : ℕ) (l : j ≤ length b) (g : Formula → Formula → Formula) (w : (a c : Formula) → allowed_under k d (g a c) ≡ (allowed_under k d a && allowed_under k d c)) where
   -- a formula of two parts ends where its second part does, which begins where the first ends
-  pub binary_end : ((a c : Formula) → facts_of (g a c) ≡ two_facts (facts_of a) (facts_of c)) → (i : NodeRead) (r : NodeEnd) (p : Parsed) → parse n (drop j b) ≡ p → At i ≡ end_of k d (length b) p → r ≡ end_of k d (length b) (parse n (drop i.end b))
+  pub binary_end : ((a c : Formula) → facts_of (g a c) ≡ two_facts (facts_of a) (facts_of c)) → (i : NodeRead) (r : Option NodeRead) (p : Parsed) → parse n (drop j b) ≡ p → Some i ≡ end_of k d (length b) p → r ≡ end_of k d (length b) (parse n (drop i.end b))
       → map_facts (two_facts i.facts) r ≡ end_of k d (length b) (binary g (parse n) p)
   binary_end v i r unparsed q e h = absurd (never_at i e)
   binary_end v i r (parsed a t) q e h =
@@ -184,6 +183,6 @@ module _ (b : List ℕ) (k d n j : ℕ) (l : j ≤ length b) (g : Formula → Fo
       let z : (c : Formula) → facts_of (g a c) ≡ two_facts i.facts (facts_of c) = λ c. v a c ∙ rw s.2 in
       rw (h, u) (unary_end k d (g a) (two_facts i.facts) d (length b) (λ c. w a c ∙ rw s.0) z (parse n t))
 
-  pub binary-broken : (p : Parsed) → Broken ≡ end_of k d (length b) p → Broken ≡ end_of k d (length b) (binary g (parse n) p)
+  pub binary-broken : (p : Parsed) → None ≡ end_of k d (length b) p → None ≡ end_of k d (length b) (binary g (parse n) p)
   binary-broken unparsed e = refl
   binary-broken (parsed a t) e = unary-broken k d (g a) (length b) (λ c. w a c ∙ rw (cond-broken (allowed_under k d a) (length b - length t) (facts_of a) e)) (parse n t)

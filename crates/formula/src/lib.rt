@@ -1,16 +1,16 @@
 // Formula parts: whether the rules of the formula are obeyed, and the facts of the formula, in one pass over the tokens (formula_tokens).
-//   two_of, next_of, fixpoint_of: what is known of a formula, from what is known of the formulas directly within it
+//   two_of, next_of, fixpoint_of: the facts of a formula, from those of the formulas directly within it
 #![tactic(auto)]
 
-ghost use Rattle.std.specs.Prelude.{◌≡◌, max, ◌≤◌, ◌<◌, true, ltb, length};
+ghost use Rattle.std.specs.Prelude.{◌≡◌, ◌≤◌, ◌<◌, ltb, length};
 ghost use Rattle.formula.specs.Bytes.{formula_reading};
 ghost use Rattle.formula.specs.Answer.{checked};
-ghost use Rattle.formula.specs.Check.{leaf_facts, two_facts, next_facts, fixpoint_facts, nesting_of, end_if, map_facts, NodeIs};
+ghost use Rattle.formula.specs.Check.{leaf_facts, two_facts, next_facts, fixpoint_facts, end_if, NodeIs};
 
-use formula_tokens::{Token, size, token_at};
+use formula_tokens::{Token, token_at};
 
 // What is reported of a formula as written. Fixpoints are not unrolled.
-#[derive(Clone, Copy)]
+#[derive(Clone, Copy, PartialEq, Eq)]
 pub struct FormulaFacts {
     // The deepest nesting of AX: at most 254, a part having at most 255 bytes.
     pub nesting: u8,
@@ -20,14 +20,6 @@ pub struct FormulaFacts {
     pub ex: bool,
 }
 
-// What the check of a formula part answers.
-#[derive(Clone, Copy)]
-pub enum FormulaCheck {
-    Accepted(FormulaFacts),
-    // A formula rule is broken: refusal 10.
-    Refused,
-}
-
 // What is known of a formula inside a part that keeps the rules: where it ends, and its facts.
 #[derive(Clone, Copy)]
 struct NodeRead {
@@ -35,153 +27,103 @@ struct NodeRead {
     facts: FormulaFacts,
 }
 
-// That, or that a rule is broken.
-#[derive(Clone, Copy)]
-enum NodeEnd {
-    At(NodeRead),
-    Broken,
-}
-
 // A formula of one token.
-fn leaf(end: usize) -> NodeEnd
-    ensures { result ≡ end_if true end leaf_facts }
+fn leaf(end: usize) -> NodeRead
+    ensures { result ≡ record { end = end; facts = leaf_facts } }
 {
-    NodeEnd::At(NodeRead {
-        end: end,
+    NodeRead {
+        end,
         facts: FormulaFacts {
             nesting: 0,
             fixpoint: false,
             ex: false,
         },
-    })
+    }
 }
 
 // A number that has to be below a limit: the formula ends after it.
-fn number_below(number: u8, limit: u8, end: usize) -> NodeEnd
+fn number_below(number: u8, limit: u8, end: usize) -> Option<NodeRead>
     ensures { result ≡ end_if (ltb number limit) end leaf_facts }
 {
-    if number < limit {
-        leaf(end)
-    } else {
-        NodeEnd::Broken
-    }
+    (number < limit).then_some(leaf(end))
 }
 
-// The greater of two numbers.
-fn greater(a: u8, b: u8) -> u8
-    ensures { result ≡ max a b }
+// Or and and.
+fn two_of(first: FormulaFacts, second: FormulaFacts) -> FormulaFacts
+    ensures { result ≡ two_facts first second }
 {
-    if a < b {
-        return b;
+    FormulaFacts {
+        nesting: first.nesting.max(second.nesting),
+        fixpoint: first.fixpoint | second.fixpoint,
+        ex: first.ex | second.ex,
     }
-    a
 }
 
-// Or and and, from the facts of the first formula within and from what is known of the second.
-fn two_of(first: FormulaFacts, second: NodeEnd) -> NodeEnd
-    ensures { result ≡ map_facts (two_facts first) second }
+// AX, else EX.
+fn next_of(all: bool, within: FormulaFacts) -> FormulaFacts
+    requires { within.nesting < 255 }
+    ensures { result ≡ next_facts all within }
 {
-    match second {
-        NodeEnd::At(x) => NodeEnd::At(NodeRead {
-            end: x.end,
-            facts: FormulaFacts {
-                nesting: greater(first.nesting, x.facts.nesting),
-                fixpoint: first.fixpoint | x.facts.fixpoint,
-                ex: first.ex | x.facts.ex,
-            },
-        }),
-        NodeEnd::Broken => NodeEnd::Broken,
+    FormulaFacts {
+        nesting: within.nesting + u8::from(all),
+        ex: within.ex | !all,
+        ..within
     }
 }
 
-// AX, else EX, from what is known of the formula within.
-fn next_of(all: bool, within: NodeEnd) -> NodeEnd
-    requires { nesting_of within < 255 }
-    ensures { result ≡ map_facts (next_facts all) within }
+// Either fixpoint.
+fn fixpoint_of(within: FormulaFacts) -> FormulaFacts
+    ensures { result ≡ fixpoint_facts within }
 {
-    match within {
-        NodeEnd::At(x) => NodeEnd::At(NodeRead {
-            end: x.end,
-            facts: FormulaFacts {
-                nesting: x.facts.nesting + all as u8,
-                fixpoint: x.facts.fixpoint,
-                ex: x.facts.ex | !all,
-            },
-        }),
-        NodeEnd::Broken => NodeEnd::Broken,
+    FormulaFacts {
+        fixpoint: true,
+        ..within
     }
 }
 
-// Either fixpoint, from what is known of the formula within.
-fn fixpoint_of(within: NodeEnd) -> NodeEnd
-    ensures { result ≡ map_facts fixpoint_facts within }
-{
-    match within {
-        NodeEnd::At(x) => NodeEnd::At(NodeRead {
-            end: x.end,
-            facts: FormulaFacts {
-                nesting: x.facts.nesting,
-                fixpoint: true,
-                ex: x.facts.ex,
-            },
-        }),
-        NodeEnd::Broken => NodeEnd::Broken,
-    }
-}
-
-// The formula that begins at a position, with k propositions, under as many binders as depth says.
-fn node(f: &[u8], at: usize, k: u8, depth: u8) -> NodeEnd
+// The formula that begins at a position, with k propositions, under as many binders as depth says; none where a rule is broken.
+#[tactic(auto, using(formula_tokens::specs::Sizes::end_most))]
+fn node(f: &[u8], at: usize, k: u8, depth: u8) -> Option<NodeRead>
     requires { (depth ≤ 3) × (length f.now ≤ 255) }
     ensures { NodeIs f.now at k depth result }
 {
     let token = token_at(f, at);
-    let next = at + size(token);
+    let next = at + token.size();
     match token {
-        Token::Bottom => leaf(next),
-        Token::Top => leaf(next),
-        Token::Literal { p, negated: _ } => number_below(p.0, k, next),
+        Token::Bottom | Token::Top => Some(leaf(next)),
+        Token::Literal { p, .. } => number_below(p.0, k, next),
         Token::Variable(v) => number_below(v, depth, next),
-        Token::Two { or: _ } => {
-            let first = node(f, next, k, depth);
-            match first {
-                NodeEnd::At(x) => {
-                    let facts = x.facts;
-                    two_of(facts, node(f, x.end, k, depth))
-                }
-                NodeEnd::Broken => NodeEnd::Broken,
-            }
+        Token::Two { .. } => {
+            let first = node(f, next, k, depth)?;
+            let second = node(f, first.end, k, depth)?;
+            let facts = two_of(first.facts, second.facts);
+            Some(NodeRead { facts, ..second })
         }
-        Token::Next { all } => next_of(all, node(f, next, k, depth)),
-        Token::Fixpoint { least: _ } => {
-            if depth < 3 {
-                fixpoint_of(node(f, next, k, depth + 1))
-            } else {
-                NodeEnd::Broken
-            }
+        Token::Next { all } => {
+            let within = node(f, next, k, depth)?;
+            let facts = next_of(all, within.facts);
+            Some(NodeRead { facts, ..within })
         }
-        Token::End => NodeEnd::Broken,
-        Token::Broken => NodeEnd::Broken,
+        Token::Fixpoint { .. } => {
+            if depth >= 3 {
+                return None;
+            }
+            let within = node(f, next, k, depth + 1)?;
+            let facts = fixpoint_of(within.facts);
+            Some(NodeRead { facts, ..within })
+        }
+        Token::End | Token::Broken => None,
     }
 }
 
-// Whether a part is a formula over k propositions that keeps every rule, and its facts.
-pub fn check(part: &[u8], k: u8) -> FormulaCheck
+// The facts of a part that is a formula over k propositions and keeps every rule; none where a rule is broken, refusal 10.
+#[tactic(auto, using(crate::proofs::Laws::whole_part))]
+pub fn check(part: &[u8], k: u8) -> Option<FormulaFacts>
     ensures { result ≡ checked (formula_reading k part.now) }
 {
-    if part.len() <= 255 {
-        let whole = node(part, 0, k, 0);
-        match whole {
-            NodeEnd::At(x) => {
-                if x.end == part.len() {
-                    let facts = x.facts;
-                    FormulaCheck::Accepted(facts)
-                } else {
-                    FormulaCheck::Refused
-                }
-            }
-            NodeEnd::Broken => FormulaCheck::Refused,
-        }
-    } else {
-        FormulaCheck::Refused
+    if part.len() > 255 {
+        return None;
     }
+    let whole = node(part, 0, k, 0)?;
+    (whole.end == part.len()).then_some(whole.facts)
 }
