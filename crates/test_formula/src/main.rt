@@ -2,19 +2,17 @@
 // propositions.
 #![tactic(auto)]
 
-use formula::FormulaCheck;
 use std::io;
 use test_printing::say;
 
 fn show(rt: &impl Print, name: &[u8], part: &[u8]) -> io::Result<()> {
     say(rt, name)?;
-    let answer = formula::check(part, 2);
-    match answer {
-        FormulaCheck::Accepted(x) => {
+    match formula::check(part, 2) {
+        Some(x) => {
             say(rt, b": accepted")?;
             test_printing::facts(rt, x.nesting, x.fixpoint, x.ex)?;
         }
-        FormulaCheck::Refused => say(rt, b": refused 10")?,
+        None => say(rt, b": refused 10")?,
     }
     say(rt, b"\n")
 }

@@ -1,34 +1,23 @@
 // A reader goes through some formula parts: what stands at the first three places of each, a line for each part.
 #![tactic(auto)]
 
-ghost use Rattle.std.specs.Prelude.{◌≡◌, [], ◌∷◌};
+ghost use Rattle.std.specs.Prelude.{◌≡◌};
 ghost use Rattle.formula_reader.specs.Through.{tokens_from};
 
-use formula_reader::{advance, new, peek};
+use formula_reader::FormulaReader;
 use formula_tokens::Token;
 use std::io;
 use test_printing::{item, say};
 
-// What stands at three places, one after the other.
-#[derive(Clone, Copy)]
-struct Found {
-    first: Token,
-    second: Token,
-    third: Token,
-}
-
-// The one function that holds a reader: it is made for the part, and moved on twice.
-fn three(part: &[u8]) -> Found
-    ensures { (result.first ∷ result.second ∷ result.third ∷ []) ≡ tokens_from 3 part.now 0 }
+// What stands at three places, one after the other. The one function that holds a reader: it is made for the part, and moved on twice.
+#[tactic(auto, unfolding(formula_reader::specs::Through::tokens_from))]
+fn three(part: &[u8]) -> [Token; 3]
+    ensures { result ≡ tokens_from 3 part.now 0 }
 {
-    let a = new(part);
-    let b = advance(a);
-    let c = advance(b);
-    Found {
-        first: peek(a),
-        second: peek(b),
-        third: peek(c),
-    }
+    let a = FormulaReader::new(part);
+    let b = a.advance();
+    let c = b.advance();
+    [a.peek(), b.peek(), c.peek()]
 }
 
 fn say_one(rt: &impl Print, yes: bool, text: &[u8], other: &[u8]) -> io::Result<()> {
@@ -54,10 +43,7 @@ fn say_token(rt: &impl Print, t: Token) -> io::Result<()> {
 
 fn show(rt: &impl Print, name: &[u8], part: &[u8]) -> io::Result<()> {
     say(rt, name)?;
-    let found = three(part);
-    let first = found.first;
-    let second = found.second;
-    let third = found.third;
+    let [first, second, third] = three(part);
     say_token(rt, first)?;
     say(rt, b",")?;
     say_token(rt, second)?;

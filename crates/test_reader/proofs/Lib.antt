@@ -1,2 +1,0 @@
--- What the proof of `three` rests on.
-mod Calls
