@@ -81,7 +81,8 @@ fn fixpoint_of(within: FormulaFacts) -> FormulaFacts
     }
 }
 
-// The formula that begins at a position, with k propositions, under as many binders as depth says; none where a rule is broken.
+// The formula that begins at a position, with k propositions, under as many binders as depth says; none where a rule is broken. It takes the
+// part and a place, as `token_at` does: `NodeIs` says what is answered at a place.
 #[tactic(auto, using(formula_tokens::specs::Sizes::end_most))]
 fn node(f: &[u8], at: usize, k: u8, depth: u8) -> Option<NodeRead>
     requires { (depth ≤ 3) × (length f.now ≤ 255) }
