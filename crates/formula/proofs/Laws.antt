@@ -164,7 +164,7 @@ module _ (b : List ℕ) (k : ℕ) (l : length b ≤ 255) where
   unfolding formula_reading
   reading = rw (le-leb (length b) 255 l)
 
-  -- a formula that keeps the rules is the part's if it ends with the part; none
+  -- a formula that keeps the rules: it is accepted where it ends with the part; and none
   pub ended : (e : NodeRead) → NodeIs b 0 k 0 (Some e) → then_some (eqb e.end (length b)) e.facts ≡ checked (formula_reading k b)
   ended e h = rw reading (go (parse (length b) b) refl (h.is (length b) (omega arith)))
     where
