@@ -1,5 +1,5 @@
 use Rattle.std.proofs.Common.{length, ◌-◌, ◌≤◌}
-use Rattle.test_printing.proofs.read_full.Given as goal
+use Rattle.input.proofs.read_full.Given as goal
 
 -- no more is counted than there is room for
 abbrev pub invariant-loop-count : goal.invariant-loop-count
