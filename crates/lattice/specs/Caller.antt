@@ -3,7 +3,7 @@
 --   codes-ops, codes-coded: the codes of an accepted part hold its operations, and are as `elements` asks
 --   AcceptedPart: the part is accepted, size, top, bottom and codes are its own, no refusal applies, and the laws hold
 --   when_accepted, when_refused: after each answer
-use Rattle.std.specs.Prelude.{ℕ, ◌≡◌, refl, List}
+use Rattle.std.specs.Prelude.{ℕ, ◌≡◌, refl, List, Ok, Err}
 use Rattle.std.proofs.Common.{arith}
 use Rattle.theory.specs.Lattice.{Laws}
 use Rattle.theory.specs.Part.{LatticePart, ops_of}
@@ -14,7 +14,6 @@ use Rattle.lattice_order.specs.Sound.{LatticeSound}
 use Rattle.lattice_order.proofs.Sound.{laws_of}
 use Rattle.lattice_codes.specs.Accepting.{DistributiveLattice}
 use Rattle.lattice_codes.proofs.Held.{held-ops, held-coded}
-use Rattle.lattice.specs.declared.LatticeCheck.TheVariants.{Refused, Accepted}
 use Rattle.lattice.specs.Reading.{LatticeReading, refused, accepted, lattice_of, lattice_reading}
 use Rattle.lattice.specs.Answer.{top_and_bottom, CodesOf, Answered}
 use Rattle.lattice.specs.Accepted.{accepted_sound}
@@ -39,10 +38,10 @@ pub record AcceptedPart (b : List ℕ) (l : Lattice) (w : List ℕ) : Type 0 whe
   pub sound : LatticeSound (lattice_of b)
   pub laws : Laws (ops_in w l)
 
-pub when_accepted : (b : List ℕ) (l : Lattice) (w : List ℕ) → Answered (lattice_reading b) (Accepted l) w → AcceptedPart b l w
+pub when_accepted : (b : List ℕ) (l : Lattice) (w : List ℕ) → Answered (lattice_reading b) (Ok l) w → AcceptedPart b l w
 when_accepted b l w h = go (lattice_reading b) refl h
   where
-    go : (R : LatticeReading) → lattice_reading b ≡ R → Answered R (Accepted l) w → AcceptedPart b l w
+    go : (R : LatticeReading) → lattice_reading b ≡ R → Answered R (Ok l) w → AcceptedPart b l w
     go (refused f) e v = absurd (let h = v.answer in let z : ◌≡◌ {A = ℕ} 0 1 = cc in omega arith)
     go (accepted P) e v =
         let s = accepted_sound b P e in
@@ -61,9 +60,9 @@ when_accepted b l w h = go (lattice_reading b) refl h
         }
 
 -- after the answer that it is refused
-pub when_refused : (b : List ℕ) (f : Refusal) (w : List ℕ) → Answered (lattice_reading b) (Refused f) w → lattice_reading b ≡ refused f
+pub when_refused : (b : List ℕ) (f : Refusal) (w : List ℕ) → Answered (lattice_reading b) (Err f) w → lattice_reading b ≡ refused f
 when_refused b f w h = go (lattice_reading b) h
   where
-    go : (R : LatticeReading) → Answered R (Refused f) w → R ≡ refused f
+    go : (R : LatticeReading) → Answered R (Err f) w → R ≡ refused f
     go (refused g) v = let h = v.answer in cc
     go (accepted P) v = absurd (let h = v.answer in let z : ◌≡◌ {A = ℕ} 0 1 = cc in omega arith)

@@ -4,8 +4,8 @@
 --   involutive, antitone_pair, antitone: the rules of the complement, as the code tests them
 --   LatticeWords: a distributive lattice, its codes and the word of its irreducible elements
 --   answered_refused, answered-involutive, answered-antitone, answered-accepted: the answers
-use Rattle.std.specs.Prelude.{ℕ, ◌+◌, ◌≤◌, ◌<◌, ◌≡◌, refl, Bool, true, false, cond, ◌&&◌, List, ltb, eqb, get_or}
-use Rattle.std.proofs.Common.{sym, ap, ◌∙◌, arith, lt-ltb, le-ltb, ltb-true}
+use Rattle.std.specs.Prelude.{ℕ, ◌+◌, ◌≤◌, ◌<◌, ◌≡◌, refl, Bool, true, false, cond, ◌&&◌, List, ltb, eqb, get_or, Option, Some, Ok, Err, IsSome}
+use Rattle.std.proofs.Common.{sym, ap, ◌∙◌, arith, lt-ltb, le-ltb}
 use Rattle.theory.specs.Lists.{Filled}
 use Rattle.theory.specs.Part.{LatticePart, top_of, bot_of, element}
 use Rattle.theory.specs.Test.{all_below, ◌⇒◌}
@@ -16,7 +16,6 @@ use Rattle.refusal.specs.declared.Refusal.TheVariants.{BadComplement}
 use Rattle.lattice_order.specs.Tests.{all2, complement_rules}
 use Rattle.lattice_order.specs.Searched.{element_lt, element_cong}
 use Rattle.lattice_order.specs.Ordered.{Formed}
-use Rattle.lattice.specs.declared.LatticeCheck.TheVariants.{Refused, Accepted}
 use Rattle.lattice.specs.Reading.{LatticeReading, refused, accepted, require, part_reading}
 use Rattle.lattice.specs.Answer.{top_and_bottom}
 use Rattle.elements.specs.Words.{within}
@@ -86,7 +85,7 @@ pub record LatticeWords (P : LatticePart) (codes : List ℕ) (mask : ℕ) : Type
 
 -- ---- the answers
 
-pub answered_refused : {R : LatticeReading} (f : Refusal) (w : List ℕ) → R ≡ refused f → Answered R (Refused f) w
+pub answered_refused : {R : LatticeReading} (f : Refusal) (w : List ℕ) → R ≡ refused f → Answered R (Err f) w
 answered_refused f w e =
     rw e (record {
       answer = refl;
@@ -102,9 +101,16 @@ module _ {P : LatticePart} {codes : List ℕ} {mask : ℕ} (f : Formed P) (L : L
   unfolding require
   rules_accepted e = reading_lattice P L.lattice ∙ rw e
 
-  pub answered-involutive : (w : List ℕ) → all_below P.size (involutive P) ≡ false → Answered (part_reading P) (Refused BadComplement) w
+  pub answered-involutive : (w : List ℕ) → all_below P.size (involutive P) ≡ false → Answered (part_reading P) (Err BadComplement) w
   unfolding complement_rules
   answered-involutive w e = answered_refused BadComplement w (rules_refused (ap (λ (t : Bool). t && all2 P.size (λ a b. P.order a b ⇒ P.order (P.complement b) (P.complement a))) e))
+
+  -- the top and the bottom are found
+  pub top_some : {r : Option ℕ} → FoundAt codes P.size mask r → IsSome r
+  top_some t = sym t.word ∙ is_word_cong P.size (words_in codes) (code_of P) L.codes_are.at mask ∙ ap (is_word P.size (code_of P)) L.mask_is ∙ top-is_word P f L.lattice
+
+  pub bottom_some : {r : Option ℕ} → FoundAt codes P.size 0 r → IsSome r
+  bottom_some b = sym b.word ∙ is_word_cong P.size (words_in codes) (code_of P) L.codes_are.at 0 ∙ bottom_is_word P f L.lattice
 
   module _ {w : List ℕ} (h : Filled (words_by P codes) 128 w) where
     held : CodesOf P w
@@ -114,21 +120,20 @@ module _ {P : LatticePart} {codes : List ℕ} {mask : ℕ} (f : Formed P) (L : L
     unfolding antitone antitone_pair
     rules = complement-exactly P f L.lattice w held
 
-    pub answered-antitone : antitone P.size w ≡ false → Answered (part_reading P) (Refused BadComplement) w
+    pub answered-antitone : antitone P.size w ≡ false → Answered (part_reading P) (Err BadComplement) w
     answered-antitone e = answered_refused BadComplement w (rules_refused (sym rules ∙ ap (λ (t : Bool). all_below P.size (involutive P) && t) e ∙ and_false (all_below P.size (involutive P))))
 
     pub answered-accepted : (l : Lattice) → all_below P.size (involutive P) ≡ true → antitone P.size w ≡ true → l.size ≡ P.size
-        → FoundAt codes P.size mask l.top.0 → FoundAt codes P.size 0 l.bottom.0 → Answered (part_reading P) (Accepted l) w
+        → FoundAt codes P.size mask (Some l.top.0) → FoundAt codes P.size 0 (Some l.bottom.0) → Answered (part_reading P) (Ok l) w
     answered-accepted l x y s t b =
         let D = L.lattice in
-        let c = is_word_cong P.size (words_in codes) (code_of P) L.codes_are.at in
-        let tl : l.top.0 < P.size = ltb-true _ _ (sym t.word ∙ c mask ∙ ap (is_word P.size (code_of P)) L.mask_is ∙ top-is_word P f D) in
-        let bl : l.bottom.0 < P.size = ltb-true _ _ (sym b.word ∙ c 0 ∙ bottom_is_word P f D) in
-        let u : l.top.0 ≡ top_of P = sym (top_found P f D _ tl (sym (L.codes_are.at _ tl) ∙ t.hit tl ∙ L.mask_is)) in
-        let d : l.bottom.0 ≡ bot_of P = sym (bottom_found P f D _ bl (sym (L.codes_are.at _ bl) ∙ b.hit bl)) in
+        let tl = t.hit _ refl in
+        let bl = b.hit _ refl in
+        let u : l.top.0 ≡ top_of P = sym (top_found P f D _ tl.0 (sym (L.codes_are.at _ tl.0) ∙ tl.1 ∙ L.mask_is)) in
+        let d : l.bottom.0 ≡ bot_of P = sym (bottom_found P f D _ bl.0 (sym (L.codes_are.at _ bl.0) ∙ bl.1)) in
         let e : l ≡ top_and_bottom P = λ i. record { size = s i; top = record { 0 = u i }; bottom = record { 0 = d i } } in
         rw (rules_accepted (sym rules ∙ and_in _ _ x y))
         (record {
-          answer = ap Accepted e;
+          answer = ap Ok e;
           codes = λ Q k. let z : P ≡ Q = cc in rw (← z) held;
         })

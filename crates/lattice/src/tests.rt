@@ -1,44 +1,28 @@
 // The tests of the words of an order.
-ghost use Rattle.std.specs.Prelude.{◌≡◌, Bool, ◌^◌, ◌-◌, ◌<◌, ◌≤◌, length, get_or};
+ghost use Rattle.std.specs.Prelude.{◌≡◌, Bool, ℕ, ◌^◌, ◌<◌, ◌≤◌, length};
 ghost use Rattle.theory.specs.Lists.{Filled};
-ghost use Rattle.theory.specs.Simulation.{indicator};
 ghost use Rattle.theory.specs.Test.{all_below};
+ghost use Rattle.elements.specs.Words.{within};
 ghost use Rattle.lattice_codes.specs.Tests.{FoundAt, words_in, both, is_word, pair_ordered, ordered, pair_closed, closed, irreducible, irreducibles, all_of, codes_by, ordered_by};
 
-use crate::places;
+// The words of at most 64 elements, and the table of where each may stand.
+#[derive(Clone, Copy)]
+pub(crate) struct Words<'a> {
+    pub words: &'a [u64],
+    pub places: &'a [u8; 256],
+    pub ghost most: { length words.now ≤ 64 },
+}
 
 fn bit(a: usize) -> u64
     requires { a < 64 }
     ensures { result ≡ 2 ^ a }
 {
-    1u64 << (a as u64)
+    1 << a
 }
-
-// Where x stands among n words; n for nowhere.
-pub(crate) fn find(words: &[u64; 64], places: &[u8; 256], n: usize, x: u64) -> usize
-    requires { n ≤ 64 }
-    ensures { FoundAt words.now n x result }
-{
-    let g = places::guess(words, places, x);
-    if g < n {
-        let y = words[g];
-        if y == x {
-            return g;
-        }
-    }
-    for a in 0..n {
-        let y = words[a];
-        if y == x {
-            return a;
-        }
-    }
-    n
-}
-
-// ---- the order is that of the words
 
 // x has bit b exactly where z is within y, and y and z are the same only for a and b the same. One test of both sides, so that no branch goes by
 // the order.
+#[tactic(auto, unfolding(lattice_codes::specs::Tests::ordered_by))]
 fn pair_ordered(x: u64, y: u64, z: u64, a: usize, b: usize) -> bool
     requires { b < 64 }
     ensures { result ≡ ordered_by x y z a b }
@@ -46,186 +30,114 @@ fn pair_ordered(x: u64, y: u64, z: u64, a: usize, b: usize) -> bool
     let k = bit(b);
     let p = (k & x) == k;
     let q = (z & y) == z;
-    if p != q {
-        return false;
-    }
-    if y == z {
-        return a == b;
-    }
-    true
+    p == q && (y != z || a == b)
 }
-
-fn row_ordered(down: &[u64; 64], words: &[u64; 64], n: usize, a: usize) -> bool
-    requires { (n ≤ 64) × (a < 64) }
-    ensures { result ≡ all_below n (pair_ordered (words_in down.now) (words_in words.now) a) }
-{
-    let x = down[a];
-    let y = words[a];
-    for b in 0..n {
-        let z = words[b];
-        if !pair_ordered(x, y, z, a, b) {
-            return false;
-        }
-    }
-    true
-}
-
-pub(crate) fn is_ordered(down: &[u64; 64], words: &[u64; 64], n: usize) -> bool
-    requires { n ≤ 64 }
-    ensures { result ≡ ordered n (words_in down.now) (words_in words.now) }
-{
-    for a in 0..n {
-        if !row_ordered(down, words, n, a) {
-            return false;
-        }
-    }
-    true
-}
-
-// ---- each & or each | of two words is a word
-
-fn both_of(joins: bool, x: u64, y: u64) -> u64
-    ensures { result ≡ both joins x y }
-{
-    if joins {
-        return x | y;
-    }
-    x & y
-}
-
-// The & or the | of the words of a and b is a word.
-fn pair_closed(
-    words: &[u64; 64],
-    places: &[u8; 256],
-    n: usize,
-    joins: bool,
-    a: usize,
-    b: usize,
-) -> bool
-    requires { (n ≤ 64) × (a < n) × (b < n) }
-    ensures { result ≡ is_word n (words_in words.now) (both joins (get_or words.now a 0) (get_or words.now b 0)) }
-{
-    let x = words[a];
-    let y = words[b];
-    let z = both_of(joins, x, y);
-    if z == x {
-        return true;
-    }
-    if z == y {
-        return true;
-    }
-    find(words, places, n, z) < n
-}
-
-// The same for every b, where a has its bit in the mask.
-fn row_closed(
-    words: &[u64; 64],
-    places: &[u8; 256],
-    n: usize,
-    mask: u64,
-    joins: bool,
-    a: usize,
-) -> bool
-    requires { (n ≤ 64) × (a < n) }
-    ensures { result ≡ all_below n (pair_closed n (words_in words.now) mask joins a) }
-{
-    let k = bit(a);
-    if (k & mask) != k {
-        return true;
-    }
-    for b in 0..n {
-        if !pair_closed(words, places, n, joins, a, b) {
-            return false;
-        }
-    }
-    true
-}
-
-pub(crate) fn is_closed(
-    words: &[u64; 64],
-    places: &[u8; 256],
-    n: usize,
-    mask: u64,
-    joins: bool,
-) -> bool
-    requires { n ≤ 64 }
-    ensures { result ≡ closed n (words_in words.now) mask joins }
-{
-    for a in 0..n {
-        if !row_closed(words, places, n, mask, joins, a) {
-            return false;
-        }
-    }
-    true
-}
-
-// ---- codes
 
 // The word with the bits of all n elements.
 pub(crate) fn all_of(n: usize) -> u64
     requires { n ≤ 64 }
     ensures { result ≡ all_of n }
 {
-    let mut x: u64 = 0;
+    let mut x = 0;
     for a in 0..n {
-        x = x | (1u64 << (a as u64));
+        x |= 1 << a;
     }
     x
 }
 
-fn less(x: u64, k: u64) -> u64
-    ensures { result ≡ x - k }
-{
-    if x < k {
-        return 0;
+impl Words<'_> {
+    // Where x stands among the words.
+    pub(crate) fn find(self, x: u64) -> Option<usize>
+        ensures { FoundAt self.entry.words.now (length self.entry.words.now) x result }
+    {
+        if let Some(a) = self.guess(x) {
+            return Some(a);
+        }
+        self.words.iter().position(|y| *y == x)
     }
-    x - k
-}
 
-// The others at or below a are those at or below one element.
-fn is_irreducible(down: &[u64; 64], places: &[u8; 256], n: usize, a: usize) -> bool
-    requires { (n ≤ 64) × (a < n) }
-    ensures { result ≡ irreducible n (words_in down.now) a }
-{
-    let x = down[a];
-    let k = bit(a);
-    let rest = less(x, k);
-    find(down, places, n, rest) < n
-}
+    // ---- the order is that of the codes
 
-fn one(b: bool) -> u64
-    ensures { result ≡ indicator b }
-{
-    if b { 1 } else { 0 }
-}
-
-// The word of the irreducible elements.
-pub(crate) fn irreducibles_of(down: &[u64; 64], places: &[u8; 256], n: usize) -> u64
-    requires { n ≤ 64 }
-    ensures { result ≡ irreducibles n (words_in down.now) }
-{
-    let mut x: u64 = 0;
-    for a in 0..n {
-        let b = one(is_irreducible(down, places, n, a));
-        x = x | (b << (a as u64));
+    fn row_ordered(self, codes: &[u64], a: usize) -> bool
+        requires { (length codes.now ≡ length self.words.now) × (a < length codes.now) }
+        ensures { result ≡ all_below (length codes.now) (pair_ordered (words_in self.entry.words.now) (words_in codes.now) a) }
+    {
+        let x = self.words[a];
+        let y = codes[a];
+        (0..codes.len()).all(|b| pair_ordered(x, y, codes[b], a, b))
     }
-    x
-}
 
-// How many words are lent: asked where a proof needs it.
-fn entries(words: &[u64]) -> usize
-    ensures { result ≡ length words.now }
-{
-    words.len()
-}
+    pub(crate) fn is_ordered(self, codes: &[u64]) -> bool
+        requires { length codes.now ≡ length self.words.now }
+        ensures { result ≡ ordered (length codes.now) (words_in self.entry.words.now) (words_in codes.now) }
+    {
+        (0..codes.len()).all(|a| self.row_ordered(codes, a))
+    }
 
-// The code of each element.
-pub(crate) fn fill_codes(down: &[u64; 64], n: usize, mask: u64, codes: &mut [u64; 64])
-    requires { n ≤ 64 }
-    ensures { Filled (codes_by down.now mask) n codes.new }
-{
-    let _ = entries(codes);
-    for a in 0..n {
-        codes[a] = down[a] & mask;
+    // ---- each & or each | of two words is a word
+
+    // z is a word: that of a or of b, or another.
+    fn has(self, z: u64, a: usize, b: usize) -> bool
+        requires { (a < length self.words.now) × (b < length self.words.now) }
+        ensures { result ≡ is_word (length self.entry.words.now) (words_in self.entry.words.now) z }
+    {
+        z == self.words[a] || z == self.words[b] || self.find(z).is_some()
+    }
+
+    // For each a that has its bit in the mask, and each b, the & or the | of the two words is a word.
+    pub(crate) fn is_closed<F: Fn(u64, u64) -> u64>(self, mask: u64, op: F) -> bool
+        ghost joins: { Bool }
+        requires callable { F.IsAlwaysCallable op }
+        requires gives { (x y r : ℕ) → F.post op x y r → r ≡ both joins x y }
+        ensures { result ≡ closed (length self.entry.words.now) (words_in self.entry.words.now) mask joins }
+    {
+        let n = self.words.len();
+        for a in 0..n {
+            let k = bit(a);
+            if (k & mask) != k {
+                continue;
+            }
+            let x = self.words[a];
+            let closed = (0..n).all(
+                |b|
+                    requires { (a < length self.words.now) × (b < length self.words.now) × F.IsAlwaysCallable op }
+                { self.has(op(x, self.words[b]), a, b) },
+            );
+            if !closed {
+                return false;
+            }
+        }
+        true
+    }
+
+    // ---- codes
+
+    // The others at or below a are those at or below one element.
+    fn is_irreducible(self, a: usize) -> bool
+        requires { a < length self.words.now }
+        ensures { result ≡ irreducible (length self.entry.words.now) (words_in self.entry.words.now) a }
+    {
+        self.find(self.words[a].saturating_sub(bit(a))).is_some()
+    }
+
+    // The word of the irreducible elements.
+    pub(crate) fn irreducibles(self) -> u64
+        ensures { result ≡ irreducibles (length self.entry.words.now) (words_in self.entry.words.now) }
+    {
+        let mut x = 0;
+        for a in 0..self.words.len() {
+            x |= u64::from(self.is_irreducible(a)) << a;
+        }
+        x
+    }
+
+    // The code of each element.
+    pub(crate) fn fill_codes(self, mask: u64, codes: &mut [u64])
+        requires { length codes.old ≡ length self.words.now }
+        ensures { Filled (codes_by self.entry.words.now mask) (length codes.new) codes.new }
+    {
+        for (a, x) in self.words.iter().enumerate() {
+            codes[a] = *x & mask;
+        }
     }
 }

@@ -5,12 +5,12 @@
 --   ordered: the order is that of words; closed: each & or each | of two words is a word; pair_ordered, pair_closed: the same of two elements
 --   irreducible, irreducibles, code_of: the elements that are no joins, their word, and the code of an element
 --   lattice_test: what an accepted part passes; meets_and_joins_test: refusal 6 does not apply
-use Rattle.std.specs.Prelude.{ℕ, ◌-◌, ◌^◌, ◌≤◌, ◌<◌, ◌≡◌, refl, Bool, cond, not, ◌&&◌, List, ltb, eqb, get_or}
+use Rattle.std.specs.Prelude.{ℕ, ◌-◌, ◌^◌, ◌<◌, ◌≡◌, refl, Bool, cond, not, ◌&&◌, List, ltb, eqb, get_or, Option, Some, None, is_some}
 use Rattle.std.proofs.Math.Path.{sym, ap}
-use Rattle.std.proofs.Common.{ap₂, ◌∙◌, le_refl, arith}
+use Rattle.std.proofs.Common.{ap₂, ◌∙◌, arith}
 use Rattle.std.proofs.Math.Bool.{true, false}
 use Rattle.std.specs.Bool.{beq}
-use borrow.Author.Tests.{ltb-true, lt-ltb, le-ltb, eq-eqb, ne_eqb}
+use borrow.Author.Tests.{ltb-true, lt-ltb, eq-eqb, ne_eqb}
 use Rattle.std.specs.Int.Bits.{bit_and, bit_or}
 use Rattle.theory.specs.Part.{LatticePart}
 use Rattle.theory.specs.Test.{all_below, first_below, ◌⇒◌}
@@ -115,22 +115,24 @@ unfoldable pub is_word : ℕ → (ℕ → ℕ) → ℕ → Bool
 is_word n f x = any_below n (λ c. eqb (f c) x)
 
 -- r is where x stands among the first n words of w, or it stands nowhere
-pub record FoundAt (w : List ℕ) (n x r : ℕ) : Type 0 where
-  pub most : r ≤ n
-  pub hit : r < n → get_or w r 0 ≡ x
-  pub word : is_word n (words_in w) x ≡ ltb r n
+pub record FoundAt (w : List ℕ) (n x : ℕ) (r : Option ℕ) : Type 0 where
+  pub hit : (a : ℕ) → r ≡ Some a → (a < n) × (get_or w a 0 ≡ x)
+  pub word : is_word n (words_in w) x ≡ is_some r
 
-pub found_here : (w : List ℕ) (n x r : ℕ) → r < n → get_or w r 0 ≡ x → FoundAt w n x r
+pub found_here : (w : List ℕ) (n x a : ℕ) → a < n → get_or w a 0 ≡ x → FoundAt w n x (Some a)
 unfolding is_word
-found_here w n x r l e = record { most = omega arith; hit = λ k. e; word = any_in n (λ c. eqb (get_or w c 0) x) r l (eq-eqb _ _ e) ∙ sym (lt-ltb r n l) }
+found_here w n x a l e =
+    record {
+      hit = λ b s. let q : a ≡ b = cc in (rw (← q) l, rw (← q) e);
+      word = any_in n (λ c. eqb (get_or w c 0) x) a l (eq-eqb _ _ e);
+    }
 
-pub found_none : (w : List ℕ) (n x : ℕ) → ((c : ℕ) → c < n → eqb (get_or w c 0) x ≡ false) → FoundAt w n x n
+pub found_none : (w : List ℕ) (n x : ℕ) → ((c : ℕ) → c < n → eqb (get_or w c 0) x ≡ false) → FoundAt w n x None
 unfolding is_word
 found_none w n x h =
     record {
-      most = le_refl _;
-      hit = λ k. absurd (omega arith);
-      word = not_passed _ (λ t. let v = any_out n (λ c. eqb (get_or w c 0) x) t in false_true (h v.number v.below) v.passed) ∙ sym (le-ltb n n (le_refl _));
+      hit = λ b s. absurd (let z : ◌≡◌ {A = ℕ} 0 1 = cc in omega arith);
+      word = not_passed _ (λ t. let v = any_out n (λ c. eqb (get_or w c 0) x) t in false_true (h v.number v.below) v.passed);
     }
 
 -- | where `joins`, else &
@@ -143,11 +145,11 @@ pair_closed n f mask joins a b = within (2 ^ a) mask ⇒ is_word n f (both joins
 
 -- the test of a pair, case by case
 module _ (w : List ℕ) (n : ℕ) (joins : Bool) (a b : ℕ) where
-  pub both_found : (z r : ℕ) → z ≡ both joins (get_or w a 0) (get_or w b 0) → FoundAt w n z r → ltb r n ≡ is_word n (words_in w) (both joins (get_or w a 0) (get_or w b 0))
+  pub both_found : (z : ℕ) (r : Option ℕ) → z ≡ both joins (get_or w a 0) (get_or w b 0) → FoundAt w n z r → is_some r ≡ is_word n (words_in w) (both joins (get_or w a 0) (get_or w b 0))
   both_found z r d f = sym f.word ∙ ap (is_word n (words_in w)) d
 
   pub both-here : (z c : ℕ) → z ≡ both joins (get_or w a 0) (get_or w b 0) → c < n → z ≡ get_or w c 0 → true ≡ is_word n (words_in w) (both joins (get_or w a 0) (get_or w b 0))
-  both-here z c d l f = sym (lt-ltb c n l) ∙ both_found z c d (found_here w n z c l (sym f))
+  both-here z c d l f = both_found z (Some c) d (found_here w n z c l (sym f))
 
 -- the tests of a row: k is the bit of a
 module _ (f : ℕ → ℕ) (n mask : ℕ) (joins : Bool) (a k : ℕ) (e : k ≡ 2 ^ a) where
@@ -193,5 +195,5 @@ abbrev pub meets_and_joins_test : LatticePart → Bool
 meets_and_joins_test P = closed P.size (down_of P) (all_of P.size) false && is_word P.size (down_of P) (all_of P.size)
 
 -- the test of an irreducible element, x being its word without its bit
-pub irreducible_found : (w : List ℕ) (n a k x y r : ℕ) → x ≡ get_or w a 0 → k ≡ 2 ^ a → y ≡ x - k → FoundAt w n y r → ltb r n ≡ irreducible n (words_in w) a
+pub irreducible_found : (w : List ℕ) (n a k x y : ℕ) (r : Option ℕ) → x ≡ get_or w a 0 → k ≡ 2 ^ a → y ≡ x - k → FoundAt w n y r → is_some r ≡ irreducible n (words_in w) a
 irreducible_found w n a k x y r d e g f = sym f.word ∙ ap (is_word n (words_in w)) (g ∙ ap₂ ◌-◌ d e)
