@@ -3,30 +3,27 @@
 
 ghost use Rattle.std.specs.Prelude.{◌+◌, ◌*◌, ◌≤◌, length};
 
-use lattice::LatticeCheck;
+use elements::{Codes, Lattice};
+use refusal::Refusal;
 use std::io;
 
-fn show(rt: &impl Print, name: &[u8], r: LatticeCheck) -> io::Result<()> {
+fn show(rt: &impl Print, name: &[u8], r: Result<Lattice, Refusal>) -> io::Result<()> {
     rt.write_all(name)?;
     match r {
-        LatticeCheck::Refused(f) => {
-            let number = refusal::number(f);
-            println!(rt; ": refused {number}")
-        }
-        LatticeCheck::Accepted(l) => {
+        Ok(l) => {
             let size = l.size;
             println!(rt; ": accepted {size}")
+        }
+        Err(f) => {
+            let number = f.number();
+            println!(rt; ": refused {number}")
         }
     }
 }
 
 fn run(rt: &impl Print, name: &[u8], part: &[u8]) -> io::Result<()> {
-    let mut w = [0u64; 128];
+    let mut w = Codes::new();
     show(rt, name, lattice::check(part, &mut w))
-}
-
-fn at_most(i: usize, j: usize) -> u8 {
-    if i <= j { 1 } else { 0 }
 }
 
 // The order of a chain of n elements.
@@ -34,7 +31,7 @@ fn chain_order(part: &mut [u8], n: usize)
     requires { (1 ≤ n) × (n ≤ 65) × (1 + n + n * n ≤ length part.old) }
 {
     for k in 0..n * n {
-        part[1 + n + k] = at_most(k / n, k % n);
+        part[1 + n + k] = u8::from(k / n <= k % n);
     }
 }
 
