@@ -3,27 +3,15 @@
 
 ghost use Rattle.std.specs.Prelude.{◌+◌, ◌*◌, ◌≤◌, length};
 
-use elements::{Codes, Lattice};
-use refusal::Refusal;
+use elements::Codes;
 use std::io;
 
-fn show(rt: &impl Print, name: &[u8], r: Result<Lattice, Refusal>) -> io::Result<()> {
-    rt.write_all(name)?;
-    match r {
-        Ok(l) => {
-            let size = l.size;
-            println!(rt; ": accepted {size}")
-        }
-        Err(f) => {
-            let number = f.number();
-            println!(rt; ": refused {number}")
-        }
-    }
-}
-
-fn run(rt: &impl Print, name: &[u8], part: &[u8]) -> io::Result<()> {
+fn run(rt: &impl Print, name: &str, part: &[u8]) -> io::Result<()> {
     let mut w = Codes::new();
-    show(rt, name, lattice::check(part, &mut w))
+    match lattice::check(part, &mut w) {
+        Ok(l) => println!(rt; "{name}: accepted {}", l.size),
+        Err(f) => println!(rt; "{name}: refused {}", f.number()),
+    }
 }
 
 // The order of a chain of n elements.
@@ -56,49 +44,49 @@ fn chain(part: &mut [u8], n: usize)
 fn longest_chains(rt: &impl Print) -> io::Result<()> {
     let mut chain64 = [0u8; 4161];
     chain(&mut chain64, 64);
-    run(rt, b"a chain of 64", &chain64)?;
+    run(rt, "a chain of 64", &chain64)?;
     let mut chain65 = [0u8; 4291];
     chain(&mut chain65, 65);
-    run(rt, b"a chain of 65", &chain65)
+    run(rt, "a chain of 65", &chain65)
 }
 
 // Each part is n, the complements and the rows of the order.
 fn main(rt: HostRuntime) -> io::Result<()> {
-    run(&rt, b"the panel lattice", b"\x00")?;
-    run(&rt, b"one element", b"\x01\x00\x01")?;
+    run(&rt, "the panel lattice", b"\x00")?;
+    run(&rt, "one element", b"\x01\x00\x01")?;
     run(
         &rt,
-        b"L3",
+        "L3",
         b"\x03\x02\x01\x00\x01\x01\x01\x00\x01\x01\x00\x00\x01",
     )?;
     run(
         &rt,
-        b"L3 with its top first",
+        "L3 with its top first",
         b"\x03\x02\x01\x00\x01\x00\x00\x01\x01\x00\x01\x01\x01",
     )?;
     longest_chains(&rt)?;
-    run(&rt, b"a byte 0 and more", b"\x00\x00")?;
-    run(&rt, b"a complement not below n", b"\x01\x01\x01")?;
-    run(&rt, b"an order byte of 2", b"\x01\x00\x02")?;
+    run(&rt, "a byte 0 and more", b"\x00\x00")?;
+    run(&rt, "a complement not below n", b"\x01\x01\x01")?;
+    run(&rt, "an order byte of 2", b"\x01\x00\x02")?;
     run(
         &rt,
-        b"two elements below one another",
+        "two elements below one another",
         b"\x02\x01\x00\x01\x01\x01\x01",
     )?;
     run(
         &rt,
-        b"two unordered elements",
+        "two unordered elements",
         b"\x02\x01\x00\x01\x00\x00\x01",
     )?;
     run(
         &rt,
-        b"bottom, three unordered elements and top",
+        "bottom, three unordered elements and top",
         b"\x05\x04\x01\x02\x03\x00\
         \x01\x01\x01\x01\x01\x00\x01\x00\x00\x01\x00\x00\x01\x00\x01\x00\x00\x00\x01\x01\x00\x00\x00\x00\x01",
     )?;
     run(
         &rt,
-        b"L3 with each its own complement",
+        "L3 with each its own complement",
         b"\x03\x00\x01\x02\x01\x01\x01\x00\x01\x01\x00\x00\x01",
     )
 }
