@@ -2,8 +2,7 @@
 --   size-read, directory-read, place_read: where the test of refusal 1, 2 or 3 fails, the case is read as that refusal
 --   refused_answered: a case that is read as a refusal is answered that refusal
 --   parts_answered: what the parts of a placed case are answered, the case is answered
---   second_equal, second_differs: what is answered once model 2 has passed its own test
-use Rattle.std.specs.Prelude.{ℕ, ◌-◌, ◌<◌, ◌≡◌, Bool, cond, ◌&&◌, List, length, get_or, Result, Err}
+use Rattle.std.specs.Prelude.{ℕ, ◌-◌, ◌<◌, ◌≡◌, Bool, cond, ◌&&◌, List, length, get_or, Some, None, Result, Err}
 use Rattle.std.proofs.Math.Path.{refl}
 use Rattle.std.proofs.Common.{sym, ap, ◌∙◌, eq-eqb, ne_eqb, lt-ltb}
 use Rattle.std.proofs.Math.Bool.{true, false}
@@ -14,8 +13,7 @@ use Rattle.refusal.specs.declared.Refusal.{Refusal}
 use Rattle.refusal.specs.declared.Refusal.TheVariants.{CaseSize, Directory, PartPlace, BadModel}
 use Rattle.lattice.specs.Reading.{LatticeReading, lattice_reading}
 use Rattle.lattice.specs.Answer.{top_and_bottom, lattice_answer, CodesOf}
-use Rattle.model.specs.Reading.{model_test, model_answer}
-use Rattle.model.specs.declared.ModelCheck.{ModelCheck}
+use Rattle.model.specs.Reading.{model_test, model_answer, size_of}
 use Rattle.casefile.specs.declared.Sizes.{Sizes}
 use Rattle.casefile.specs.Directory.{part_count, size_test, directory_test, misplaced, part_at, parts_from}
 use Rattle.casefile.specs.Reading.{Content, CaseReading, FormulasReading, formulas_reading, after_formulas, models_reading, after_lattice, case_reading, refused, refused_at, read}
@@ -26,13 +24,6 @@ use Rattle.casefile.proofs.FormulaParts.{formulas_read}
 use Rattle.casefile.specs.Accepted.{ContentOf}
 use Rattle.casefile.proofs.Accepted.{refused_content, content_of, parts_length}
 use Rattle.casefile.specs.Steps.{formulas_answer, rest_of, rest_answer, after_second, second_answer, after_first, models_answer, after_checked, PartsAnswered}
-
--- model 2 with the same k, and with another
-pub second_equal : (b : List ℕ) (l : Lattice) (N1 k N2 k2 : ℕ) → k ≡ k2 → rest_answer b l N1 N2 k ≡ after_second b l N1 k (ModelCheck.Accepted N2 k2)
-second_equal b l N1 k N2 k2 e = rw (eq-eqb k k2 e) refl
-
-pub second_differs : (b : List ℕ) (l : Lattice) (N1 k N2 k2 : ℕ) → (k ≡ k2 → ⊥) → Err (BadModel 2) ≡ after_second b l N1 k (ModelCheck.Accepted N2 k2)
-second_differs b l N1 k N2 k2 e = rw (ne_eqb k k2 e) refl
 
 module _ (b : List ℕ) where
   abbrev fs : List (List ℕ)
@@ -52,7 +43,7 @@ module _ (b : List ℕ) where
   unfolding model_answer
   second_same P = go (model_test P.size (part_at b 2)) (eqb (get_or (part_at b 1) 1 0) (get_or (part_at b 2) 1 0)) refl
     where
-      go : (t u : Bool) → eqb (get_or (part_at b 1) 1 0) (get_or (part_at b 2) 1 0) ≡ u → after_second b (top_and_bottom P) (get_or (part_at b 1) 0 0) (get_or (part_at b 1) 1 0) (cond t (ModelCheck.Accepted (get_or (part_at b 2) 0 0) (get_or (part_at b 2) 1 0)) ModelCheck.Refused) ≡ case_answer (second_reading P (t && u))
+      go : (t u : Bool) → eqb (get_or (part_at b 1) 1 0) (get_or (part_at b 2) 1 0) ≡ u → after_second b (top_and_bottom P) (get_or (part_at b 1) 0 0) (get_or (part_at b 1) 1 0) (cond t (Some (size_of (part_at b 2))) None) ≡ case_answer (second_reading P (t && u))
       go false u e = refl
       go true true e = rw e (rest_same P (formulas_reading (get_or (part_at b 1) 1 0) 3 fs) refl)
       go true false e = rw e refl
@@ -61,7 +52,7 @@ module _ (b : List ℕ) where
   unfolding models_reading model_answer
   models_same P = go (model_test P.size (part_at b 1))
     where
-      go : (s : Bool) → after_first b (top_and_bottom P) (cond s (ModelCheck.Accepted (get_or (part_at b 1) 0 0) (get_or (part_at b 1) 1 0)) ModelCheck.Refused) ≡ case_answer (cond s (second_reading P (model_test P.size (part_at b 2) && eqb (get_or (part_at b 1) 1 0) (get_or (part_at b 2) 1 0))) (refused (BadModel 1)))
+      go : (s : Bool) → after_first b (top_and_bottom P) (cond s (Some (size_of (part_at b 1))) None) ≡ case_answer (cond s (second_reading P (model_test P.size (part_at b 2) && eqb (get_or (part_at b 1) 1 0) (get_or (part_at b 2) 1 0))) (refused (BadModel 1)))
       go false = refl
       go true = second_same P
 

@@ -11,9 +11,6 @@ ghost use Rattle.casefile.specs.Conditions.{HasDirectory, Placed};
 ghost use Rattle.casefile.specs.Steps.{well_placed, formulas_answer, PartsAnswered};
 
 use elements::{Codes, Lattice};
-use formula::FormulaCheck;
-use lattice::LatticeCheck;
-use model::ModelCheck;
 use refusal::Refusal;
 
 // What an accepted case holds: its lattice, and the sizes of its models and formulas.
@@ -168,9 +165,8 @@ impl<'a> Case<'a> {
         ensures { result ≡ formulas_answer (formulas_reading k 3 (parts_from self.entry.bytes.now 3 (part_count self.entry.bytes.now - 3))) }
     {
         for i in 3..self.bytes[0] {
-            match formula::check(self.part(i), k) {
-                FormulaCheck::Refused => return Err(Refusal::BadFormula(i)),
-                FormulaCheck::Accepted(_) => {}
+            if formula::check(self.part(i), k).is_none() {
+                return Err(Refusal::BadFormula(i));
             }
         }
         Ok(())
@@ -178,29 +174,20 @@ impl<'a> Case<'a> {
 
     // Checks the parts.
     fn check_parts(self, w: &mut Codes) -> Result<Sizes, Refusal>
-        ensures { PartsAnswered self.entry.bytes.now result w.new }
+        ensures { PartsAnswered self.entry.bytes.now result w.new.words }
     {
-        let lattice = match lattice::check(self.part(0), w) {
-            LatticeCheck::Refused(f) => return Err(f),
-            LatticeCheck::Accepted(l) => l,
-        };
-        let n = lattice.size;
-        let (states1, k) = match model::check(self.part(1), n) {
-            ModelCheck::Refused => return Err(Refusal::BadModel(1)),
-            ModelCheck::Accepted(s, p) => (s, p),
-        };
-        let (states2, k2) = match model::check(self.part(2), n) {
-            ModelCheck::Refused => return Err(Refusal::BadModel(2)),
-            ModelCheck::Accepted(s, p) => (s, p),
-        };
-        if k != k2 {
+        let lattice = lattice::check(self.part(0), w)?;
+        let first = model::check(self.part(1), lattice.size).ok_or(Refusal::BadModel(1))?;
+        let second = model::check(self.part(2), lattice.size).ok_or(Refusal::BadModel(2))?;
+        let k = first.propositions;
+        if k != second.propositions {
             return Err(Refusal::BadModel(2));
         }
         self.check_formulas(k)?;
         Ok(Sizes {
             lattice,
-            states1,
-            states2,
+            states1: first.states,
+            states2: second.states,
             propositions: k,
             formulas: self.bytes[0] - 3,
         })
@@ -210,7 +197,7 @@ impl<'a> Case<'a> {
 // The refusal that a case gets, or what it holds. The codes of an accepted case's lattice are left in w; after a refusal w holds
 // anything. To check a store, lend its first 24,576 bytes.
 pub fn check(bytes: &[u8], w: &mut Codes) -> Result<Sizes, Refusal>
-    ensures { CaseAnswered bytes.now result w.new }
+    ensures { CaseAnswered bytes.now result w.new.words }
 {
     let directory = Directory::of(bytes)?;
     let case = Case::of(directory)?;
