@@ -4,7 +4,7 @@
 mod writer;
 
 ghost use Rattle.std.specs.Prelude.{◌≡◌, ◌+◌, ◌-◌, ◌<◌, length, MatchOption, MatchResult};
-ghost use Rattle.casefile.specs.Directory.{part_count, u16_at, part_start, part_size, part_end, size_test, directory_test, misplaced, part_at, parts_from};
+ghost use Rattle.casefile.specs.Directory.{part_count, directory_end, u16_at, part_start, part_size, part_end, size_test, directory_test, misplaced, part_at, parts_from};
 ghost use Rattle.casefile.specs.Reading.{formulas_reading, case_reading, refused};
 ghost use Rattle.casefile.specs.Answer.{CaseAnswered};
 ghost use Rattle.casefile.specs.Conditions.{HasDirectory, Placed};
@@ -75,6 +75,13 @@ impl<'a> Directory<'a> {
         Ok(Directory { bytes })
     }
 
+    // Where the directory ends.
+    fn end(self) -> usize
+        ensures { result ≡ directory_end self.entry.bytes.now }
+    {
+        1 + 4 * usize::from(self.bytes[0])
+    }
+
     // Where part i starts.
     #[tactic(auto, unfolding(crate::specs::Directory::part_start))]
     pub fn part_start(self, i: u8) -> usize
@@ -115,9 +122,8 @@ impl<'a> Directory<'a> {
             (misplaced self.entry.bytes.now ≡ part_count self.entry.bytes.now)
             (λ i. (i ≡ misplaced self.entry.bytes.now) × (i < part_count self.entry.bytes.now)) }
     {
-        let count = self.bytes[0];
-        let mut from = 1 + 4 * usize::from(count);
-        for i in 0..count {
+        let mut from = self.end();
+        for i in 0..self.bytes[0] {
             if !self.well_placed(i, from) {
                 return Some(i);
             }

@@ -36,9 +36,8 @@ impl<'a> Case<'a> {
     pub fn gapless_length(self) -> usize
         ensures { result ≡ length (gapless_of self.entry.bytes.now) }
     {
-        let count = self.bytes[0];
-        let mut length = 1 + 4 * usize::from(count);
-        for i in 0..count {
+        let mut length = self.directory().end();
+        for i in 0..self.bytes[0] {
             length += self.part(i).len();
         }
         length
@@ -49,9 +48,8 @@ impl<'a> Case<'a> {
         requires { length (gapless_of self.bytes.now) ≤ length out.old }
         ensures { out.new ≡ with_pairs self.entry.bytes.now out.old }
     {
-        let count = self.bytes[0];
-        let mut at = 1 + 4 * usize::from(count);
-        for i in 0..count {
+        let mut at = self.directory().end();
+        for i in 0..self.bytes[0] {
             let size = self.part(i).len();
             put_pair(out, i, at, size);
             at += size;
@@ -63,9 +61,8 @@ impl<'a> Case<'a> {
         requires { length (gapless_of self.bytes.now) ≤ length out.old }
         ensures { out.new ≡ with_parts self.entry.bytes.now out.old }
     {
-        let count = self.bytes[0];
-        let mut place = 1 + 4 * usize::from(count);
-        for i in 0..count {
+        let mut place = self.directory().end();
+        for i in 0..self.bytes[0] {
             let p = self.part(i);
             copy(p, out, place);
             place += p.len();

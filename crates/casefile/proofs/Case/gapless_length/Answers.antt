@@ -16,10 +16,10 @@ next c =
     measured_more c.loop-i.invariant _ i (ap length c.part.ensures ∙ part_length _ c.args.self.placed _ i)
 
 pub loop-i-init : goal.loop-i-init
-loop-i-init c = rw c.from.ensures (measured_none c.args.self.placed)
+loop-i-init c = rw (c.end-length.ensures, c.directory.ensures) (measured_none c.args.self.placed)
 
-pub overflow_add-length-in-loop-i : goal.overflow_add-length-in-loop-i
-overflow_add-length-in-loop-i c = omega (arith, measured_small (next (goal.at.overflow_add-length-in-loop-i c).After-part))
+pub overflow_add-length : goal.overflow_add-length
+overflow_add-length c = omega (arith, measured_small (next (goal.at.overflow_add-length c).After-part))
 
 pub loop-i-preserved : goal.loop-i-preserved
 loop-i-preserved c = next (goal.at.loop-i-preserved c).After-part

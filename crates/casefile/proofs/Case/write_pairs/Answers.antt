@@ -8,7 +8,7 @@ use Rattle.casefile.proofs.WriterLaws.{writing_start, writing_room, pairs_turn, 
 use Rattle.casefile.proofs.Case.write_pairs.Goals as goal
 
 pub loop-i-init : goal.loop-i-init
-loop-i-init c = rw c.from.ensures (writing_start pairs 1 c.args.self.placed c.requires (omega arith))
+loop-i-init c = rw (c.end-at.ensures, c.directory.ensures) (writing_start pairs 1 c.args.self.placed c.requires (omega arith))
 
 pub put_pair-requires : goal.put_pair-requires
 put_pair-requires c =
@@ -16,8 +16,8 @@ put_pair-requires c =
     let e = ap length c.part-size.ensures in
     (omega (arith, r.directory-within, c.loop-i.auto.out), omega (arith, r.end_small), omega (arith, r.end_small, e))
 
-pub overflow_add-at-in-loop-i : goal.overflow_add-at-in-loop-i
-overflow_add-at-in-loop-i c = omega (arith, (writing_room c.loop-i.invariant c.loop-i-test.true).end_small, ap length c.part-size.ensures)
+pub overflow_add-at : goal.overflow_add-at
+overflow_add-at c = omega (arith, (writing_room c.loop-i.invariant c.loop-i-test.true).end_small, ap length c.part-size.ensures)
 
 pub loop-i-preserved : goal.loop-i-preserved
 loop-i-preserved c =
