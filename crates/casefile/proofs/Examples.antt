@@ -1,6 +1,6 @@
 -- The case of document 01's report example, read by the definitions. Rests on Answer, Gapless and Accepted, and on the examples of lattice and model.
 -- The definitions are in specs/Examples.
-use Rattle.std.specs.Prelude.{◌≡◌, refl}
+use Rattle.std.specs.Prelude.{◌≡◌, refl, Ok}
 use Rattle.std.proofs.Common.{ap}
 use Rattle.theory.specs.Formula.{closed_under, over_props, nested_binders}
 use Rattle.theory.specs.Part.{top_of, bot_of}
@@ -8,7 +8,6 @@ use Rattle.theory.specs.Test.{all_below, first_below}
 use Rattle.lattice.specs.Examples.{L3_accepted}
 use Rattle.model.specs.Examples.{L3_models}
 use Rattle.formula.specs.Bytes.{by_code, parse, formula_reading}
-use Rattle.casefile.specs.declared.CaseCheck.TheVariants.{Accepted}
 use Rattle.casefile.specs.Directory.{part_start, part_size, placed, misplaced, parts_from, parts_of}
 use Rattle.casefile.specs.Reading.{formulas_reading, case_reading, content}
 use Rattle.casefile.specs.Gapless.{pairs, joined, gapless}
@@ -40,7 +39,7 @@ unfolding part_start part_size parts_from
 report_reading = (case_exactly report_case report_content).1 (report_placed, refl, report_parts)
 
 -- and accepted: 3 elements, top 2 and bottom 0, one state in each model, one proposition, one formula
-pub report_accepted : case_answer (case_reading report_case) ≡ Accepted (record { lattice = record { size = 3; top = record { 0 = 2 }; bottom = record { 0 = 0 } }; states1 = 1; states2 = 1; propositions = 1; formulas = 1 })
+pub report_accepted : case_answer (case_reading report_case) ≡ Ok (record { lattice = record { size = 3; top = record { 0 = 2 }; bottom = record { 0 = 0 } }; states1 = 1; states2 = 1; propositions = 1; formulas = 1 })
 unfolding top_of bot_of all_below first_below
 report_accepted = ap case_answer report_reading
 

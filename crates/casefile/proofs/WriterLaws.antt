@@ -145,12 +145,6 @@ module _ {b d out : List ℕ} {i at : ℕ} where
         appended = appended_part (part_at b i) (rw (parts_next b i l) at w.appended);
       })
 
-  pub pairs_buffer_length : PairsWritten b d out i at → i ≤ part_count b → length out ≡ length d
-  pairs_buffer_length w l = appended_length w.appended (omega (arith, directory-fits b d w.fits))
-
-  pub parts_buffer_length : PartsWritten b d out i at → length out ≡ length d
-  parts_buffer_length w = appended_length w.appended (omega (arith, w.measured.offset, w.fits))
-
 -- ---- the whole case
 
 module _ (b d : List ℕ) (fits : length (gapless_of b) ≤ length d) where

@@ -1,8 +1,7 @@
 -- What the check of a case answers. Rests on Reading.
-use Rattle.std.specs.Prelude.{ℕ, ◌≡◌, List, length, get_or}
+use Rattle.std.specs.Prelude.{ℕ, ◌≡◌, List, length, get_or, Result, Ok, Err}
+use Rattle.refusal.specs.declared.Refusal.{Refusal}
 use Rattle.casefile.specs.declared.Sizes.{Sizes}
-use Rattle.casefile.specs.declared.CaseCheck.{CaseCheck}
-use Rattle.casefile.specs.declared.CaseCheck.TheVariants.{Refused, Accepted}
 use Rattle.lattice.specs.Answer.{top_and_bottom, CodesOf}
 use Rattle.casefile.specs.Reading.{Content, CaseReading, case_reading, refused, content}
 
@@ -17,11 +16,11 @@ sizes_of c =
       formulas = length c.formulas;
     }
 
-abbrev pub case_answer : CaseReading → CaseCheck
-case_answer (refused r) = Refused r
-case_answer (content c) = Accepted (sizes_of c)
+abbrev pub case_answer : CaseReading → Result Sizes Refusal
+case_answer (refused r) = Err r
+case_answer (content c) = Ok (sizes_of c)
 
 -- The answer r is that of the case b, and where b is accepted, the words w are the codes of its lattice. After a refusal they are free.
-pub record CaseAnswered (b : List ℕ) (r : CaseCheck) (w : List ℕ) : Type 0 where
+pub record CaseAnswered (b : List ℕ) (r : Result Sizes Refusal) (w : List ℕ) : Type 0 where
   pub answer : r ≡ case_answer (case_reading b)
   pub codes : (c : Content) → case_reading b ≡ content c → CodesOf c.lattice w

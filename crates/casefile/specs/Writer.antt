@@ -2,7 +2,7 @@
 -- Here stand the definitions; the theorems are in proofs/WriterLaws.
 --   Measured: the place that a loop over the parts has come to; measured_none, -more, -small, -done: its begin, its turn, its size and its end
 --   Writing: such a loop that writes, and its two kinds, PairsWritten and PartsWritten
---   Room, writing_room, pairs_buffer_length, parts_buffer_length: what a turn asks for, and that the buffer has its length
+--   Room, writing_room: what a turn asks for
 use Rattle.std.specs.Prelude.{ℕ, ◌+◌, ◌*◌, ◌-◌, ◌≤◌, ◌<◌, ◌≡◌, List, ◌++◌, take}
 use Rattle.std.proofs.Math.ListN.{length}
 use Rattle.casefile.specs.Directory.{part_count, directory_end, part_size, part_at, parts_from, parts_of}

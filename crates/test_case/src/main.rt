@@ -2,34 +2,30 @@
 // accepted, and so is its gapless form, or it is refused with a number and a part.
 #![tactic(auto)]
 
-use casefile::CaseCheck;
+use casefile::Case;
+use elements::Codes;
 use std::io;
 use test_printing::say;
 
 fn show(rt: &impl Print, case: &[u8]) -> io::Result<()> {
-    let mut w = [0u64; 128];
-    let answer = casefile::check(case, &mut w);
-    match answer {
-        CaseCheck::Accepted(_) => say(rt, b" accepted"),
-        CaseCheck::Refused(r) => test_printing::refused(rt, r),
+    let mut w = Codes::new();
+    match casefile::check(case, &mut w) {
+        Ok(_) => say(rt, b" accepted"),
+        Err(r) => test_printing::refused(rt, r),
     }
 }
 
 // Writes the gapless form of an accepted case into a store, and shows how many bytes and formulas it has.
 fn keep(rt: &impl Print, bytes: &[u8], store: &mut [u8; 24576]) -> io::Result<()> {
-    let mut w = [0u64; 128];
-    let answer = casefile::check(bytes, &mut w);
-    match answer {
-        CaseCheck::Accepted(held) => {
-            let n = casefile::gapless_length(bytes);
-            casefile::write(bytes, store);
-            test_printing::item(rt, b", without gaps ", n as u64)?;
-            test_printing::item(rt, b" bytes, ", held.formulas as u64)?;
-            say(rt, b" formulas,")?;
-            show(rt, store)
-        }
-        CaseCheck::Refused(_) => Ok(()),
-    }
+    let mut w = Codes::new();
+    let Ok(held) = casefile::check(bytes, &mut w) else {
+        return Ok(());
+    };
+    let case = Case { bytes };
+    let n = case.gapless_length();
+    case.write(store);
+    print!(rt; ", without gaps {n} bytes, {} formulas,", held.formulas)?;
+    show(rt, store)
 }
 
 fn run(rt: &impl Print, line: &[u8]) -> io::Result<()> {
@@ -45,11 +41,8 @@ fn run(rt: &impl Print, line: &[u8]) -> io::Result<()> {
 }
 
 fn run_all(rt: &impl Print, text: &[u8]) -> io::Result<()> {
-    let mut at = 0;
-    while at < text.len() {
-        let end = test_printing::line(text, at);
-        run(rt, &text[at..end])?;
-        at = end;
+    for line in text.split_inclusive(|&b| b == b'\n') {
+        run(rt, line)?;
     }
     Ok(())
 }

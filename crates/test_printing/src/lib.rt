@@ -42,7 +42,7 @@ pub fn bytes(rt: &impl Print, part: &[u8]) -> io::Result<()> {
 
 // A refusal's number and part.
 pub fn refused(rt: &impl Print, r: Refusal) -> io::Result<()> {
-    print!(rt; " refused {} {}", refusal::number(r), refusal::part(r))
+    print!(rt; " refused {} {}", r.number(), r.part())
 }
 
 // The facts of a formula: the deepest nesting of AX, whether a fixpoint occurs and whether EX occurs.

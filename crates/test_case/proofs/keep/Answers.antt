@@ -3,8 +3,8 @@ use Rattle.std.proofs.Common.{arith}
 use Rattle.casefile.proofs.Caller.{when_accepted}
 use Rattle.test_case.proofs.keep.Goals as goal
 
-pub gapless_length-n-requires : goal.gapless_length-n-requires
-gapless_length-n-requires g c = (when_accepted c.args.bytes.now _ _ _ c.check-answer.ensures c.in-Accepted.is).placed
+pub invariant_of-case : goal.invariant_of-case
+invariant_of-case g c = record { placed = (when_accepted c.args.bytes.now _ _ _ c.check.ensures c.in-Ok.is).placed }
 
 pub write-requires : goal.write-requires
-write-requires g c = let h = when_accepted c.args.bytes.now _ _ _ c.check-answer.ensures c.in-Accepted.is in (h.placed, omega (arith, h.short, c.fits-store))
+write-requires g c = omega (arith, (when_accepted c.args.bytes.now _ _ _ c.check.ensures c.in-Ok.is).short, c.fits-store)
