@@ -4,11 +4,10 @@
 --   parts_answered: what the parts of a placed case are answered, the case is answered
 use Rattle.std.specs.Prelude.{ℕ, ◌-◌, ◌<◌, ◌≡◌, Bool, cond, ◌&&◌, List, length, get_or, Some, None, Result, Err}
 use Rattle.std.proofs.Math.Path.{refl}
-use Rattle.std.proofs.Common.{sym, ap, ◌∙◌, eq-eqb, ne_eqb, lt-ltb}
+use Rattle.std.proofs.Common.{sym, ap, ◌∙◌, lt-ltb}
 use Rattle.std.proofs.Math.Bool.{true, false}
 use Rattle.std.proofs.Math.Dec.{eqb}
 use Rattle.theory.specs.Part.{LatticePart}
-use Rattle.elements.specs.declared.Lattice.{Lattice}
 use Rattle.refusal.specs.declared.Refusal.{Refusal}
 use Rattle.refusal.specs.declared.Refusal.TheVariants.{CaseSize, Directory, PartPlace, BadModel}
 use Rattle.lattice.specs.Reading.{LatticeReading, lattice_reading}
@@ -23,7 +22,7 @@ use Rattle.casefile.specs.Conditions.{HasDirectory, Placed}
 use Rattle.casefile.proofs.FormulaParts.{formulas_read}
 use Rattle.casefile.specs.Accepted.{ContentOf}
 use Rattle.casefile.proofs.Accepted.{refused_content, content_of, parts_length}
-use Rattle.casefile.specs.Steps.{formulas_answer, rest_of, rest_answer, after_second, second_answer, after_first, models_answer, after_checked, PartsAnswered}
+use Rattle.casefile.specs.Steps.{formulas_answer, rest_of, after_second, second_answer, after_first, models_answer, after_checked, PartsAnswered}
 
 module _ (b : List ℕ) where
   abbrev fs : List (List ℕ)

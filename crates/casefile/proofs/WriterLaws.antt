@@ -16,7 +16,7 @@ use Rattle.casefile.specs.Conditions.{Placed}
 use Rattle.casefile.specs.Laid.{pairs-length, gapless-length}
 use Rattle.casefile.proofs.Accepted.{part_length, parts_length}
 use Rattle.casefile.specs.Steps.{with_pair, with_pairs, with_parts}
-use Rattle.casefile.specs.Appended.{Appended, appended_start, appended_length, appended_byte, appended_part, appended_done, appended_last, appended_u16}
+use Rattle.casefile.specs.Appended.{Appended, appended_start, appended_byte, appended_part, appended_done, appended_last, appended_u16}
 use Rattle.casefile.specs.Writer.{parts_left, Measured, Writing, PairsWritten, PartsWritten, Room}
 
 -- ---- a placed case is at least as long as its gapless form

@@ -2,7 +2,7 @@
 --   Appended: the first bytes of a buffer are written, and with the rest they are a whole; its laws are appended_start, -length,
 --     -byte, -part, -done, -last, -u16
 --   copied: a copy byte by byte
-use Rattle.std.specs.Prelude.{ℕ, suc, ◌+◌, ◌*◌, ◌/◌, ◌%◌, ◌≤◌, ◌<◌, ◌≡◌, refl, List, [], ◌∷◌, ◌++◌, length, get_or, take, drop, set}
+use Rattle.std.specs.Prelude.{ℕ, suc, ◌+◌, ◌/◌, ◌%◌, ◌≤◌, ◌<◌, ◌≡◌, refl, List, [], ◌∷◌, ◌++◌, length, get_or, take, drop, set}
 use Rattle.std.proofs.Common.{sym, subst, ap, ap₂, ◌∙◌, append_assoc, append-nil, add-one, arith, length-append, length-drop, take-append-drop, length-take-le, take_at, drop-cons, drop-drop}
 use Rattle.std.proofs.Math.Seq.{take-length, drop-append-add, paste}
 use Rattle.std.proofs.lemmas.List.{set_at}

@@ -2,7 +2,7 @@
 --   well_placed, is_read: the tests of the check; parts_answer, PartsAnswered: what it answers for the parts
 --   after_checked, models_answer, after_first, second_answer, after_second, rest_answer, rest_of, formulas_answer: the same step by step
 --   with_u16, with_pair, with_pairs, with_parts: what the steps of the writer leave in a buffer
-use Rattle.std.specs.Prelude.{ℕ, ◌+◌, ◌*◌, ◌-◌, ◌/◌, ◌%◌, ◌≡◌, Bool, true, false, cond, ◌&&◌, List, ltb, leb, eqb, length, set, Option, Some, None, Result, Ok, Err}
+use Rattle.std.specs.Prelude.{ℕ, ◌+◌, ◌*◌, ◌-◌, ◌/◌, ◌%◌, ◌≡◌, Bool, cond, ◌&&◌, List, ltb, leb, eqb, length, set, Option, Some, None, Result, Ok, Err}
 use Rattle.std.specs.Option.{is_some}
 use Rattle.theory.specs.Part.{LatticePart}
 use Rattle.elements.specs.declared.Lattice.{Lattice}
