@@ -2,13 +2,88 @@
 // from a meet and adds nothing to a join.
 ghost use Rattle.std.specs.Prelude.{◌≡◌, ℕ, ◌*◌, ◌<◌, length, get_or};
 ghost use Rattle.theory.specs.Part.{ModelShape};
-ghost use Rattle.valuer_maps.specs.Successors.{list_bytes, leads, leads_to, RowListed, SuccessorsOf};
+ghost use Rattle.elements.specs.Words.{code_in};
+ghost use Rattle.valuer_maps.specs.Code.{map_words, all_next_code, some_next_code, NextMap};
+ghost use Rattle.valuer_maps.specs.Successors.{list_bytes, leads, leads_to, RowListed, RowOf, SuccessorsOf};
 
+use crate::{all_step, some_step, write_first};
 use elements::{Codes, Element, Lattice};
 use model::State;
 
-// Row q has 65 bytes: how many successors q has, then their numbers in order.
-pub type Successors = [u8; 4160];
+// The successors of each state of a model, whose transitions are values of a lattice.
+#[derive(Clone, Copy)]
+pub struct Successors<'a> {
+    pub codes: &'a Codes,
+    pub lattice: Lattice,
+    pub model: &'a [u8],
+    // Row q has 65 bytes: how many successors q has, then their numbers in order.
+    pub rows: &'a [u8; 4160],
+    pub ghost shape: { ModelShape model.now },
+    pub ghost listed: { SuccessorsOf codes.now lattice model.now rows.now },
+}
+
+impl<'a> Successors<'a> {
+    // The numbers of the successors of q.
+    fn of(&self, q: State) -> &'a [u8]
+        requires { q.0 < get_or self.now.model.now 0 0 }
+        ensures { RowOf (leads_to self.now.codes.now (code_in self.now.codes.now self.now.lattice.top.0) self.now.model.now q.0) (get_or self.now.model.now 0 0)
+            result.now }
+    {
+        let rows = self.rows;
+        let at = q.0 as usize * 65;
+        let count = rows[at] as usize;
+        &rows[at + 1..][..count]
+    }
+
+    // AX of a map at q: the meet of what its transitions give to it.
+    fn all_next(&self, top: u64, x: &[u64; 64], q: State) -> u64
+        requires { (top ≡ code_in self.now.codes.now self.now.lattice.top.0) × (q.0 < get_or self.now.model.now 0 0) }
+        ensures { result ≡ all_next_code self.now.codes.now top self.now.model.now x.now q.0 }
+    {
+        let mut y = top;
+        let row = self.of(q);
+        for &r in row {
+            y = y
+                & all_step(
+                    self.codes,
+                    model::transition(self.model, q, State(r)),
+                    x[r as usize],
+                );
+        }
+        y
+    }
+
+    // EX of a map at q: the join of what they give to that.
+    fn some_next(&self, x: &[u64; 64], q: State) -> u64
+        requires { q.0 < get_or self.now.model.now 0 0 }
+        ensures { result ≡ some_next_code self.now.codes.now self.now.model.now x.now q.0 }
+    {
+        let mut y = 0;
+        let row = self.of(q);
+        for &r in row {
+            y = y
+                | some_step(
+                    self.codes,
+                    model::transition(self.model, q, State(r)),
+                    x[r as usize],
+                );
+        }
+        y
+    }
+
+    // AX (all) or EX of a map.
+    pub fn next_values(&self, all: bool, x: &[u64; 64], out: &mut [u64])
+        requires { length out.old ≡ map_words }
+        ensures { NextMap self.now.codes.now self.now.lattice self.now.model.now all x.now out.new }
+    {
+        let n = model::states(self.model);
+        let top = elements::code(self.codes, self.lattice.top);
+        if all {
+            return write_first(n, |q| self.all_next(top, x, State(q as u8)), out);
+        }
+        write_first(n, |q| self.some_next(x, State(q as u8)), out)
+    }
+}
 
 // Whether a transition of this value is to be looked at: it is not bottom, or else its complement is not top.
 fn leads(w: &Codes, top: u64, e: Element) -> bool

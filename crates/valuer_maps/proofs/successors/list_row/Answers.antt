@@ -1,13 +1,12 @@
 -- `valuer_maps::list_row` meets its contract: the states below r are listed, k of them.
 use mathlib.Core.Path.{◌≡◌, sym, ap, ◌∙◌}
-use Prim.Native.Nat.{◌*◌, ◌≤◌, ◌-◌}
+use Prim.Native.Nat.{◌*◌}
 use native.Mathlib.Omega.{arith}
-use lib.ListN.{length, get_or, length-set}
+use lib.ListN.{get_or, length-set}
 use lib.Seq.{get_or-set_other}
-use borrow.Author.Rules.{rules}
 use Rattle.theory.specs.Loop.{indicator_most}
 use Rattle.theory.specs.Simulation.{indicator}
-use Rattle.valuer_maps.specs.Successors.{leads, leads_to, ListedSoFar, listed_none, listed_more, listed_all, row_of}
+use Rattle.valuer_maps.specs.Successors.{leads, listed_none, listed_more, listed_all, row_of}
 use Rattle.valuer_maps.proofs.successors.list_row.Goals as goal
 
 pub loop-r-init : goal.loop-r-init

@@ -1,12 +1,7 @@
-use mathlib.Core.Path.{◌≡◌, sym, ap, ◌∙◌}
-use Prim.Native.Nat.{◌*◌, ◌≤◌, ◌-◌}
-use native.Mathlib.Omega.{arith}
-use lib.ListN.{length, get_or, length-set}
-use lib.Seq.{get_or-set_other}
-use borrow.Author.Rules.{rules}
-use Rattle.theory.specs.Loop.{indicator_most}
-use Rattle.theory.specs.Simulation.{indicator}
-use Rattle.valuer_maps.specs.Successors.{leads, leads_to, ListedSoFar, listed_none, listed_more, listed_all, row_of}
+use mathlib.Core.Path.{◌≡◌}
+use Prim.Native.Nat.{◌≤◌, ◌-◌}
+use lib.ListN.{length}
+use Rattle.valuer_maps.specs.Successors.{leads_to, ListedSoFar}
 use Rattle.valuer_maps.proofs.successors.list_row.Given as goal
 
 abbrev pub invariant-loop-r : goal.invariant-loop-r

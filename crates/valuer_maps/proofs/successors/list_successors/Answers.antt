@@ -1,10 +1,8 @@
 -- `valuer_maps::list_successors` meets its contract: the rows below q are written.
-use mathlib.Core.Path.{◌≡◌, sym, ◌∙◌}
-use Prim.Native.Nat.{◌≤◌, ◌-◌}
+use mathlib.Core.Path.{sym, ◌∙◌}
 use native.Mathlib.Omega.{arith}
-use lib.ListN.{length, get_or}
-use borrow.Author.Rules.{rules}
-use Rattle.valuer_maps.specs.Successors.{RowsListed, rows-listed_none, rows-listed_more, rows-listed_all}
+use lib.ListN.{get_or}
+use Rattle.valuer_maps.specs.Successors.{rows-listed_none, rows-listed_more, rows-listed_all}
 use Rattle.valuer_maps.proofs.successors.list_successors.Goals as goal
 
 pub loop-q-init : goal.loop-q-init

@@ -1,9 +1,7 @@
-use mathlib.Core.Path.{◌≡◌, sym, ◌∙◌}
+use mathlib.Core.Path.{◌≡◌}
 use Prim.Native.Nat.{◌≤◌, ◌-◌}
-use native.Mathlib.Omega.{arith}
-use lib.ListN.{length, get_or}
-use borrow.Author.Rules.{rules}
-use Rattle.valuer_maps.specs.Successors.{RowsListed, rows-listed_none, rows-listed_more, rows-listed_all}
+use lib.ListN.{length}
+use Rattle.valuer_maps.specs.Successors.{RowsListed}
 use Rattle.valuer_maps.proofs.successors.list_successors.Given as goal
 
 abbrev pub invariant-loop-q : goal.invariant-loop-q
