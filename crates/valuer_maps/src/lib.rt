@@ -1,5 +1,5 @@
 // The maps of single nodes of a formula. A map from states to elements is 64 words, of which the first N count: the codes of its values
-// (elements). w and l are a lattice's codes and numbers, m is a model part (model), s the successors of its states. A map is written into the lent array `out`.
+// (elements). w and l are a lattice's codes and numbers, m is a model. A map is written into the lent array `out`.
 //   successors: the states that AX and EX look at
 #![tactic(auto)]
 
@@ -14,15 +14,15 @@ ghost use Rattle.valuer_maps.specs.Successors.{leads_to, RowListed, SuccessorsOf
 ghost use Rattle.valuer_maps.specs.Code.{map_words, join_or_meet_code, start_code, slot_of, first_code, step_code, next_code, Literals, Combined, NextMap};
 
 use elements::{Codes, Element, Lattice};
-use model::{Proposition, State};
+use model::{Model, Proposition, State};
 pub use successors::{Successors, list_successors};
 
 // Where a least fixpoint starts, the bottom's code, or a greatest one, the top's.
 #[tactic(auto, unfolding(crate::specs::Code::start_code))]
 pub fn start_of(w: &Codes, l: Lattice, least: bool) -> u64
-    ensures { result ≡ start_code w.now l least }
+    ensures { result ≡ start_code w.now.words l least }
 {
-    if least { 0 } else { elements::code(w, l.top) }
+    if least { 0 } else { w.code(l.top) }
 }
 
 // The first n words are the same.
@@ -58,16 +58,12 @@ impl<'a> Scope<'a> {
 }
 
 // A proposition, negated or not.
-pub fn literals(w: &Codes, m: &[u8], negated: bool, p: Proposition, out: &mut [u64])
-    requires { ModelShape m.now × (p.0 < get_or m.now 1 0) × (length out.old ≡ map_words) }
-    ensures { Literals w.now m.now negated p.0 out.new }
+pub fn literals(w: &Codes, m: &Model, negated: bool, p: Proposition, out: &mut [u64])
+    requires { (p.0 < get_or m.now.bytes.now 1 0) × (length out.old ≡ map_words) }
+    ensures { Literals w.now.words m.now.bytes.now negated p.0 out.new }
 {
-    let label = |q: usize| model::label(m, State(q as u8), p);
-    write_first(
-        model::states(m),
-        |q| elements::value_code(w, negated, label(q)),
-        out,
-    )
+    let label = |q: usize| m.label(State(q as u8), p);
+    write_first(m.states(), |q| w.value_code(negated, label(q)), out)
 }
 
 // The joins (up) or the meets of two maps.
@@ -76,9 +72,10 @@ pub fn combined(up: bool, n: usize, x: &[u64; 64], y: &[u64; 64], out: &mut [u64
     ensures { Combined up x.now y.now n out.new }
 {
     if up {
-        return write_first(n, |q| x[q] | y[q], out);
+        write_first(n, |q| x[q] | y[q], out)
+    } else {
+        write_first(n, |q| x[q] & y[q], out)
     }
-    write_first(n, |q| x[q] & y[q], out)
 }
 
 // Writes what f gives for each number below n.
@@ -96,14 +93,14 @@ fn write_first<F: Fn(usize) -> u64>(n: usize, f: F, out: &mut [u64])
 
 // What a transition of value r to a state whose value has the code x gives to AX: not-r | x, the code of r → x.
 pub fn all_step(w: &Codes, r: Element, x: u64) -> u64
-    ensures { result ≡ bit_or (negated_code_in w.now r.0) x }
+    ensures { result ≡ bit_or (negated_code_in w.now.words r.0) x }
 {
-    elements::value_code(w, true, r) | x
+    w.value_code(true, r) | x
 }
 
 // What it gives to EX: r & x.
 fn some_step(w: &Codes, r: Element, x: u64) -> u64
-    ensures { result ≡ bit_and (code_in w.now r.0) x }
+    ensures { result ≡ bit_and (code_in w.now.words r.0) x }
 {
-    elements::code(w, r) & x
+    w.code(r) & x
 }

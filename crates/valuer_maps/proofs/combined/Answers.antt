@@ -7,6 +7,6 @@ pub returns-then-up : goal.returns-then-up
 unfolding join_or_meet_code
 returns-then-up c = record { at = λ q b. let k = c.write_first.ensures q b in rw c.if-up.true (search rules) }
 
-pub returns : goal.returns
+pub returns-else-up : goal.returns-else-up
 unfolding join_or_meet_code
-returns c = record { at = λ q b. let k = c.write_first-2.ensures q b in rw c.if-up.false (search rules) }
+returns-else-up c = record { at = λ q b. let k = c.write_first-else-up.ensures q b in rw c.if-up.false (search rules) }

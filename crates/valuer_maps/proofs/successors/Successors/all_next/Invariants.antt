@@ -6,4 +6,4 @@ use Rattle.elements.specs.Words.{negated_code_in}
 use Rattle.valuer_maps.proofs.successors.Successors.all_next.Given as goal
 
 abbrev pub invariant-loop-r : goal.invariant-loop-r
-invariant-loop-r l = Folded bit_and l.fn.top (λ i. bit_or (negated_code_in l.self.codes.now ((model_of l.self.model.now).transition l.q.0 (get_or l.row i 0))) (get_or l.x (get_or l.row i 0) 0)) l.r-index l.y
+invariant-loop-r l = Folded bit_and l.fn.top (λ i. bit_or (negated_code_in l.self.codes.now.words ((model_of l.self.model.bytes.now).transition l.q.0 (get_or l.row i 0))) (get_or l.x (get_or l.row i 0) 0)) l.r-index l.y

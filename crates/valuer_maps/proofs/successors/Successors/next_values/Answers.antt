@@ -9,8 +9,8 @@ returns-then-all c = record {
   at = λ q b. let k = c.write_first.ensures q (omega (arith, c.states-n.ensures)) in rw (c.if-all.true, ← c.code-top.ensures) (search rules);
 }
 
-pub returns : goal.returns
+pub returns-else-all : goal.returns-else-all
 unfolding next_code
-returns c = record {
-  at = λ q b. let k = c.write_first-2.ensures q (omega (arith, c.states-n.ensures)) in rw c.if-all.false (search rules);
+returns-else-all c = record {
+  at = λ q b. let k = c.write_first-else-all.ensures q (omega (arith, c.states-n.ensures)) in rw c.if-all.false (search rules);
 }

@@ -1,7 +1,7 @@
 -- `valuer_maps::Successors::of` meets its contract: the row's part of the bytes.
-use Rattle.std.proofs.Common.{ℕ, List, ◌≡◌, ◌≤◌, ◌<◌, ◌+◌, ◌-◌, ◌*◌, get_or, length, take, drop, arith, sym, ◌∙◌, length-drop}
+use Rattle.std.proofs.Common.{ℕ, List, ◌≡◌, ◌≤◌, ◌+◌, ◌-◌, ◌*◌, length, take, drop, arith, sym, ◌∙◌, length-drop}
 use Rattle.std.proofs.lemmas.List.{get_or-take, get_or-drop, length-take-le}
-use Rattle.valuer_maps.specs.Successors.{row_few, row_first}
+use Rattle.valuer_maps.specs.Successors.{row_few, row_first, row_of}
 use Rattle.valuer_maps.proofs.successors.Successors.of.Goals as goal
 
 -- the bytes from the place a on
@@ -11,14 +11,15 @@ rest_long k a xs e b = length-take-le (k - a) (drop a xs) (omega (arith, length-
 pub slice_bounds-result-end-2 : goal.slice_bounds-result-end-2
 slice_bounds-result-end-2 c =
     let s = c.args.self.now in
-    let a = c.args.q.0 * 65 + 1 in
-    let e = s.shape.states_most in
-    sym (length-take-le _ _ (omega (arith, row_few (s.listed.at c.args.q.0 c.requires), rest_long 4160 a s.rows.now (omega arith) (omega arith))))
+    let r = row_of (s.listed.at c.args.q.0 c.requires) c.from-at.ensures in
+    let e = s.model.shape.states_most in
+    sym (length-take-le _ _ (omega (arith, c.from-count.ensures, c.from-at.ensures, row_few r, rest_long 4160 (c.from-at.result * 65 + 1) s.rows.now (omega arith) (omega (arith, c.from-at.ensures)))))
 
 pub returns : goal.returns
 returns c =
     let s = c.args.self.now in
-    let r = s.listed.at c.args.q.0 c.requires in
-    let e = s.shape.states_most in
-    row_first _ r (omega (arith, row_few r, rest_long 4160 (c.args.q.0 * 65 + 1) s.rows.now (omega arith) (omega arith)))
-    (λ i b. get_or-take _ _ i 0 (omega (arith, row_few r)) ∙ get_or-drop (c.args.q.0 * 65 + 1) s.rows.now i 0)
+    let r = row_of (s.listed.at c.args.q.0 c.requires) c.from-at.ensures in
+    let e = s.model.shape.states_most in
+    rw c.from-count.ensures
+    (row_first _ r (omega (arith, row_few r, c.from-at.ensures, rest_long 4160 (c.from-at.result * 65 + 1) s.rows.now (omega arith) (omega (arith, c.from-at.ensures))))
+    (λ i b. get_or-take _ _ i 0 (omega (arith, row_few r, c.from-at.ensures)) ∙ get_or-drop (c.from-at.result * 65 + 1) s.rows.now i 0))
