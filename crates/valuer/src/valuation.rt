@@ -4,7 +4,7 @@ ghost use Rattle.valuer.specs.Values.{ModelOver};
 ghost use Rattle.valuer.specs.Node.{SomeFormulaAt, round_limit, Node, Both, Iterated};
 ghost use Rattle.valuer.specs.Unique.{ModelOver-prop};
 
-use formula_tokens::{Token, size, token_at};
+use formula_tokens::{Token, token_at};
 use valuer_maps::{Scope, Successors, combined, literals, same, start_of};
 
 // A formula part, and a model over a lattice, whose transitions are listed.
@@ -39,7 +39,7 @@ impl<'a> Valuation<'a> {
     {
         let s = &self.successors;
         let token = token_at(self.formula, at);
-        let here = at + size(token);
+        let here = at + token.size();
         match token {
             Token::Bottom => out.fill(start_of(s.codes, s.lattice, true)),
             Token::Top => out.fill(start_of(s.codes, s.lattice, false)),
