@@ -1,16 +1,16 @@
 -- The successors of a state as a row of bytes, and that AX and EX over them are those over all states. Rests on Code, theory's Loop,
 -- Part, Simulation and TestLaws, elements' Words, Folds and Laws.
 --   leads, leads_to: a transition that is not passed over; list_bytes: how many bytes there are
---   RowListed: a row has the states that pass a test, in order; row_few, row_below: how many there are at most, and each below n; row_of: where the row stands
+--   RowListed: a row has the states that pass a test, in order; row_few, row_below: how many there are at most, and each below n; row_of, row_put: where the row stands
 --   ListedSoFar, listed_none, listed_more, listed_all: what the loop that writes a row has done so far
 --   RowsListed, SuccessorsOf, rows-listed_none, rows-listed_more, rows-listed_all: all rows
 --   all_placed, some_placed, next_listed: AX and EX from a row
 --   RowOf, row_first: a row as a list of its own
 use Prim.Native.Nat.{ℕ, zero, suc, ◌+◌, ◌*◌, ◌≤◌, ◌<◌}
-use Rattle.std.specs.Prelude.{◌≡◌, Bool, not, ◌||◌, List, eqb, length, get_or, set, take}
+use Rattle.std.specs.Prelude.{◌≡◌, Bool, not, ◌||◌, List, eqb, length, get_or, set, take, ◌++◌}
 use Rattle.std.proofs.Math.Path.{refl, sym, ap, ap₂}
 use Rattle.std.proofs.Common.{◌∙◌, ⊎_elim, not-suc-le-zero, eq-or-lt_of_le, le_refl, arith, eqb-true, length-set, get_or-set_same, get_or-set_other}
-use Rattle.std.proofs.lemmas.List.{get_or-take, length-take-le}
+use Rattle.std.proofs.lemmas.List.{get_or-take, get_or_append_left, get_or-append-add, length-take-le}
 use Rattle.std.proofs.Math.Bool.{true, false}
 use Rattle.std.specs.Int.Bits.{bit_and, bit_or, and_zero_l, or_zero_r}
 use Rattle.theory.specs.Loop.{fold, count_none, count_more, indicator_most}
@@ -129,6 +129,18 @@ module _ {p : ℕ → Bool} {at : ℕ} {before : List ℕ} where
         listed = λ s l t. get_or-set_other xs at (at + 1 + count s p) k 0 (λ (z : at + 1 + count s p ≡ at). omega arith) ∙ h.listed s l t;
         below = λ i l. rw (get_or-set_other xs at (at + 1 + i) k 0 (λ (z : at + 1 + i ≡ at). omega arith)) (h.below i (omega (arith, h.count_is)));
       })
+
+-- a row that stands at the front of ys stands behind the front of xs where ys is written there
+pub row_put : {p : ℕ → Bool} {n : ℕ} {ys : List ℕ} (xs zs : List ℕ) (at : ℕ) → RowListed p n 0 ys → n ≤ 64 → 65 ≤ length ys → at ≤ length xs → RowListed p n at (take at xs ++ (ys ++ zs))
+row_put {p} {n} {ys} xs zs at h few long fits =
+    let all = take at xs ++ (ys ++ zs) in
+    let there : (j i : ℕ) → j ≡ at + i → i < 65 → get_or all j 0 ≡ get_or ys i 0 =
+    λ j i e b. ap (λ (k : ℕ). get_or all k 0) (e ∙ ap (λ (k : ℕ). k + i) (sym (length-take-le at xs fits))) ∙ get_or-append-add (take at xs) (ys ++ zs) i 0 ∙ get_or_append_left ys zs 0 i (omega arith) in
+    record {
+      count_is = there at 0 (omega arith) (omega arith) ∙ h.count_is;
+      listed = λ r l e. there (at + 1 + count r p) (1 + count r p) (omega arith) (omega (arith, count-below r p)) ∙ h.listed r l e;
+      below = λ i l. rw (there (at + 1 + i) (1 + i) (omega arith) (omega (arith, count-below n p))) (h.below i l);
+    }
 
 -- ---- all rows
 

@@ -84,21 +84,16 @@ fn leads(w: &Codes, top: u64, e: Element) -> bool
 }
 
 // Writes the row of q: each state is written, and stays where it is a successor.
-fn list_row(w: &Codes, top: u64, m: &Model, q: State, out: &mut [u8])
-    requires { (q.0 < get_or m.now.bytes.now 0 0) × (length out.old ≡ list_bytes) }
-    ensures { RowListed (leads_to w.now.words top m.now.bytes.now q.0) (get_or m.now.bytes.now 0 0) (q.0 * 65) out.new
-        × ((i : ℕ) → i < q.0 * 65 → get_or out.new i 0 ≡ get_or out.old i 0)
-        × (length out.new ≡ list_bytes) }
+fn list_row(w: &Codes, top: u64, m: &Model, q: State, row: &mut [u8])
+    requires { (q.0 < get_or m.now.bytes.now 0 0) × (length row.old ≡ 65) }
+    ensures { RowListed (leads_to w.now.words top m.now.bytes.now q.0) (get_or m.now.bytes.now 0 0) 0 row.new }
 {
-    let n = m.states();
-    let at = usize::from(q.0) * 65;
-    let mut k: usize = 0;
-    for r in 0..n {
-        let e = m.transition(q, State(r as u8));
-        out[at + 1 + k] = r as u8;
-        k += usize::from(leads(w, top, e));
+    let mut count = 0;
+    for r in 0..m.states() {
+        row[1 + count] = r as u8;
+        count += usize::from(leads(w, top, m.transition(q, State(r as u8))));
     }
-    out[at] = k as u8;
+    row[0] = count as u8;
 }
 
 // The successors of every state.
@@ -106,9 +101,8 @@ pub fn list_successors(w: &Codes, l: Lattice, m: &Model, out: &mut [u8])
     requires { length out.old ≡ list_bytes }
     ensures { SuccessorsOf w.now.words l m.now.bytes.now out.new }
 {
-    let n = m.states();
     let top = w.code(l.top);
-    for q in 0..n {
-        list_row(w, top, m, State(q as u8), out);
+    for q in 0..m.states() {
+        list_row(w, top, m, State(q as u8), &mut out[q * 65..q * 65 + 65]);
     }
 }
