@@ -6,3 +6,4 @@ pub mod Meaning  -- these are the values of the latticed mu-calculus, and elemen
 pub mod Over  -- a model that was checked is one over the codes
 -- ---- for the code
 pub mod Node  -- a formula at a place of a part, and what the valuer of that place answers
+pub mod Unique  -- that a model is over a lattice can be so in one way alone

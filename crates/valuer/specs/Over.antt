@@ -1,16 +1,15 @@
 -- A model part that is accepted over a lattice is a model over it. Rests on Values, model's Accepted.
 --   over_test, over_checked: by the test of the part, and by what its check answers
-use Rattle.std.specs.Prelude.{ℕ, Bool, List, get_or}
+use Rattle.std.specs.Prelude.{ℕ, Bool, List, Option, Some, None}
 use Rattle.std.proofs.Math.Path.{◌≡◌, refl}
-use Rattle.std.proofs.Common.{sym, ◌∙◌, arith}
+use Rattle.std.proofs.Common.{sym, ◌∙◌}
 use Rattle.std.proofs.Math.Bool.{true, false, cond}
 use Rattle.theory.specs.Part.{LatticePart}
 use Rattle.elements.specs.Words.{Coded}
 use Rattle.elements.specs.declared.Lattice.{Lattice}
 use Rattle.model.proofs.Accepted.{accepted_shape, accepted_valued}
-use Rattle.model.specs.Reading.{model_test, model_answer}
-use Rattle.model.specs.declared.ModelCheck.{ModelCheck}
-use Rattle.model.specs.declared.ModelCheck.TheVariants.{Refused, Accepted}
+use Rattle.model.specs.Reading.{model_test, model_answer, size_of}
+use Rattle.model.specs.declared.ModelSize.{ModelSize}
 use Rattle.valuer.specs.Values.{ModelOver}
 
 module _ {w : List ℕ} {l : Lattice} (c : Coded w l) where
@@ -25,10 +24,10 @@ module _ {w : List ℕ} {l : Lattice} (c : Coded w l) where
         valued = record { initial_element = v.initial_element; label_element = v.label_element; transition_element = v.transition_element };
       }
 
-  pub over_checked : (m : List ℕ) (r : ModelCheck) (N k : ℕ) → r ≡ Accepted N k → r ≡ model_answer l.size m → ModelOver w l m
+  pub over_checked : (m : List ℕ) (r : Option ModelSize) (s : ModelSize) → r ≡ Some s → r ≡ model_answer l.size m → ModelOver w l m
   unfolding model_answer
-  over_checked m r N k e a = go (model_test l.size m) refl (sym e ∙ a)
+  over_checked m r s e a = go (model_test l.size m) refl (sym e ∙ a)
     where
-      go : (t : Bool) → model_test l.size m ≡ t → Accepted N k ≡ cond t (Accepted (get_or m 0 0) (get_or m 1 0)) Refused → ModelOver w l m
+      go : (t : Bool) → model_test l.size m ≡ t → Some s ≡ cond t (Some (size_of m)) None → ModelOver w l m
       go true x y = over_test m x
-      go false x y = absurd (let z : ◌≡◌ {A = ℕ} 0 1 = cc in omega arith)
+      go false x y = cc

@@ -1,14 +1,16 @@
 -- The successors of a state as a row of bytes, and that AX and EX over them are those over all states. Rests on Code, theory's Loop,
 -- Part, Simulation and TestLaws, elements' Words, Folds and Laws.
 --   leads, leads_to: a transition that is not passed over; list_bytes: how many bytes there are
---   RowListed: a row has the states that pass a test, in order; row_few, row_below: how many there are at most, and each below n; row_of: where the row stands
+--   RowListed: a row has the states that pass a test, in order; row_few, row_below: how many there are at most, and each below n; row_of, row_put: where the row stands
 --   ListedSoFar, listed_none, listed_more, listed_all: what the loop that writes a row has done so far
 --   RowsListed, SuccessorsOf, rows-listed_none, rows-listed_more, rows-listed_all: all rows
---   next_listed: AX and EX from a row
+--   all_placed, some_placed, next_listed: AX and EX from a row
+--   RowOf, row_first: a row as a list of its own
 use Prim.Native.Nat.{ℕ, zero, suc, ◌+◌, ◌*◌, ◌≤◌, ◌<◌}
-use Rattle.std.specs.Prelude.{◌≡◌, Bool, not, ◌||◌, List, eqb, length, get_or, set}
+use Rattle.std.specs.Prelude.{◌≡◌, Bool, not, ◌||◌, List, eqb, length, get_or, set, take, ◌++◌}
 use Rattle.std.proofs.Math.Path.{refl, sym, ap, ap₂}
 use Rattle.std.proofs.Common.{◌∙◌, ⊎_elim, not-suc-le-zero, eq-or-lt_of_le, le_refl, arith, eqb-true, length-set, get_or-set_same, get_or-set_other}
+use Rattle.std.proofs.lemmas.List.{get_or-take, get_or_append_left, get_or-append-add, length-take-le}
 use Rattle.std.proofs.Math.Bool.{true, false}
 use Rattle.std.specs.Int.Bits.{bit_and, bit_or, and_zero_l, or_zero_r}
 use Rattle.theory.specs.Loop.{fold, count_none, count_more, indicator_most}
@@ -128,6 +130,18 @@ module _ {p : ℕ → Bool} {at : ℕ} {before : List ℕ} where
         below = λ i l. rw (get_or-set_other xs at (at + 1 + i) k 0 (λ (z : at + 1 + i ≡ at). omega arith)) (h.below i (omega (arith, h.count_is)));
       })
 
+-- a row that stands at the front of ys stands behind the front of xs where ys is written there
+pub row_put : {p : ℕ → Bool} {n : ℕ} {ys : List ℕ} (xs zs : List ℕ) (at : ℕ) → RowListed p n 0 ys → n ≤ 64 → 65 ≤ length ys → at ≤ length xs → RowListed p n at (take at xs ++ (ys ++ zs))
+row_put {p} {n} {ys} xs zs at h few long fits =
+    let all = take at xs ++ (ys ++ zs) in
+    let there : (j i : ℕ) → j ≡ at + i → i < 65 → get_or all j 0 ≡ get_or ys i 0 =
+    λ j i e b. ap (λ (k : ℕ). get_or all k 0) (e ∙ ap (λ (k : ℕ). k + i) (sym (length-take-le at xs fits))) ∙ get_or-append-add (take at xs) (ys ++ zs) i 0 ∙ get_or_append_left ys zs 0 i (omega arith) in
+    record {
+      count_is = there at 0 (omega arith) (omega arith) ∙ h.count_is;
+      listed = λ r l e. there (at + 1 + count r p) (1 + count r p) (omega arith) (omega (arith, count-below r p)) ∙ h.listed r l e;
+      below = λ i l. rw (there (at + 1 + i) (1 + i) (omega arith) (omega (arith, count-below n p))) (h.below i l);
+    }
+
 -- ---- all rows
 
 -- row q of 65 bytes has the successors of q, for the first n states
@@ -178,29 +192,54 @@ not_or true true e = (refl, refl)
 not_or true false e = absurd (false_true e refl)
 not_or false b e = absurd (false_true e refl)
 
+-- AX and EX over a row of c states, `place` being the number of each
+module _ (w : List ℕ) (top : ℕ) (m x : List ℕ) (q : ℕ) (place : ℕ → ℕ) (c : ℕ) (count_is : c ≡ count (get_or m 0 0) (leads_to w top m q))
+    (listed : (r : ℕ) → r < get_or m 0 0 → leads_to w top m q r ≡ true → place (count r (leads_to w top m q)) ≡ r)
+  where
+    pub all_placed : fold bit_and top (λ i. bit_or (negated_code_in w ((model_of m).transition q (place i))) (get_or x (place i) 0)) c ≡ all_next_code w top m x q
+    all_placed =
+        ap (fold bit_and top (λ i. bit_or (negated_code_in w ((model_of m).transition q (place i))) (get_or x (place i) 0))) count_is
+        ∙ picked bit_and top (λ r. bit_or (negated_code_in w ((model_of m).transition q r)) (get_or x r 0)) (leads_to w top m q) place (get_or m 0 0) listed
+        (λ r l e.
+        let z = eqb-true (negated_code_in w ((model_of m).transition q r)) top (not_or (eqb (code_in w ((model_of m).transition q r)) 0) (eqb (negated_code_in w ((model_of m).transition q r)) top) e).1 in
+        rw z (sym (top_same (fold_within (within-refl top) (λ r. bit_or (negated_code_in w ((model_of m).transition q r)) (get_or x r 0)) r) (get_or x r 0))))
+
+    pub some_placed : fold bit_or 0 (λ i. bit_and (code_in w ((model_of m).transition q (place i))) (get_or x (place i) 0)) c ≡ some_next_code w m x q
+    some_placed =
+        ap (fold bit_or 0 (λ i. bit_and (code_in w ((model_of m).transition q (place i))) (get_or x (place i) 0))) count_is
+        ∙ picked bit_or 0 (λ r. bit_and (code_in w ((model_of m).transition q r)) (get_or x r 0)) (leads_to w top m q) place (get_or m 0 0) listed
+        (λ r l e.
+        let z = eqb-true (code_in w ((model_of m).transition q r)) 0 (not_or (eqb (code_in w ((model_of m).transition q r)) 0) (eqb (negated_code_in w ((model_of m).transition q r)) top) e).0 in
+        rw z (rw (and_zero_l (get_or x r 0)) (or_zero_r (fold bit_or 0 (λ r. bit_and (code_in w ((model_of m).transition q r)) (get_or x r 0)) r))))
+
 module _ (w : List ℕ) (top : ℕ) (m x : List ℕ) (q : ℕ) {at : ℕ} {xs : List ℕ} (h : RowListed (leads_to w top m q) (get_or m 0 0) at xs) where
   -- state i of the row
   abbrev nth : ℕ → ℕ
   nth i = get_or xs (at + 1 + i) 0
 
-  all_listed : fold bit_and top (λ i. bit_or (negated_code_in w ((model_of m).transition q (nth i))) (get_or x (nth i) 0)) (get_or xs at 0) ≡ all_next_code w top m x q
-  all_listed =
-      ap (fold bit_and top (λ i. bit_or (negated_code_in w ((model_of m).transition q (nth i))) (get_or x (nth i) 0))) h.count_is
-      ∙ picked bit_and top (λ r. bit_or (negated_code_in w ((model_of m).transition q r)) (get_or x r 0)) (leads_to w top m q) nth (get_or m 0 0) h.listed
-      (λ r l e.
-      let z = eqb-true (negated_code_in w ((model_of m).transition q r)) top (not_or (eqb (code_in w ((model_of m).transition q r)) 0) (eqb (negated_code_in w ((model_of m).transition q r)) top) e).1 in
-      rw z (sym (top_same (fold_within (within-refl top) (λ r. bit_or (negated_code_in w ((model_of m).transition q r)) (get_or x r 0)) r) (get_or x r 0))))
-
-  some_listed : fold bit_or 0 (λ i. bit_and (code_in w ((model_of m).transition q (nth i))) (get_or x (nth i) 0)) (get_or xs at 0) ≡ some_next_code w m x q
-  some_listed =
-      ap (fold bit_or 0 (λ i. bit_and (code_in w ((model_of m).transition q (nth i))) (get_or x (nth i) 0))) h.count_is
-      ∙ picked bit_or 0 (λ r. bit_and (code_in w ((model_of m).transition q r)) (get_or x r 0)) (leads_to w top m q) nth (get_or m 0 0) h.listed
-      (λ r l e.
-      let z = eqb-true (code_in w ((model_of m).transition q r)) 0 (not_or (eqb (code_in w ((model_of m).transition q r)) 0) (eqb (negated_code_in w ((model_of m).transition q r)) top) e).0 in
-      rw z (rw (and_zero_l (get_or x r 0)) (or_zero_r (fold bit_or 0 (λ r. bit_and (code_in w ((model_of m).transition q r)) (get_or x r 0)) r))))
-
   -- the one or the other
   pub next_listed : (all : Bool) → fold (join_or_meet_code (not all)) (first_code top all) (λ i. step_code all w ((model_of m).transition q (nth i)) (get_or x (nth i) 0)) (get_or xs at 0) ≡ next_code w top m all x q
   unfolding join_or_meet_code first_code step_code next_code
-  next_listed true = all_listed
-  next_listed false = some_listed
+  next_listed true = all_placed w top m x q nth (get_or xs at 0) h.count_is h.listed
+  next_listed false = some_placed w top m x q nth (get_or xs at 0) h.count_is h.listed
+
+-- ---- a row as a list of its own
+
+-- the states below n that pass the test, in order
+pub record RowOf (p : ℕ → Bool) (n : ℕ) (row : List ℕ) : Type 0 where
+  pub count_is : length row ≡ count n p
+  pub listed : (r : ℕ) → r < n → p r ≡ true → get_or row (count r p) 0 ≡ r
+  pub below : (i : ℕ) → i < length row → get_or row i 0 < n
+
+-- it is the first bytes of a list that goes on from where the row's states stand
+pub row_first : {p : ℕ → Bool} {n at : ℕ} {xs : List ℕ} (ys : List ℕ) → RowListed p n at xs → get_or xs at 0 ≤ length ys → ((i : ℕ) → i < get_or xs at 0 → get_or ys i 0 ≡ get_or xs (at + 1 + i) 0)
+    → RowOf p n (take (get_or xs at 0) ys)
+row_first {p} {n} {at} {xs} ys h fits same =
+    let k = get_or xs at 0 in
+    let long : length (take k ys) ≡ k = length-take-le k ys fits in
+    let nth : (i : ℕ) → i < k → get_or (take k ys) i 0 ≡ get_or xs (at + 1 + i) 0 = λ i b. get_or-take k ys i 0 b ∙ same i b in
+    record {
+      count_is = long ∙ h.count_is;
+      listed = λ r l e. nth (count r p) (omega (arith, h.count_is, count-after n p r l e)) ∙ h.listed r l e;
+      below = λ i b. rw (nth i (omega (arith, long))) (row_below h i (omega (arith, long)));
+    }

@@ -1,48 +1,108 @@
 // The successors of each state, listed once for a formula: AX and EX go along them alone, since a transition that is bottom takes nothing
 // from a meet and adds nothing to a join.
 ghost use Rattle.std.specs.Prelude.{◌≡◌, ℕ, ◌*◌, ◌<◌, length, get_or};
-ghost use Rattle.theory.specs.Part.{ModelShape};
-ghost use Rattle.valuer_maps.specs.Successors.{list_bytes, leads, leads_to, RowListed, SuccessorsOf};
+ghost use Rattle.elements.specs.Words.{code_in};
+ghost use Rattle.valuer_maps.specs.Code.{map_words, all_next_code, some_next_code, NextMap};
+ghost use Rattle.valuer_maps.specs.Successors.{list_bytes, leads, leads_to, RowListed, RowOf, SuccessorsOf};
 
+use crate::{all_step, some_step, write_first};
 use elements::{Codes, Element, Lattice};
-use model::State;
+use model::{Model, State};
 
-// Row q has 65 bytes: how many successors q has, then their numbers in order.
-pub type Successors = [u8; 4160];
+// The successors of each state of a model, whose transitions are values of a lattice.
+#[derive(Clone, Copy)]
+pub struct Successors<'a> {
+    pub codes: &'a Codes,
+    pub lattice: Lattice,
+    pub model: Model<'a>,
+    // Row q has 65 bytes: how many successors q has, then their numbers in order.
+    pub rows: &'a [u8; 4160],
+    pub ghost listed: { SuccessorsOf codes.now.words lattice model.bytes.now rows.now },
+}
+
+impl<'a> Successors<'a> {
+    // The numbers of the successors of q.
+    fn of(&self, q: State) -> &'a [u8]
+        requires { q.0 < get_or self.now.model.bytes.now 0 0 }
+        ensures { RowOf (leads_to self.now.codes.now.words (code_in self.now.codes.now.words self.now.lattice.top.0) self.now.model.bytes.now q.0) (get_or self.now.model.bytes.now 0 0)
+            result.now }
+    {
+        let rows = self.rows;
+        let at = usize::from(q.0) * 65;
+        let count = usize::from(rows[at]);
+        &rows[at + 1..][..count]
+    }
+
+    // AX of a map at q: the meet of what its transitions give to it.
+    fn all_next(&self, top: u64, x: &[u64; 64], q: State) -> u64
+        requires { (top ≡ code_in self.now.codes.now.words self.now.lattice.top.0) × (q.0 < get_or self.now.model.bytes.now 0 0) }
+        ensures { result ≡ all_next_code self.now.codes.now.words top self.now.model.bytes.now x.now q.0 }
+    {
+        let mut y = top;
+        let row = self.of(q);
+        for &r in row {
+            let e = self.model.transition(q, State(r));
+            y &= all_step(self.codes, e, x[usize::from(r)]);
+        }
+        y
+    }
+
+    // EX of a map at q: the join of what they give to that.
+    fn some_next(&self, x: &[u64; 64], q: State) -> u64
+        requires { q.0 < get_or self.now.model.bytes.now 0 0 }
+        ensures { result ≡ some_next_code self.now.codes.now.words self.now.model.bytes.now x.now q.0 }
+    {
+        let mut y = 0;
+        let row = self.of(q);
+        for &r in row {
+            let e = self.model.transition(q, State(r));
+            y |= some_step(self.codes, e, x[usize::from(r)]);
+        }
+        y
+    }
+
+    // AX (all) or EX of a map.
+    pub fn next_values(&self, all: bool, x: &[u64; 64], out: &mut [u64])
+        requires { length out.old ≡ map_words }
+        ensures { NextMap self.now.codes.now.words self.now.lattice self.now.model.bytes.now all x.now out.new }
+    {
+        let n = self.model.states();
+        let top = self.codes.code(self.lattice.top);
+        if all {
+            write_first(n, |q| self.all_next(top, x, State(q as u8)), out)
+        } else {
+            write_first(n, |q| self.some_next(x, State(q as u8)), out)
+        }
+    }
+}
 
 // Whether a transition of this value is to be looked at: it is not bottom, or else its complement is not top.
 fn leads(w: &Codes, top: u64, e: Element) -> bool
-    ensures { result ≡ leads w.now top e.0 }
+    ensures { result ≡ leads w.now.words top e.0 }
 {
-    (elements::code(w, e) != 0) | (elements::negated_code(w, e) != top)
+    (w.code(e) != 0) | (w.negated_code(e) != top)
 }
 
 // Writes the row of q: each state is written, and stays where it is a successor.
-fn list_row(w: &Codes, top: u64, m: &[u8], q: State, out: &mut [u8])
-    requires { ModelShape m.now × (q.0 < get_or m.now 0 0) × (length out.old ≡ list_bytes) }
-    ensures { RowListed (leads_to w.now top m.now q.0) (get_or m.now 0 0) (q.0 * 65) out.new
-        × ((i : ℕ) → i < q.0 * 65 → get_or out.new i 0 ≡ get_or out.old i 0)
-        × (length out.new ≡ list_bytes) }
+fn list_row(w: &Codes, top: u64, m: &Model, q: State, row: &mut [u8])
+    requires { (q.0 < get_or m.now.bytes.now 0 0) × (length row.old ≡ 65) }
+    ensures { RowListed (leads_to w.now.words top m.now.bytes.now q.0) (get_or m.now.bytes.now 0 0) 0 row.new }
 {
-    let n = model::states(m);
-    let at = elements::index(q.0) * 65;
-    let mut k: usize = 0;
-    for r in 0..n {
-        let e = model::transition(m, q, State(r as u8));
-        out[at + 1 + k] = r as u8;
-        k += elements::one_if(leads(w, top, e));
+    let mut count = 0;
+    for r in 0..m.states() {
+        row[1 + count] = r as u8;
+        count += usize::from(leads(w, top, m.transition(q, State(r as u8))));
     }
-    out[at] = k as u8;
+    row[0] = count as u8;
 }
 
 // The successors of every state.
-pub fn list_successors(w: &Codes, l: Lattice, m: &[u8], out: &mut [u8])
-    requires { ModelShape m.now × (length out.old ≡ list_bytes) }
-    ensures { SuccessorsOf w.now l m.now out.new }
+pub fn list_successors(w: &Codes, l: Lattice, m: &Model, out: &mut [u8])
+    requires { length out.old ≡ list_bytes }
+    ensures { SuccessorsOf w.now.words l m.now.bytes.now out.new }
 {
-    let n = model::states(m);
-    let top = elements::code(w, l.top);
-    for q in 0..n {
-        list_row(w, top, m, State(q as u8), out);
+    let top = w.code(l.top);
+    for q in 0..m.states() {
+        list_row(w, top, m, State(q as u8), &mut out[q * 65..q * 65 + 65]);
     }
 }

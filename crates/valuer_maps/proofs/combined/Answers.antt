@@ -1,21 +1,12 @@
--- `valuer_maps::combined` meets its contract: the words so far are the joins or the meets.
-use mathlib.Core.Path.{◌≡◌, refl}
-use Prim.Native.Nat.{◌≤◌, ◌-◌}
-use native.Mathlib.Omega.{arith}
-use lib.ListN.{length, get_or, length-set}
-use borrow.Author.Rules.{rules}
-use Rattle.theory.specs.Lists.{Filled}
-use Rattle.theory.specs.Loop.{filled_none, filled_more, filled_as}
+-- `valuer_maps::combined` meets its contract: each word is what the closure gives.
+use Rattle.std.proofs.Common.{rules}
 use Rattle.valuer_maps.specs.Code.{join_or_meet_code}
 use Rattle.valuer_maps.proofs.combined.Goals as goal
 
-pub loop-q-init : goal.loop-q-init
-loop-q-init c = (omega arith, c.requires.1, filled_none)
+pub returns-then-up : goal.returns-then-up
+unfolding join_or_meet_code
+returns-then-up c = record { at = λ q b. let k = c.write_first.ensures q b in rw c.if-up.true (search rules) }
 
-pub loop-q-preserved : goal.loop-q-preserved
-loop-q-preserved c =
-    let i = c.loop-q.invariant in
-    (omega arith, simp length-set i.1, filled_more i.2 (omega arith) c.join_or_meet.ensures)
-
-pub returns : goal.returns
-returns c = filled_as c.loop-q.invariant.2 c.loop-q-test.false (λ i b. refl)
+pub returns-else-up : goal.returns-else-up
+unfolding join_or_meet_code
+returns-else-up c = record { at = λ q b. let k = c.write_first-else-up.ensures q b in rw c.if-up.false (search rules) }
