@@ -1,26 +1,31 @@
 -- A join that ends once it is top, worked in blocks of 16 words; blocks whose transitions are all bottom are passed over, since they add
 -- nothing. Rests on Codes, theory's Loop, Simulation, PairLaws and TestLaws, and elements' Folds and Laws.
 --   join_code: the join of the first words of a row, each met with that of a table at its place; join_none, join_turn: its begin, and one word more
---   words_join: the join of words of a row alone; lt_or_le: two numbers in order
+--   words_join: the join of words of a row alone; words_met: of a row's words, each met with that of a table; lt_or_le: two numbers in order
+--   fold_items, fold_pairs: the fold of a list's items, and of those of two; fold_on: a fold that goes on
+--   block_joined, words_joined, all_words_joined: one block more of a join, and the joins of a block's words and of all
 --   Gap, gap_late, join_gap: words that are 0 add nothing
 --   block_from, block_next, Listed, listed_none, listed-passed, listed_turn: the blocks that are not all 0
 --   open_pairs, Joined: how many pairs a join looks at, and what it gives; FirstTop, first_top, BeforeTop: where it is top first, and before the block with which it is
 --   joined-top, joined-all: a join that ended at the top, and one that did not
 --   MayEnd, never_top, open_all: a join that cannot be top
 use Prim.Native.Nat.{ℕ, zero, suc, ◌+◌, ◌-◌, ◌≤◌, ◌<◌}
-use Rattle.std.specs.Prelude.{◌≡◌, refl, Bool, true, false, not, ◌⊎◌, List, ltb, eqb, length, get_or, set}
-use Rattle.std.proofs.Common.{sym, ap₂, ◌∙◌, inl, inr, ⊎_elim, add-zero, add-suc, le_refl, not-suc-le-zero, add-one, arith, ltb-true, ltb-false, eq-eqb, ne_eqb, eqb-true, get_or-set_same, get_or-set_other}
+use Rattle.std.specs.Prelude.{◌≡◌, refl, Bool, true, false, not, ◌⊎◌, List, [], ◌∷◌, ltb, eqb, length, get_or, take, drop, set}
+use Rattle.std.proofs.Common.{sym, ap₂, ◌∙◌, inl, inr, ⊎_elim, add-zero, add-suc, le_refl, zero-add, le_of_suc-le-suc, not-suc-le-zero, add-one, arith, ltb-true, ltb-false, eq-eqb, ne_eqb, eqb-true, get_or-set_same, get_or-set_other, get_or-take, get_or-drop, length-take-le, length-drop}
 use Rattle.std.proofs.Math.Path.{ap}
 use Rattle.std.proofs.lemmas.Bool.{not-false}
 use Rattle.std.specs.Int.Bits.{bit_and, bit_or, or_comm}
 use Rattle.std.proofs.lemmas.Nat.{and_comm}
-use Rattle.theory.specs.Loop.{fold}
+use Rattle.std.specs.List.{fold as list_fold, zip}
+use mir.Val.{bool_byte}
+use Rattle.theory.specs.Loop.{fold, fold_cong}
 use Rattle.theory.specs.Simulation.{indicator, count}
 use Rattle.theory.proofs.PairLaws.{count_first}
 use Rattle.theory.specs.TestLaws.{below_suc}
 use Rattle.elements.proofs.Folds.{or_within, or_member, or_stays}
 use Rattle.elements.specs.Laws.{Within, within-refl, within_trans, within_antisym, and_left}
 use Rattle.entries.specs.Codes.{WithinTop}
+use Rattle.entries.specs.Words.{slice_word}
 
 -- the join of the first n words of `row`, each met with the word of `table` at its place from `at` on
 abbrev pub join_code : List ℕ → List ℕ → ℕ → ℕ → ℕ
@@ -29,6 +34,36 @@ join_code row table at n = fold bit_or 0 (λ i. bit_and (get_or row i 0) (get_or
 -- the join of n words of `row` from i on
 abbrev pub words_join : List ℕ → ℕ → ℕ → ℕ
 words_join row i n = fold bit_or 0 (λ j. get_or row (i + j) 0) n
+
+-- the join of the words of a list; and of x and the words of `row`, each met with the word of `codes` at its place
+abbrev pub all_joined : List ℕ → ℕ
+all_joined row = list_fold bit_or 0 row
+
+abbrev pub words_met : ℕ → List ℕ → List ℕ → ℕ
+words_met x row codes = list_fold (λ y (p : ℕ × ℕ). bit_or y (bit_and p.0 p.1)) x (zip row codes)
+
+-- ---- the folds of lists are these
+
+fold_first : (g : ℕ → ℕ → ℕ) (x : ℕ) (f : ℕ → ℕ) (n : ℕ) → fold g (g x (f 0)) (λ i. f (suc i)) n ≡ fold g x f (suc n)
+unfolding fold
+fold_first g x f zero = refl
+fold_first g x f (suc n) = ap (λ (y : ℕ). g y (f (suc n))) (fold_first g x f n)
+
+pub fold_items : (g : ℕ → ℕ → ℕ) (x : ℕ) (xs : List ℕ) → list_fold g x xs ≡ fold g x (λ i. get_or xs i 0) (length xs)
+unfolding fold
+fold_items g x [] = refl
+fold_items g x (y ∷ ys) = fold_items g (g x y) ys ∙ fold_first g x (λ i. get_or (y ∷ ys) i 0) (length ys)
+
+pub fold_pairs : (g h : ℕ → ℕ → ℕ) (x : ℕ) (xs ys : List ℕ) → length xs ≤ length ys → list_fold (λ y (p : ℕ × ℕ). g y (h p.0 p.1)) x (zip xs ys) ≡ fold g x (λ i. h (get_or xs i 0) (get_or ys i 0)) (length xs)
+unfolding fold
+fold_pairs g h x [] ys l = refl
+fold_pairs g h x (a ∷ ks) [] l = absurd (not-suc-le-zero l)
+fold_pairs g h x (a ∷ ks) (b ∷ bs) l = fold_pairs g h (g x (h a b)) ks bs (le_of_suc-le-suc l) ∙ fold_first g x (λ i. h (get_or (a ∷ ks) i 0) (get_or (b ∷ bs) i 0)) (length ks)
+
+pub fold_on : (g : ℕ → ℕ → ℕ) (x : ℕ) (f : ℕ → ℕ) (i n : ℕ) → fold g (fold g x f i) (λ j. f (i + j)) n ≡ fold g x f (i + n)
+unfolding fold
+fold_on g x f i zero = ap (fold g x f) (sym (add-zero i))
+fold_on g x f i (suc n) = ap (λ (y : ℕ). g y (f (i + n))) (fold_on g x f i n) ∙ ap (fold g x f) (sym (add-suc i n))
 
 -- ---- words that are 0
 
@@ -75,6 +110,32 @@ module _ (row table : List ℕ) (at : ℕ) where
 pub join_none : (row table : List ℕ) (at : ℕ) → 0 ≡ join_code row table at 0
 unfolding fold
 join_none row table at = refl
+
+-- one block more, of the n words from i on
+pub block_joined : (row codes : List ℕ) (i n : ℕ) {x y : ℕ} → n ≡ 16 → i + 16 ≤ length row → i + 16 ≤ length codes → x ≡ join_code row codes 0 i → y ≡ words_met x (take n (drop i row)) (take n (drop i codes)) → y ≡ join_code row codes 0 (i + 16)
+block_joined row codes i n {x} {y} s l k d e =
+    let m : length (take n (drop i row)) ≡ n = length-take-le n (drop i row) (omega (arith, length-drop i row)) in
+    let m' : length (take n (drop i codes)) ≡ n = length-take-le n (drop i codes) (omega (arith, length-drop i codes)) in
+    e ∙ fold_pairs bit_or bit_and x (take n (drop i row)) (take n (drop i codes)) (omega arith)
+    ∙ ap (fold bit_or x (λ j. bit_and (get_or (take n (drop i row)) j 0) (get_or (take n (drop i codes)) j 0))) m
+    ∙ fold_cong bit_or x _ _ n (λ j k. ap₂ bit_and (slice_word row i n j k) (slice_word codes i n j k ∙ ap (λ (m : ℕ). get_or codes m 0) (sym (zero-add (i + j)))))
+    ∙ ap (λ (z : ℕ). fold bit_or z (λ j. bit_and (get_or row (i + j) 0) (get_or codes (0 + (i + j)) 0)) n) d
+    ∙ fold_on bit_or 0 (λ k. bit_and (get_or row k 0) (get_or codes (0 + k) 0)) i n
+    ∙ ap (λ (m : ℕ). join_code row codes 0 (i + m)) s
+
+-- the join of n words from i on, and that of all
+pub words_joined : (row : List ℕ) (i n : ℕ) {y : ℕ} → i + n ≤ length row → y ≡ all_joined (take n (drop i row)) → y ≡ words_join row i n
+words_joined row i n l e =
+    let m : length (take n (drop i row)) ≡ n = length-take-le n (drop i row) (omega (arith, length-drop i row)) in
+    e ∙ fold_items bit_or 0 (take n (drop i row)) ∙ ap (fold bit_or 0 (λ j. get_or (take n (drop i row)) j 0)) m
+    ∙ fold_cong bit_or 0 _ _ n (λ j k. slice_word row i n j k)
+
+pub all_words_joined : (row : List ℕ) {y : ℕ} → y ≡ all_joined row → y ≡ words_join row 0 (length row)
+all_words_joined row e = e ∙ fold_items bit_or 0 row ∙ fold_cong bit_or 0 _ _ (length row) (λ j k. ap (λ (m : ℕ). get_or row m 0) (sym (zero-add j)))
+
+pub join_more : (row codes : List ℕ) (i : ℕ) {x : ℕ} → x ≡ join_code row codes 0 i → bit_or x (bit_and (get_or row i 0) (get_or codes i 0)) ≡ join_code row codes 0 (i + 1)
+unfolding fold
+join_more row codes i {x} e = ap (λ (y : ℕ). bit_or y (bit_and (get_or row i 0) (get_or codes i 0))) e ∙ ap (λ (k : ℕ). bit_or (join_code row codes 0 i) (bit_and (get_or row i 0) (get_or codes k 0))) (sym (zero-add i)) ∙ rw add-one
 
 pub join_turn : (row table : List ℕ) (at i j : ℕ) {x y : ℕ} → x ≡ join_code row table at (i + j) → y ≡ bit_or x (bit_and (get_or row (i + j) 0) (get_or table (at + i + j) 0)) → y ≡ join_code row table at (i + (j + 1))
 unfolding fold
@@ -126,6 +187,23 @@ listed_more {row} {starts} {len} {a} u l f =
       last = rw here (gap_none (a + 16));
     })
 
+-- a list of places from which what is past its blocks is cut off
+pub listed_front : {row starts : List ℕ} (len : ℕ) {upto : ℕ} → Listed row starts len upto → len ≤ length starts → Listed row (take len starts) (length (take len starts)) upto
+listed_front {row} {starts} len {upto} u l =
+    let e : length (take len starts) ≡ len = length-take-le len starts l in
+    let there : (c : ℕ) → c < len → get_or (take len starts) c 0 ≡ get_or starts c 0 = λ c k. get_or-take len starts c 0 k in
+    let from : (c : ℕ) → c ≤ len → block_from (take len starts) c ≡ block_from starts c = front_from starts len in
+    rw e
+    (record {
+      fits = λ c k. rw (there c k) (u.fits c k);
+      gap = λ c k. rw (from c (omega arith), there c k) (u.gap c k);
+      last = rw (from len (le_refl len)) u.last;
+    })
+  where
+    front_from : (starts : List ℕ) (len c : ℕ) → c ≤ len → block_from (take len starts) c ≡ block_from starts c
+    front_from starts len zero k = refl
+    front_from starts len (suc c) k = ap (λ (x : ℕ). x + 16) (get_or-take len starts c 0 k)
+
 -- where the join of n words from i on is 0, each of them is
 gap_words : (row : List ℕ) (i n : ℕ) → words_join row i n ≡ 0 → Gap row i (i + n)
 gap_words row i n e =
@@ -146,6 +224,10 @@ listed_same {row} {starts} {len} {a} v u =
       gap = λ c m. rw (block_same starts len v c (omega arith), there c m) (u.gap c m);
       last = rw (block_same starts len v len (le_refl len)) u.last;
     }
+
+pub byte_indicator : (b : Bool) → bool_byte b ≡ indicator b
+byte_indicator true = refl
+byte_indicator false = refl
 
 -- a turn of the loop that lists them
 pub listed_turn : {row starts : List ℕ} {len a : ℕ} (b : Bool) → Listed row starts len a → len < length starts → a + 16 ≤ 64 → b ≡ not (eqb (words_join row a 16) 0) → Listed row (set starts len a) (len + indicator b) (a + 16)

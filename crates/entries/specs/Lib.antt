@@ -6,3 +6,4 @@ pub mod Words  -- rows of words: as a rule says, replaced where they stand, and 
 pub mod Codes  -- the codes that the loops compute, and that they are those of F's meets and joins
 pub mod Joins  -- a join that ends once it is top, block by block
 pub mod Prepared  -- what a row's entries have in common, and an entry from it
+pub mod Shaped  -- what the structs know of their models and tables

@@ -3,9 +3,9 @@
 --   meet_code, open_pair, MetSoFar: the meet over states of model 1 and the pairs that it looks at, from the words of a row; met_none, met_more,
 --     met_stop, met_all: its begin and turn, where it is bottom, and its end; met_within: within the top's; top_some: where a meet is not 0, the top's word is not
 --   Prepared: what a row's entries have in common; row_gap, row_within_lem: the transitions of model 2; entry_met, entry_bottom: an entry from it
-use Rattle.std.specs.Prelude.{ℕ, ◌+◌, ◌*◌, ◌≤◌, ◌<◌, ◌≡◌, refl, Bool, true, ◌&&◌, List, length, get_or, replicate}
+use Rattle.std.specs.Prelude.{ℕ, ◌+◌, ◌*◌, ◌≤◌, ◌<◌, ◌≡◌, refl, Bool, true, ◌&&◌, List, length, get_or, take, drop, replicate}
 use Rattle.std.proofs.Math.Path.{sym, ap, ap₂}
-use Rattle.std.proofs.Common.{◌∙◌, ⊎_elim, add-one, arith}
+use Rattle.std.proofs.Common.{◌∙◌, ⊎_elim, add-one, zero-add, arith}
 use Rattle.std.proofs.Math.Bool.{false, not}
 use Rattle.std.proofs.Math.Nat.{le_refl}
 use borrow.Author.Tests.{eq-eqb, ne_eqb}
@@ -26,7 +26,7 @@ use Rattle.elements.specs.Laws.{Within}
 use Rattle.elements.specs.Words.{code_in, decode_in, ops_in, Coded}
 use Rattle.model.specs.Reading.{leaving_code}
 use Rattle.entries.specs.Table.{table_of, EntryIs}
-use Rattle.entries.specs.Words.{Rows, low_at}
+use Rattle.entries.specs.Words.{Rows, low_at, slice_word}
 use Rattle.entries.specs.Codes.{table_code, propositions_code, join_before_code, meet_before_code, codes_of_table, InnerCoded, table_itself, WithinTop, code_within, bottom_test, top-test, joins_of, inner_of, meets-of, entry-decoded}
 use Rattle.entries.specs.Joins.{join_code, words_join, Gap, lt_or_le, open_pairs, Joined, open_all}
 
@@ -44,6 +44,17 @@ state_joined {y} {c} j = record { code_is = ap (λ (x : ℕ). bit_and y (bit_or 
 
 pub state_passed : {y c top n₂ : ℕ} {row table : List ℕ} (at : ℕ) → Within y top → c ≡ top → WithinTop top 64 row → (words_join row 0 64 ≡ top → ⊥) → n₂ ≤ 64 → StateMet y c top row table at n₂ y n₂
 state_passed {y} {c} {top} {n₂} {row} {table} at w e h d l = record { code_is = rw e (top_same w _); pairs_are = open_all top row table at n₂ h d l; pairs_most = le_refl n₂ }
+
+-- of a state whose row is the n words of a table from `at` on
+pub state_at : {y c top n₂ code pairs : ℕ} {row table : List ℕ} (at n : ℕ) → n₂ ≤ 64 → n ≡ 64 → StateMet y c top row (take n (drop at table)) 0 n₂ code pairs → StateMet y c top row table at n₂ code pairs
+state_at {y} {c} {top} {n₂} {row = row} {table = table} at n few s h =
+    let same : (k : ℕ) → k ≤ 64 → join_code row (take n (drop at table)) 0 k ≡ join_code row table at k =
+    λ k l. fold_cong bit_or 0 _ _ k (λ i m. ap (bit_and (get_or row i 0)) (ap (λ (j : ℕ). get_or (take n (drop at table)) j 0) (zero-add i) ∙ slice_word table at n i (omega arith))) in
+    record {
+      code_is = h.code_is ∙ ap (λ (x : ℕ). bit_and y (bit_or c x)) (same n₂ few);
+      pairs_are = h.pairs_are ∙ count_cong n₂ _ _ (λ k l. ap (λ (x : ℕ). not (eqb x top)) (same k (omega arith)));
+      pairs_most = h.pairs_most;
+    }
 
 module _ (x top : ℕ) (left row table : List ℕ) (n₂ : ℕ) where
   -- x met, for each state below k, with its word of `left` joined with its join

@@ -1,26 +1,28 @@
 // The joins inside an entry, over the states of model 2: 16 words at a time, up to the block with which a join is top, and then word by word.
 // A block whose transitions are all bottom is passed over: it adds nothing.
-ghost use Rattle.std.specs.Prelude.{◌≡◌, ◌+◌, ◌≤◌, length};
+ghost use Rattle.std.specs.Prelude.{◌≡◌, ◌+◌, ◌≤◌, false, length};
 ghost use Rattle.entries.specs.Codes.{WithinTop};
-ghost use Rattle.entries.specs.Joins.{join_code, Gap, words_join, Listed, Joined, FirstTop, BeforeTop};
+ghost use Rattle.entries.specs.Joins.{join_code, Gap, all_joined, words_met, Listed, Joined, FirstTop, BeforeTop, MayEnd};
 
 use crate::CodeAndPairs;
 
-// The join of n words of `row` from place i on.
-pub(crate) fn join_words(row: &[u64; 64], i: usize, n: usize) -> u64
-    requires { i + n ≤ 64 }
-    ensures { result ≡ words_join row.now i n }
+// The join of the words of `row`.
+pub(crate) fn join_words(row: &[u64]) -> u64
+    ensures { result ≡ all_joined row.now }
 {
-    let mut x: u64 = 0;
-    for j in 0..n {
-        x = x | row[i + j];
-    }
-    x
+    row.iter().fold(0, |x, y| x | *y)
+}
+
+// The join of x and the words of `row`, each met with the word of `codes` at its place.
+pub fn join_met(x: u64, row: &[u64], codes: &[u64]) -> u64
+    ensures { result ≡ words_met x row.now codes.now }
+{
+    row.iter().zip(codes).fold(x, |y, (r, c)| y | (*r & *c))
 }
 
 // Writes where the blocks of 16 words of `row` begin that are not all 0, and says how many there are. From place n on all words are 0.
-pub(crate) fn list_blocks(row: &[u64; 64], n: usize, starts: &mut [usize]) -> usize
-    requires { Gap row.now n 64 × (length starts.old ≡ 4) }
+pub(crate) fn list_blocks(row: &[u64; 64], n: usize, starts: &mut [usize; 4]) -> usize
+    requires { Gap row.now n 64 }
     ensures { (result ≤ 4) × Listed row.now starts.new result 64 }
 {
     let mut count: usize = 0;
@@ -30,61 +32,57 @@ pub(crate) fn list_blocks(row: &[u64; 64], n: usize, starts: &mut [usize]) -> us
             return count;
         }
         starts[count] = i;
-        count += elements::one_if(join_words(row, i, 16) != 0);
+        count += usize::from(join_words(&row[i..i + 16]) != 0);
     }
     count
 }
 
-// x, the join before word i, joined with the 16 words from there on. Their first place in the table is worked out once, so that the words are
-// taken two at a time.
-fn join_block(x: u64, row: &[u64; 64], i: usize, table: &[u64], at: usize) -> u64
-    requires { (i + 16 ≤ 64) × (at + 64 ≤ length table.now) × (x ≡ join_code row.now table.now at i) }
-    ensures { result ≡ join_code row.now table.now at (i + 16) }
-{
-    let first = at + i;
-    let mut y = x;
-    for j in 0..16usize {
-        y = y | (row[i + j] & table[first + j]);
-    }
-    y
+// The transitions that leave a state of model 2, in codes: those to its states, and 0 from there on; where the blocks of 16 of them begin that are not
+// all 0; and whether a join over them can be top.
+#[derive(Clone, Copy)]
+pub(crate) struct Leaving<'a> {
+    pub top: u64,
+    pub row: &'a [u64],
+    pub states: usize,
+    pub starts: &'a [usize],
+    pub ends: bool,
+    ghost long: { length row.now ≡ 64 },
+    ghost within: { WithinTop top 64 row.now },
+    ghost gap: { Gap row.now states 64 },
+    ghost few: { length starts.now ≤ 4 },
+    ghost listed: { Listed row.now starts.now (length starts.now) 64 },
+    ghost may_end: { MayEnd top row.now ends },
 }
 
 // How many words it takes until the join is top: x, the join before word i, is not, and with the 16 words from there on it is.
-fn end_in_block(x: u64, top: u64, row: &[u64; 64], i: usize, table: &[u64], at: usize) -> usize
-    requires { (i + 16 ≤ 64) × (at + 64 ≤ length table.now) × WithinTop top 64 row.now × (x ≡ join_code row.now table.now at i) × (x ≡ top → ⊥)
-        × (join_code row.now table.now at (i + 16) ≡ top) }
-    ensures { FirstTop top row.now table.now at result }
+fn end_in_block(x: u64, r: &Leaving, i: usize, codes: &[u64]) -> usize
+    requires { (i + 16 ≤ 64) × (64 ≤ length codes.now) × (x ≡ join_code r.now.row.now codes.now 0 i) × (x ≡ r.now.top → ⊥)
+        × (join_code r.now.row.now codes.now 0 (i + 16) ≡ r.now.top) }
+    ensures { FirstTop r.now.top r.now.row.now codes.now 0 result }
 {
-    let first = at + i;
     let mut y = x;
-    for j in 0..16usize {
-        y = y | (row[i + j] & table[first + j]);
-        if y == top {
-            return i + j + 1;
+    for j in i..i + 16 {
+        y = y | (r.row[j] & codes[j]);
+        if y == r.top {
+            return j + 1;
         }
     }
     i + 16
 }
 
-// The join of the words of `row` that stand in the listed blocks, each met with the word of `table` at its place from `at` on: its code before the block
+// The join of the words of `row` that stand in the listed blocks, each met with the word of `codes` at its place: its code before the block
 // with which it is top, and where that block begins; 64 where it never is. The search for the last word stands outside this loop, so that the blocks are
 // joined two words at a time.
-fn before_top(
-    top: u64,
-    row: &[u64; 64],
-    starts: &[usize; 4],
-    blocks: usize,
-    table: &[u64],
-    at: usize,
-) -> CodeAndPairs
-    requires { (blocks ≤ 4) × (at + 64 ≤ length table.now) × (top ≡ 0 → ⊥) × Listed row.now starts.now blocks 64 }
-    ensures { BeforeTop top row.now table.now at result.code result.pairs }
+fn before_top(r: &Leaving, codes: &[u64]) -> CodeAndPairs
+    requires { (64 ≤ length codes.now) × (r.now.top ≡ 0 → ⊥) }
+    ensures { BeforeTop r.now.top r.now.row.now codes.now 0 result.code result.pairs }
 {
+    let row = r.row;
     let mut x: u64 = 0;
-    for c in 0..blocks {
-        let i = starts[c];
-        let y = join_block(x, row, i, table, at);
-        if y == top {
+    for start in r.starts {
+        let i = *start;
+        let y = join_met(x, &row[i..i + 16], &codes[i..i + 16]);
+        if y == r.top {
             return CodeAndPairs { code: x, pairs: i };
         }
         x = y;
@@ -92,29 +90,20 @@ fn before_top(
     CodeAndPairs { code: x, pairs: 64 }
 }
 
-// The same join, and how many of the first n words it takes until it is top, n where it never is.
-pub(crate) fn join(
-    top: u64,
-    row: &[u64; 64],
-    starts: &[usize; 4],
-    blocks: usize,
-    table: &[u64],
-    at: usize,
-    n: usize,
-) -> CodeAndPairs
-    requires { (blocks ≤ 4) × (at + 64 ≤ length table.now) × (top ≡ 0 → ⊥) × WithinTop top 64 row.now
-        × Listed row.now starts.now blocks 64 × Gap row.now n 64 }
-    ensures { Joined top row.now table.now at n result.code result.pairs }
+// The same join, and how many of the words it takes until it is top, as many as there are states where it never is.
+pub(crate) fn join(r: &Leaving, codes: &[u64]) -> CodeAndPairs
+    requires { (64 ≤ length codes.now) × (r.now.top ≡ 0 → ⊥) }
+    ensures { Joined r.now.top r.now.row.now codes.now 0 r.now.states result.code result.pairs }
 {
-    let b = before_top(top, row, starts, blocks, table, at);
+    let b = before_top(r, codes);
     if b.pairs == 64 {
         return CodeAndPairs {
             code: b.code,
-            pairs: n,
+            pairs: r.states,
         };
     }
     CodeAndPairs {
-        code: top,
-        pairs: end_in_block(b.code, top, row, b.pairs, table, at),
+        code: r.top,
+        pairs: end_in_block(b.code, r, b.pairs, codes),
     }
 }

@@ -1,26 +1,31 @@
 // One entry of F: its element, and how many pairs of states working it looks at (request 103). It is worked on the codes of elements, by & and |
 // alone, and turned back into its element once. Propositions come first, then the states of model 1 in rising order, up to the first after
 // which the meet is bottom; the pairs of such a state are counted up to the first after which its join is top, and worked in blocks.
+//   table: the two models, and tables for their states
 //   labels: what the propositions give, for all entries of a row
+//   row: what the entries of a row have in common
 //   joins: the joins over the states of model 2
 #![tactic(auto)]
 
 mod joins;
 mod labels;
+mod row;
+mod table;
 
 ghost use Rattle.std.specs.Prelude.{◌≡◌, ◌+◌, ◌*◌, ◌≤◌, ◌<◌, length, get_or};
 ghost use Rattle.elements.specs.Laws.{Within};
-ghost use Rattle.elements.specs.Words.{Coded};
-ghost use Rattle.entries.specs.Table.{table_of, Shaped, EntryIs};
-ghost use Rattle.entries.specs.Words.{row_words, Rows};
-ghost use Rattle.entries.specs.Codes.{table_code, WithinTop};
-ghost use Rattle.entries.specs.Joins.{Gap, Listed, MayEnd};
+ghost use Rattle.entries.specs.Table.{EntryIs};
+ghost use Rattle.entries.specs.Words.{Rows};
+ghost use Rattle.entries.specs.Codes.{table_code};
 ghost use Rattle.entries.specs.Prepared.{StateMet, MetSoFar, Prepared};
 
-use elements::{Codes, Element, Lattice};
-use joins::{join, join_words, list_blocks};
+use elements::{Algebra, Codes, Element, Lattice};
+pub use joins::join_met;
+use joins::{Leaving, join, join_words, list_blocks};
 pub use labels::propositions;
 use model::State;
+pub use row::Row;
+pub use table::{Models, Table};
 
 // An entry of F, and how many pairs (q1', q2') working it looked at.
 #[derive(Clone, Copy)]
@@ -38,108 +43,73 @@ pub(crate) struct CodeAndPairs {
 
 // ---- what a row's entries have in common
 
-// The codes of n1 rows of n2 entries of the table s, 64 to a row.
-fn encode_rows(w: &Codes, s: &[u8], n1: usize, n2: usize, out: &mut [u64])
-    requires { (n1 ≤ 64) × (n2 ≤ 64) × (n1 * n2 ≤ length s.now) × (n1 * 64 ≤ length out.old) }
-    ensures { Rows (table_code w.now s.now n2) n1 n2 out.new }
+// The codes of a table's entries, 64 to a row.
+fn encode_rows(w: &Codes, t: &Table, out: &mut [u64])
+    requires { get_or t.now.models.first.bytes.now 0 0 * 64 ≤ length out.old }
+    ensures { Rows (table_code w.now.words t.now.bytes.now (get_or t.now.models.second.bytes.now 0 0)) (get_or t.now.models.first.bytes.now 0 0) (get_or t.now.models.second.bytes.now 0 0) out.new }
 {
-    for q in 0..n1 {
-        elements::encode(w, s, q * n2, n2, out, q * 64);
+    let n2 = t.models.second.states();
+    for q in 0..t.models.first.states() {
+        w.encode(t.row(State(q as u8)), &mut out[q * 64..q * 64 + n2]);
     }
 }
 
-// What the entries of row q1 of F of the table s have in common: what the propositions give for each of them, the complements of the transitions
-// that leave q1, and the table, all in codes.
+// What the entries of row q1 of F of a table have in common: what the propositions give for each of them, the complements of the transitions that leave q1,
+// and the table, all in codes.
 pub fn prepare(
     w: &Codes,
     l: Lattice,
-    m1: &[u8],
-    m2: &[u8],
-    s: &[u8],
+    t: &Table,
     q1: State,
-    alike: &mut [u64; 64],
+    alike: &mut [u64],
     left: &mut [u64],
-    table: &mut [u64],
+    codes: &mut [u64],
 )
-    requires { Shaped m1.now m2.now s.now × (q1.0 < get_or m1.now 0 0) × (length left.old ≡ row_words)
-        × (get_or m1.now 0 0 * 64 ≤ length table.old) }
-    ensures { Prepared w.now l m1.now m2.now s.now q1.0 alike.new left.new
-        table.new }
+    requires { (q1.0 < get_or t.now.models.first.bytes.now 0 0) × (length alike.old ≡ get_or t.now.models.second.bytes.now 0 0)
+        × (length left.old ≡ get_or t.now.models.first.bytes.now 0 0) × (get_or t.now.models.first.bytes.now 0 0 * 64 ≤ length codes.old) }
+    ensures { Prepared w.now.words l t.now.models.first.bytes.now t.now.models.second.bytes.now t.now.bytes.now q1.0 alike.new left.new codes.new }
 {
-    propositions(w, elements::code(w, l.top), m1, m2, q1, alike);
-    model::transition_codes(w, m1, q1, true, left, 0);
-    encode_rows(w, s, model::states(m1), model::states(m2), table);
+    propositions(w, w.code(l.top), &t.models, q1, alike);
+    t.models.first.transition_codes(w, q1, true, left);
+    encode_rows(w, t, codes);
 }
 
 // ---- an entry
 
-// y met with the join of c, the complement of the transition to a state of model 1, and the join for that state, whose row of the table begins at
-// `at`; `ends` says whether that join can be top. Where the transition is bottom and it cannot, y stays and all pairs are counted.
-fn meet_state(
-    y: u64,
-    top: u64,
-    c: u64,
-    ends: bool,
-    row: &[u64; 64],
-    starts: &[usize; 4],
-    blocks: usize,
-    table: &[u64],
-    at: usize,
-    n2: usize,
-) -> CodeAndPairs
-    requires { Within y top × (top ≡ 0 → ⊥) × MayEnd top row.now ends × (blocks ≤ 4) × (at + 64 ≤ length table.now) × WithinTop top 64 row.now
-        × Listed row.now starts.now blocks 64 × Gap row.now n2 64 }
-    ensures { StateMet y c top row.now table.now at n2 result.code result.pairs }
+// y met with the join of c, the complement of the transition to a state of model 1, and the join for that state, whose row of the table is `codes`.
+// Where the transition is bottom and no join can be top, y stays and all pairs are counted.
+fn meet_state(y: u64, c: u64, r: &Leaving, codes: &[u64]) -> CodeAndPairs
+    requires { Within y r.now.top × (r.now.top ≡ 0 → ⊥) × (64 ≤ length codes.now) }
+    ensures { StateMet y c r.now.top r.now.row.now codes.now 0 r.now.states result.code result.pairs }
 {
-    if (c == top) & !ends {
-        return CodeAndPairs { code: y, pairs: n2 };
+    if (c == r.top) & !r.ends {
+        return CodeAndPairs {
+            code: y,
+            pairs: r.states,
+        };
     }
-    let j = join(top, row, starts, blocks, table, at, n2);
+    let j = join(r, codes);
     CodeAndPairs {
         code: y & (c | j.code),
         pairs: j.pairs,
     }
 }
 
-// x met with what each of n1 states of model 1 gives; ends once that is bottom. `left` has the complements of the transitions to them, `row` the
-// transitions of model 2, `table` the table in codes.
-fn meet(
-    x: u64,
-    top: u64,
-    left: &[u64; 64],
-    n1: usize,
-    row: &[u64; 64],
-    starts: &[usize; 4],
-    blocks: usize,
-    table: &[u64],
-    n2: usize,
-) -> CodeAndPairs
-    requires { Within x top × (n1 ≤ 64) × (n1 * 64 ≤ length table.now) × (blocks ≤ 4) × WithinTop top 64 row.now
-        × Listed row.now starts.now blocks 64 × Gap row.now n2 64 }
-    ensures { MetSoFar x top left.now row.now table.now n2 n1 result.code result.pairs }
+// x met with what each state of model 1 gives; ends once that is bottom. `left` has the complements of the transitions to them, `table` the table in codes.
+fn meet(x: u64, left: &[u64], r: &Leaving, table: &[u64]) -> CodeAndPairs
+    requires { Within x r.now.top × (length left.now ≤ 64) × (length left.now * 64 ≤ length table.now) }
+    ensures { MetSoFar x r.now.top left.now r.now.row.now table.now r.now.states (length left.now) result.code result.pairs }
 {
-    let ends = join_words(row, 0, 64) == top;
     let mut y = x;
     let mut pairs: usize = 0;
-    for q in 0..n1 {
+    for (q, c) in left.iter().enumerate() {
         if y == 0 {
             return CodeAndPairs {
                 code: 0,
                 pairs: pairs,
             };
         }
-        let m = meet_state(
-            y,
-            top,
-            left[q],
-            ends,
-            row,
-            starts,
-            blocks,
-            table,
-            q * 64,
-            n2,
-        );
+        let m = meet_state(y, *c, r, &table[q * 64..q * 64 + 64]);
         y = m.code;
         pairs += m.pairs;
     }
@@ -149,98 +119,76 @@ fn meet(
     }
 }
 
-// Entry (q1, q2) of the table s, of rows of n2 entries.
-fn entry_at(s: &[u8], n2: usize, q1: State, q2: State) -> Element
-    requires { (n2 ≤ 64) × (q1.0 * n2 + q2.0 < length s.now) }
-    ensures { result.0 ≡ table_of s.now n2 q1.0 q2.0 }
+// Entry (q1, q2) of F of a table, from what was prepared for its row, whatever the propositions give.
+fn work_entry(r: &Row, q2: State) -> Entry
+    requires { q2.0 < get_or r.now.table.models.second.bytes.now 0 0 }
+    ensures { EntryIs r.now.algebra.codes.now.words r.now.algebra.lattice r.now.table.models.first.bytes.now r.now.table.models.second.bytes.now r.now.table.bytes.now
+        r.now.q1.0 q2.0 result.value.0 result.pairs }
 {
-    Element(s[elements::index(q1.0) * n2 + elements::index(q2.0)])
-}
-
-// Entry (q1, q2) of F of the table s, from what was prepared for its row, whatever the propositions give.
-fn work_entry(
-    w: &Codes,
-    l: Lattice,
-    m1: &[u8],
-    m2: &[u8],
-    s: &[u8],
-    q1: State,
-    alike: &[u64; 64],
-    left: &[u64; 64],
-    table: &[u64],
-    q2: State,
-) -> Entry
-    requires { Coded w.now l × Shaped m1.now m2.now s.now × (q1.0 < get_or m1.now 0 0) × (q2.0 < get_or m2.now 0 0)
-        × Prepared w.now l m1.now m2.now s.now q1.0 alike.now left.now table.now }
-    ensures { EntryIs w.now l m1.now m2.now s.now q1.0 q2.0 result.value.0 result.pairs }
-{
-    let x = alike[elements::index(q2.0)];
-    let n2 = model::states(m2);
+    let algebra = &r.algebra;
+    let m2 = &r.table.models.second;
+    let n2 = m2.states();
     let mut row = [0u64; 64];
-    model::transition_codes(w, m2, q2, false, &mut row, 0);
+    m2.transition_codes(algebra.codes, q2, false, &mut row);
     let mut starts = [0usize; 4];
     let blocks = list_blocks(&row, n2, &mut starts);
-    let top = elements::code(w, l.top);
-    let r = meet(
-        x,
+    let top = algebra.codes.code(algebra.lattice.top);
+    let leaving = Leaving {
         top,
-        left,
-        model::states(m1),
-        &row,
-        &starts,
-        blocks,
-        table,
-        n2,
-    );
+        row: &row,
+        states: n2,
+        starts: &starts[..blocks],
+        ends: join_words(&row) == top,
+    };
+    let m = meet(r.alike[usize::from(q2.0)], r.left, &leaving, r.codes);
     Entry {
-        value: elements::decode(w, l, r.code, entry_at(s, n2, q1, q2)),
-        pairs: r.pairs,
+        value: algebra.decode(m.code, r.table.entry(r.q1, q2)),
+        pairs: m.pairs,
     }
 }
 
 // The same. Where the propositions meet in bottom, nothing else is done.
-pub fn entry_from(
-    w: &Codes,
-    l: Lattice,
-    m1: &[u8],
-    m2: &[u8],
-    s: &[u8],
-    q1: State,
-    alike: &[u64; 64],
-    left: &[u64; 64],
-    table: &[u64],
-    q2: State,
-) -> Entry
-    requires { Coded w.now l × Shaped m1.now m2.now s.now × (q1.0 < get_or m1.now 0 0) × (q2.0 < get_or m2.now 0 0)
-        × Prepared w.now l m1.now m2.now s.now q1.0 alike.now left.now table.now }
-    ensures { EntryIs w.now l m1.now m2.now s.now q1.0 q2.0 result.value.0 result.pairs }
+pub fn entry_from(r: &Row, q2: State) -> Entry
+    requires { q2.0 < get_or r.now.table.models.second.bytes.now 0 0 }
+    ensures { EntryIs r.now.algebra.codes.now.words r.now.algebra.lattice r.now.table.models.first.bytes.now r.now.table.models.second.bytes.now r.now.table.bytes.now
+        r.now.q1.0 q2.0 result.value.0 result.pairs }
 {
-    if alike[elements::index(q2.0)] == 0 {
-        let bottom = l.bottom;
+    if r.alike[usize::from(q2.0)] == 0 {
         return Entry {
-            value: bottom,
+            value: r.algebra.lattice.bottom,
             pairs: 0,
         };
     }
-    work_entry(w, l, m1, m2, s, q1, alike, left, table, q2)
+    work_entry(r, q2)
 }
 
-// Entry (q1, q2) of F of the table s alone.
-pub fn entry_of(
-    w: &Codes,
-    l: Lattice,
-    m1: &[u8],
-    m2: &[u8],
-    s: &[u8],
-    q1: State,
-    q2: State,
-) -> Entry
-    requires { Coded w.now l × Shaped m1.now m2.now s.now × (q1.0 < get_or m1.now 0 0) × (q2.0 < get_or m2.now 0 0) }
-    ensures { EntryIs w.now l m1.now m2.now s.now q1.0 q2.0 result.value.0 result.pairs }
+// Entry (q1, q2) of F of a table alone.
+pub fn entry_of(a: &Algebra, t: &Table, q1: State, q2: State) -> Entry
+    requires { (q1.0 < get_or t.now.models.first.bytes.now 0 0) × (q2.0 < get_or t.now.models.second.bytes.now 0 0) }
+    ensures { EntryIs a.now.codes.now.words a.now.lattice t.now.models.first.bytes.now t.now.models.second.bytes.now t.now.bytes.now
+        q1.0 q2.0 result.value.0 result.pairs }
 {
+    let n1 = t.models.first.states();
+    let n2 = t.models.second.states();
     let mut alike = [0u64; 64];
     let mut left = [0u64; 64];
-    let mut table = [0u64; 4096];
-    prepare(w, l, m1, m2, s, q1, &mut alike, &mut left, &mut table);
-    work_entry(w, l, m1, m2, s, q1, &alike, &left, &table, q2)
+    let mut codes = [0u64; 4096];
+    prepare(
+        a.codes,
+        a.lattice,
+        t,
+        q1,
+        &mut alike[..n2],
+        &mut left[..n1],
+        &mut codes,
+    );
+    let r = Row {
+        algebra: *a,
+        table: *t,
+        q1,
+        alike: &alike[..n2],
+        left: &left[..n1],
+        codes: &codes,
+    };
+    work_entry(&r, q2)
 }

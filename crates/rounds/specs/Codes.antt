@@ -1,9 +1,9 @@
 -- The inner joins of a whole round, and score, by codes. w is a lattice's codes. Rests on Table, entries' Table, Words and Codes, theory's Loop and
 -- Simulation, elements' Words and Folds.
 --   by_row, by_column: an entry of a table of words; JoinsOf, joins_from, joins-inner: the inner joins of a table
---   initial_code, score_part, join_of, score_join, score_decoded: score
-use Rattle.std.specs.Prelude.{ℕ, ◌+◌, ◌*◌, ◌≤◌, ◌<◌, ◌≡◌, List, length, get_or}
-use Rattle.std.proofs.Common.{ap₂, arith}
+--   initial_code, score_part, score_join, score_decoded: score
+use Rattle.std.specs.Prelude.{ℕ, ◌+◌, ◌*◌, ◌≤◌, ◌<◌, ◌≡◌, List, length, get_or, take, drop}
+use Rattle.std.proofs.Common.{ap, ap₂, ◌∙◌, arith, get_or-take, length-take-le}
 use Rattle.std.specs.Int.Bits.{bit_and, bit_or}
 use Rattle.theory.specs.Lattice.{imp}
 use Rattle.theory.specs.Lists.{Filled, tab, written}
@@ -14,8 +14,9 @@ use Rattle.elements.specs.declared.Lattice.{Lattice}
 use Rattle.elements.specs.Words.{code_in, negated_code_in, decode_in, Coded}
 use Rattle.elements.proofs.Folds.{decode_in_lem, code_of, negated_of, meet_of_lem, join_of_lem, big_meet_lt, fold_meets, fold_joins}
 use Rattle.entries.specs.Table.{table_of}
-use Rattle.entries.specs.Words.{Rows, low_at}
+use Rattle.entries.specs.Words.{Rows, low_at, slice_word}
 use Rattle.entries.specs.Codes.{table_code, codes_of_table, inner_code, TableCoded, InnerCoded, inner_of}
+use Rattle.entries.specs.Joins.{words_met, fold_pairs}
 use Rattle.rounds.specs.Table.{score_in}
 
 -- entry (q1, q2) of a table of codes that has 64 to a row, and of one that has 64 to a column
@@ -56,16 +57,17 @@ abbrev pub score_part : List ℕ → List ℕ → List ℕ → List ℕ → ℕ 
 score_part w m₁ m₂ s q₁ =
     bit_or (negated_code_in w ((model_of m₁).initial q₁)) (fold bit_or 0 (λ i. bit_and (initial_code w m₂ i) (codes_of_table w m₂ s q₁ i)) (get_or m₂ 0 0))
 
--- the join of the first n words of `row`, each met with the word of `codes` at its place
-abbrev pub join_of : List ℕ → List ℕ → ℕ → ℕ
-join_of row codes n = fold bit_or 0 (λ i. bit_and (get_or row i 0) (get_or codes i 0)) n
-
 -- the join of one turn, from the codes of the initial values and those of a row of entries
-pub score_join : (w m₂ s : List ℕ) (q n₂ : ℕ) (before : List ℕ) {right entries : List ℕ} → Filled (initial_code w m₂) (get_or m₂ 0 0) right → entries ≡ written 0 (tab (λ i. code_in w (get_or s (q * n₂ + i) 0)) n₂ 0) before → n₂ ≤ length before → n₂ ≡ get_or m₂ 0 0 → join_of right entries n₂ ≡ fold bit_or 0 (λ i. bit_and (initial_code w m₂ i) (codes_of_table w m₂ s q i)) (get_or m₂ 0 0)
-score_join w m₂ s q n₂ before f e fits g =
-    rw (← g)
-    (fold_cong bit_or 0 _ _ n₂
-    (λ i k. ap₂ bit_and (f.at i (omega (arith, g))) (low_at (λ i. code_in w (get_or s (q * n₂ + i) 0)) n₂ before e fits i k)))
+pub score_join : (w m₂ s : List ℕ) (q n : ℕ) (before : List ℕ) {right entries : List ℕ} {y : ℕ} → n ≡ get_or m₂ 0 0 → Filled (initial_code w m₂) (get_or m₂ 0 0) right → n ≤ length right → n ≤ length before
+    → entries ≡ written 0 (tab (λ i. code_in w (get_or (take (get_or m₂ 0 0) (drop (q * get_or m₂ 0 0) s)) i 0)) (get_or m₂ 0 0) 0) before → length entries ≡ n → y ≡ words_met 0 (take n right) entries
+    → y ≡ fold bit_or 0 (λ i. bit_and (initial_code w m₂ i) (codes_of_table w m₂ s q i)) (get_or m₂ 0 0)
+score_join w m₂ s q n before {right} {entries} g f l m e k u =
+    let j : length (take n right) ≡ n = length-take-le n right l in
+    u ∙ fold_pairs bit_or bit_and 0 (take n right) entries (omega arith)
+    ∙ ap (fold bit_or 0 (λ i. bit_and (get_or (take n right) i 0) (get_or entries i 0))) (j ∙ g)
+    ∙ fold_cong bit_or 0 _ _ (get_or m₂ 0 0)
+    (λ i h. ap₂ bit_and (get_or-take n right i 0 (omega arith) ∙ f.at i h)
+    (low_at _ _ before e (omega arith) i h ∙ ap (code_in w) (slice_word s (q * get_or m₂ 0 0) (get_or m₂ 0 0) i h)))
 
 module _ {w : List ℕ} {l : Lattice} (c : Coded w l) (m₁ m₂ s : List ℕ) where
   pub score_decoded : decode_in w (fold bit_and (code_in w l.top.0) (score_part w m₁ m₂ s) (get_or m₁ 0 0)) ≡ score_in w l m₁ m₂ s

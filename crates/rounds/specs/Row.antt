@@ -1,12 +1,16 @@
 -- One row: where it stands in a table, and what a loop over a row's entries has done so far.
 -- Rests on entries' Table, theory's Test and Written, and model's Places.
 --   RowAt, row_at: where a row stands; held_by: a table is held
---   RowSoFar: the entries so far are written and compared; row_none, row_more, row_all: its begin, turn and end
+--   RowSoFar: the entries so far are written and compared; row_none, row_more, row_next, row_all: its begin, turn and end
+--   row_placed: a row that is written into its part
 --   RowOut: the elements of codes written and compared
 --   row_written_lem: at the row's end, what `row` says
 use Rattle.std.specs.Prelude.{ℕ, ◌+◌, ◌*◌, ◌≤◌, ◌<◌, ◌≡◌, refl, Bool, false, not, ◌||◌, List, eqb, length, get_or, set}
-use Rattle.std.proofs.Common.{sym, add-one, arith}
-use Rattle.theory.specs.TestLaws.{not_and}
+use Rattle.std.proofs.Common.{sym, ap, ◌∙◌, add-one, zero-add, arith}
+use Rattle.std.proofs.Common.{take, drop, ◌++◌}
+use Rattle.theory.specs.TestLaws.{not_and, all_cong}
+use Rattle.theory.specs.Loop.{tab-length}
+use Rattle.entries.specs.Words.{part_written, slice_word}
 use Rattle.theory.specs.Test.{all_below}
 use Rattle.theory.specs.Written.{written_none, written_turn}
 use Rattle.theory.specs.Lists.{tab, written}
@@ -53,9 +57,22 @@ row_more {at} {f} {g} {before} {q} u l p r =
       changed_is = rw (add-one, p, r, u.changed_is, not_and);
     }
 
+-- of a row that stands at the front
+pub row_next : {f g : ℕ → ℕ} {before : List ℕ} {q d e : ℕ} {out : List ℕ} {changed : Bool} → RowSoFar changed 0 f g before q out → q < length before → d ≡ g q → e ≡ f q → RowSoFar (changed || not (eqb d e)) 0 f g before (q + 1) (set out q e)
+row_next {q = q} u l p r = rw (zero-add q) at (row_more u (omega arith) p r)
+
 -- at the loop's end the counter has reached the row's end
 pub row_all : {at : ℕ} {f g : ℕ → ℕ} {before : List ℕ} {q n : ℕ} {out : List ℕ} {changed : Bool} → RowSoFar changed at f g before q out → q ≤ n → n ≤ q → RowSoFar changed at f g before n out
 row_all {q = q} {n = n} u a b = let e : q ≡ n = omega arith in rw e at u
+
+-- a row that is written into its part of a table, from a part of another
+pub row_placed : (at k n : ℕ) (s out : List ℕ) {h : ℕ → ℕ} {changed : Bool} {part : List ℕ} → k ≡ n → at + n ≤ length out → RowSoFar changed 0 h (λ q. get_or (take n (drop at s)) q 0) (take k (drop at out)) n part
+    → RowSoFar changed at h (λ q. get_or s (at + q) 0) out n (take at out ++ (part ++ drop k (drop at out)))
+row_placed at k n s out {h} e l u =
+    record {
+      out_is = ap (λ (r : List ℕ). take at out ++ (r ++ drop k (drop at out))) u.out_is ∙ part_written at k (tab h n 0) out (tab-length h n 0 ∙ sym e) (omega arith);
+      changed_is = u.changed_is ∙ ap not (all_cong n _ _ (λ i m. ap (λ (x : ℕ). eqb x (h i)) (slice_word s at n i m)));
+    }
 
 -- the elements of n codes are written into `before` from `at` on, which gives `out`; `changed` says whether any differs from that of s
 abbrev pub RowOut : List ℕ → List ℕ → List ℕ → ℕ → ℕ → List ℕ → List ℕ → Bool → Type 0

@@ -1,8 +1,9 @@
 -- A row of F from the codes of its entries. Rests on Table, Row and Codes, and entries' Table and Codes.
 --   row_in: the row that is written, and whether it differs
---   row_within, row_within_lem: whether a row of the table is at or below it, by codes; post_fixed_in_lem: whether all are
-use Rattle.std.specs.Prelude.{ℕ, ◌+◌, ◌<◌, ◌≡◌, Bool, eqb}
-use Rattle.std.proofs.Common.{sym, ◌∙◌, le_refl, arith}
+--   row_within, row_within_lem, row_compared: whether a row of the table is at or below it, by codes; post_fixed_in_lem: whether all are
+use Rattle.std.specs.Prelude.{ℕ, ◌+◌, ◌≤◌, ◌<◌, ◌≡◌, Bool, eqb, length, take, drop}
+use Rattle.std.specs.List.{list_all, zip}
+use Rattle.std.proofs.Common.{sym, ◌∙◌, le_refl, arith, length-drop, length-take-le}
 use Rattle.std.proofs.Math.Path.{ap}
 use Rattle.std.proofs.Math.Bool.{not}
 use mathlib.Core.List.{List}
@@ -15,6 +16,8 @@ use Rattle.elements.specs.declared.Lattice.{Lattice}
 use Rattle.elements.specs.Words.{code_in, decode_in, within, Coded}
 use Rattle.entries.specs.Table.{entry_in}
 use Rattle.entries.specs.Codes.{codes_of_table, entry_code, entry_of, entry-decoded}
+use Rattle.entries.specs.Words.{slice_word}
+use Rattle.rounds.specs.Compared.{all_zip}
 use Rattle.rounds.specs.Table.{row_same, row_at_most, post_fixed_test, RowIn, post_fixed_in}
 use Rattle.rounds.specs.Row.{RowAt, RowSoFar, RowOut, row_written_lem}
 use Rattle.rounds.specs.Codes.{by_row, JoinsOf, joins-inner}
@@ -50,6 +53,15 @@ pub row_within_lem : (w : List ℕ) (top : ℕ) (m₁ m₂ s joins codes : List 
     → found ≡ row_within w top m₁ m₂ s joins q₁
 row_within_lem w top m₁ m₂ s joins codes {n₂ = n₂} {at = at} a e f g =
     g ∙ all_cong n₂ _ _ (λ q k. ap (within (code_in w (get_or s (at + q) 0))) (f.at q (omega (arith, e)))) ∙ rw (a.here, e)
+
+-- the comparison of a row that is a part of s
+pub row_compared : (w : List ℕ) (s codes : List ℕ) (at n : ℕ) {found : Bool} → at + n ≤ length s → n ≤ length codes → found ≡ list_all (λ p. within (code_in w p.0) p.1) (zip (take n (drop at s)) codes)
+    → found ≡ all_below n (λ q. within (code_in w (get_or s (at + q) 0)) (get_or codes q 0))
+row_compared w s codes at n l m e =
+    let k : length (take n (drop at s)) ≡ n = length-take-le n (drop at s) (omega (arith, length-drop at s)) in
+    e ∙ all_zip (λ p. within (code_in w p.0) p.1) (take n (drop at s)) codes (omega arith)
+    ∙ ap (λ (j : ℕ). all_below j (λ i. within (code_in w (get_or (take n (drop at s)) i 0)) (get_or codes i 0))) k
+    ∙ all_cong n _ _ (λ i h. ap (λ (x : ℕ). within (code_in w x) (get_or codes i 0)) (slice_word s at n i h))
 
 -- the code of an entry of F is that of its element, so that the test of all rows by codes is `post_fixed_in`
 pub post_fixed_in_lem : {w : List ℕ} {l : Lattice} (c : Coded w l) {m₁ m₂ s joins : List ℕ} → JoinsOf w m₁ m₂ s joins

@@ -6,140 +6,151 @@
 
 mod columns;
 
-ghost use Rattle.std.specs.Prelude.{◌≡◌, ◌+◌, ◌*◌, ◌≤◌, ◌<◌, length, get_or};
+ghost use Rattle.std.specs.Prelude.{◌≡◌, ℕ, ◌*◌, ◌≤◌, ◌<◌, not, eqb, count_by, length, get_or};
+ghost use Rattle.std.specs.List.{zip};
 ghost use Rattle.theory.specs.Lists.{Filled};
-ghost use Rattle.theory.specs.Part.{ModelShape};
-ghost use Rattle.elements.specs.Words.{Coded};
-ghost use Rattle.entries.specs.Table.{Shaped};
-ghost use Rattle.entries.specs.Words.{row_words};
 ghost use Rattle.rounds.specs.Table.{Room, RowIn, score_in, post_fixed_in, bytes_differing};
 ghost use Rattle.rounds.specs.Round.{RoundIn};
-ghost use Rattle.rounds.specs.Row.{RowOut};
-ghost use Rattle.rounds.specs.Codes.{initial_code, join_of, JoinsOf};
+ghost use Rattle.rounds.specs.Row.{RowSoFar};
+ghost use Rattle.elements.specs.Words.{decode_in};
+ghost use Rattle.rounds.specs.Codes.{initial_code, JoinsOf};
 ghost use Rattle.rounds.specs.Early.{TopOf};
 
 use columns::{TableCodes, all_joins, encode_columns, row_from};
-use elements::{Codes, Element, Lattice};
-use model::State;
+use elements::{Algebra, Codes, Element};
+use entries::{Row, Table};
+use model::{Model, State};
 
 // ---- a row and a round
 
-// Writes the elements of n codes from the place `at` of out on; says whether any differs from the byte of s at its place.
-fn write_row(
-    w: &Codes,
-    l: Lattice,
-    codes: &[u64; 64],
-    s: &[u8],
-    out: &mut [u8],
-    at: usize,
-    n: usize,
-) -> bool
-    requires { Coded w.now l × (n ≤ 64) × (at + n ≤ length s.now) × (at + n ≤ length out.old) }
-    ensures { RowOut w.now codes.now s.now at n out.old out.new result }
+// Writes into `out` what `f` makes of each place and of the byte of s there; says whether any differs from that byte.
+fn write_row<F: Fn(usize, u8) -> u8>(s: &[u8], out: &mut [u8], f: F) -> bool
+    requires callable { (q x : ℕ) → q < length s.now → F.pre f q x }
+    requires same { length out.old ≡ length s.now }
+    ensures { (h : ℕ → ℕ) → ((q y : ℕ) → q < length s.now → F.post f q (get_or s.now q 0) y → y ≡ h q)
+        → RowSoFar result 0 h (λ q. get_or s.now q 0) out.old (length s.now) out.new }
 {
     let mut changed = false;
-    for q in 0..n {
-        let old = s[at + q];
-        let e = elements::decode(w, l, codes[q], Element(old));
-        changed = changed | (old != e.0);
-        out[at + q] = e.0;
+    for (q, x) in out.iter_mut().enumerate() {
+        let old = s[q];
+        let e = f(q, old);
+        changed = changed | (old != e);
+        *x = e;
     }
     changed
 }
 
-// Row q1 of F of the table s, entry by entry, with room for the codes of the table; says whether any entry differs from that of s.
-fn work_row(
-    w: &Codes,
-    l: Lattice,
-    m1: &[u8],
-    m2: &[u8],
-    s: &[u8],
-    out: &mut [u8],
-    q1: State,
-    table: &mut [u64],
-) -> bool
-    requires { Coded w.now l × Shaped m1.now m2.now s.now × Room m1.now m2.now out.old × (q1.0 < get_or m1.now 0 0)
-        × (get_or m1.now 0 0 * 64 ≤ length table.old) }
-    ensures { RowIn w.now l m1.now m2.now s.now q1.0 out.old out.new result }
+// Writes the elements of codes; says whether any differs from the byte of s at its place.
+fn write_codes(a: &Algebra, codes: &[u64], s: &[u8], out: &mut [u8]) -> bool
+    requires { (length out.old ≡ length s.now) × (length s.now ≤ length codes.now) }
+    ensures { RowSoFar result 0 (λ q. decode_in a.now.codes.now.words (get_or codes.now q 0)) (λ q. get_or s.now q 0) out.old (length s.now) out.new }
 {
+    write_row(s, out, |q, old| a.decode(codes[q], Element(old)).0)
+}
+
+// Row q1 of F of a table, entry by entry, with room for N codes of the table; says whether any entry differs from that of the table.
+fn work_row<const N: usize>(a: &Algebra, t: &Table, out: &mut [u8], q1: State) -> bool
+    requires { Room t.now.models.first.bytes.now t.now.models.second.bytes.now out.old × (q1.0 < get_or t.now.models.first.bytes.now 0 0)
+        × (get_or t.now.models.first.bytes.now 0 0 * 64 ≤ N) × (N ≤ 4096) }
+    ensures { RowIn a.now.codes.now.words a.now.lattice t.now.models.first.bytes.now t.now.models.second.bytes.now t.now.bytes.now q1.0 out.old out.new result }
+{
+    let n1 = t.models.first.states();
+    let n2 = t.models.second.states();
     let mut alike = [0u64; 64];
     let mut left = [0u64; 64];
-    entries::prepare(w, l, m1, m2, s, q1, &mut alike, &mut left, table);
-    let n2 = model::states(m2);
-    let at = elements::index(q1.0) * n2;
-    let mut changed = false;
-    for q2 in 0..n2 {
-        let e = entries::entry_from(w, l, m1, m2, s, q1, &alike, &left, table, State(q2 as u8));
-        let value = e.value;
-        changed = changed | (s[at + q2] != value.0);
-        out[at + q2] = value.0;
-    }
-    changed
+    let mut codes = [0u64; N];
+    entries::prepare(
+        a.codes,
+        a.lattice,
+        t,
+        q1,
+        &mut alike[..n2],
+        &mut left[..n1],
+        &mut codes,
+    );
+    let row = Row {
+        algebra: *a,
+        table: *t,
+        q1,
+        alike: &alike[..n2],
+        left: &left[..n1],
+        codes: &codes,
+    };
+    let at = usize::from(q1.0) * n2;
+    write_row(
+        t.row(q1),
+        &mut out[at..at + n2],
+        |q, _| entries::entry_from(&row, State(q as u8)).value.0,
+    )
 }
 
-// Works row q1 of F of the table s into the same row of out; says whether any entry differs from that of s. With at most 16 states of model 1
+// Works row q1 of F of a table into the same row of out; says whether any entry differs from that of the table. With at most 16 states of model 1
 // the codes of the table take less room, which is faster to clear.
-pub fn row(w: &Codes, l: Lattice, m1: &[u8], m2: &[u8], s: &[u8], out: &mut [u8], q1: State) -> bool
-    requires { Coded w.now l × Shaped m1.now m2.now s.now × Room m1.now m2.now out.old × (q1.0 < get_or m1.now 0 0) }
-    ensures { RowIn w.now l m1.now m2.now s.now q1.0 out.old out.new result }
+pub fn row(a: &Algebra, t: &Table, out: &mut [u8], q1: State) -> bool
+    requires { Room t.now.models.first.bytes.now t.now.models.second.bytes.now out.old × (q1.0 < get_or t.now.models.first.bytes.now 0 0) }
+    ensures { RowIn a.now.codes.now.words a.now.lattice t.now.models.first.bytes.now t.now.models.second.bytes.now t.now.bytes.now q1.0 out.old out.new result }
 {
-    if model::states(m1) <= 16 {
-        let mut table = [0u64; 1024];
-        return work_row(w, l, m1, m2, s, out, q1, &mut table);
+    if t.models.first.states() <= 16 {
+        work_row::<1024>(a, t, out, q1)
+    } else {
+        work_row::<4096>(a, t, out, q1)
     }
-    let mut table = [0u64; 4096];
-    work_row(w, l, m1, m2, s, out, q1, &mut table)
 }
 
-// Works F of the table `whole` into the first N1·N2 bytes of `other`, and keeps its other bytes; says whether any entry differs from that
-// of `whole`.
-pub fn round(w: &Codes, l: Lattice, m1: &[u8], m2: &[u8], whole: &[u8], other: &mut [u8]) -> bool
-    requires { Coded w.now l × Shaped m1.now m2.now whole.now × Room m1.now m2.now other.old }
-    ensures { RoundIn w.now l m1.now m2.now whole.now other.old other.new result }
+// Works F of a table into the first N1·N2 bytes of `other`, and keeps its other bytes; says whether any entry differs from that of the table.
+pub fn round(a: &Algebra, t: &Table, other: &mut [u8]) -> bool
+    requires { Room t.now.models.first.bytes.now t.now.models.second.bytes.now other.old }
+    ensures { RoundIn a.now.codes.now.words a.now.lattice t.now.models.first.bytes.now t.now.models.second.bytes.now t.now.bytes.now other.old other.new result }
 {
-    let n1 = model::states(m1);
-    let n2 = model::states(m2);
+    let n2 = t.models.second.states();
     let mut joins = [0u64; 4096];
-    let top = elements::code(w, l.top);
-    inner_joins(w, top, m1, m2, whole, &mut joins);
-    let mut codes = [0u64; 64];
+    let top = a.codes.code(a.lattice.top);
+    inner_joins(a.codes, top, t, &mut joins);
+    let mut room = [0u64; 64];
+    let codes = &mut room[..n2];
     let mut changed = false;
-    for q1 in 0..n1 {
-        row_from(w, top, m1, m2, &joins, State(q1 as u8), &mut codes);
-        let c = write_row(w, l, &codes, whole, other, q1 * n2, n2);
+    for q in 0..t.models.first.states() {
+        let q1 = State(q as u8);
+        row_from(a.codes, top, &t.models, &joins, q1, codes);
+        let c = write_codes(a, codes, t.row(q1), &mut other[q * n2..q * n2 + n2]);
         changed = changed | c;
     }
     changed
 }
 
 // The inner joins of a table, of every q2.
-fn inner_joins(w: &Codes, top: u64, m1: &[u8], m2: &[u8], s: &[u8], joins: &mut TableCodes)
-    requires { TopOf w.now top × Shaped m1.now m2.now s.now }
-    ensures { JoinsOf w.now m1.now m2.now s.now joins.new }
+fn inner_joins(w: &Codes, top: u64, t: &Table, joins: &mut TableCodes)
+    requires { TopOf w.now.words top }
+    ensures { JoinsOf w.now.words t.now.models.first.bytes.now t.now.models.second.bytes.now t.now.bytes.now joins.new }
 {
-    let n1 = model::states(m1);
     let mut table = [0u64; 4096];
-    encode_columns(w, s, n1, model::states(m2), &mut table);
-    all_joins(w, top, m2, &table, n1, joins);
+    encode_columns(w, t, &mut table);
+    all_joins(
+        w,
+        top,
+        &t.models.second,
+        &table,
+        t.models.first.states(),
+        joins,
+    );
 }
 
 // ---- the test against F
 
-// Whether each entry of the table s is at or below that of F of s: row by row, up to the first entry that is not. No code is turned back into an
+// Whether each entry of a table is at or below that of F of it: row by row, up to the first entry that is not. No code is turned back into an
 // element.
-pub fn is_post_fixed(w: &Codes, l: Lattice, m1: &[u8], m2: &[u8], s: &[u8]) -> bool
-    requires { Coded w.now l × Shaped m1.now m2.now s.now }
-    ensures { result ≡ post_fixed_in w.now l m1.now m2.now s.now }
+pub fn is_post_fixed(a: &Algebra, t: &Table) -> bool
+    ensures { result ≡ post_fixed_in a.now.codes.now.words a.now.lattice t.now.models.first.bytes.now t.now.models.second.bytes.now t.now.bytes.now }
 {
-    let n1 = model::states(m1);
-    let n2 = model::states(m2);
     let mut joins = [0u64; 4096];
-    let top = elements::code(w, l.top);
-    inner_joins(w, top, m1, m2, s, &mut joins);
-    let mut codes = [0u64; 64];
-    for q1 in 0..n1 {
-        row_from(w, top, m1, m2, &joins, State(q1 as u8), &mut codes);
-        if !elements::all_at_most(w, s, q1 * n2, n2, &codes) {
+    let top = a.codes.code(a.lattice.top);
+    inner_joins(a.codes, top, t, &mut joins);
+    let mut room = [0u64; 64];
+    let codes = &mut room[..t.models.second.states()];
+    for q in 0..t.models.first.states() {
+        let q1 = State(q as u8);
+        row_from(a.codes, top, &t.models, &joins, q1, codes);
+        if !a.codes.all_at_most(t.row(q1), codes) {
             return false;
         }
     }
@@ -148,60 +159,50 @@ pub fn is_post_fixed(w: &Codes, l: Lattice, m1: &[u8], m2: &[u8], s: &[u8]) -> b
 
 // ---- lowerings
 
+// In how many places two lists of bytes differ.
+fn count_differing(a: &[u8], b: &[u8]) -> usize
+    ensures { (result ≡ count_by (λ p. not (eqb p.0 p.1)) (zip a.now b.now)) × (result ≤ length a.now) }
+{
+    a.iter().zip(b).filter(|(x, y)| **x != **y).count()
+}
+
 // In how many entries two tables with n1 rows of n2 entries differ.
 pub fn differing(a: &[u8], b: &[u8], n1: usize, n2: usize) -> u32
     requires { (n1 * n2 ≤ 4096) × (n1 * n2 ≤ length a.now) × (n1 * n2 ≤ length b.now) }
     ensures { result ≡ bytes_differing a.now b.now n1 n2 }
 {
     let n = n1 * n2;
-    let mut c: usize = 0;
-    for i in 0..n {
-        c += elements::one_if(a[i] != b[i]);
-    }
-    c as u32
+    count_differing(&a[..n], &b[..n]) as u32
 }
 
 // ---- score
 
 // The codes of the initial values.
-fn initial_codes(w: &Codes, m: &[u8], out: &mut [u64])
-    requires { ModelShape m.now × (length out.old ≡ row_words) }
-    ensures { Filled (initial_code w.now m.now) (get_or m.now 0 0) out.new }
+fn initial_codes(w: &Codes, m: &Model, out: &mut [u64])
+    requires { get_or m.now.bytes.now 0 0 ≤ length out.old }
+    ensures { Filled (initial_code w.now.words m.now.bytes.now) (get_or m.now.bytes.now 0 0) out.new }
 {
-    let n = model::states(m);
-    for q in 0..n {
-        out[q] = elements::code(w, model::initial(m, State(q as u8)));
+    for q in 0..m.states() {
+        out[q] = w.code(m.initial(State(q as u8)));
     }
 }
 
-// The join of the first n words of `row`, each met with the word of `codes` at its place.
-fn joined(row: &[u64; 64], codes: &[u64], n: usize) -> u64
-    requires { (n ≤ 64) × (n ≤ length codes.now) }
-    ensures { result ≡ join_of row.now codes.now n }
+// The meet over q1 of its initial value → the join over q2 of its initial value met with entry (q1, q2) of the table.
+pub fn score(a: &Algebra, t: &Table) -> Element
+    ensures { result.0 ≡ score_in a.now.codes.now.words a.now.lattice t.now.models.first.bytes.now t.now.models.second.bytes.now t.now.bytes.now }
 {
-    let mut x: u64 = 0;
-    for i in 0..n {
-        x = x | (row[i] & codes[i]);
-    }
-    x
-}
-
-// The meet over q1 of its initial value → the join over q2 of its initial value met with entry (q1, q2) of s.
-pub fn score(w: &Codes, l: Lattice, m1: &[u8], m2: &[u8], s: &[u8]) -> Element
-    requires { Coded w.now l × Shaped m1.now m2.now s.now }
-    ensures { result.0 ≡ score_in w.now l m1.now m2.now s.now }
-{
-    let n1 = model::states(m1);
-    let n2 = model::states(m2);
+    let n2 = t.models.second.states();
     let mut right = [0u64; 64];
-    initial_codes(w, m2, &mut right);
-    let mut codes = [0u64; 64];
-    let mut x = elements::code(w, l.top);
-    for q in 0..n1 {
-        elements::encode(w, s, q * n2, n2, &mut codes, 0);
-        let y = joined(&right, &codes, n2);
-        let z = elements::negated_code(w, model::initial(m1, State(q as u8)));
+    initial_codes(a.codes, &t.models.second, &mut right);
+    let mut room = [0u64; 64];
+    let codes = &mut room[..n2];
+    let mut x = a.codes.code(a.lattice.top);
+    for q in 0..t.models.first.states() {
+        let q1 = State(q as u8);
+        a.codes.encode(t.row(q1), codes);
+        let y = entries::join_met(0, &right[..n2], codes);
+        let z = a.codes.negated_code(t.models.first.initial(q1));
         x = x & (z | y);
     }
-    elements::decode(w, l, x, l.top)
+    a.decode(x, a.lattice.top)
 }

@@ -1,24 +1,19 @@
 // The share of a table's entries that are at or above an element, in whole per cent: `share`, by a count and its rounding.
 #![tactic(auto)]
 
-ghost use Rattle.std.specs.Prelude.{◌≡◌, ◌≤◌, ◌<◌, length, get_or};
-ghost use Rattle.theory.specs.Loop.{Counted};
+ghost use Rattle.std.specs.Prelude.{◌≡◌, ◌≤◌, ◌<◌, length, count_by};
 ghost use Rattle.theory.specs.Simulation.{per_cent};
 ghost use Rattle.elements.specs.Words.{at_most_in};
 ghost use Rattle.share.specs.ShareIn.{share_in};
 
 use elements::{Codes, Element};
 
-// How many of the first n entries of s are at or above e.
-fn count(w: &Codes, e: Element, s: &[u8], n: usize) -> usize
-    requires { n ≤ length s.now }
-    ensures { Counted (λ i. at_most_in w.now e.0 (get_or s.now i 0)) n result }
+// How many of the entries s are at or above e.
+fn count(w: &Codes, e: Element, s: &[u8]) -> usize
+    requires { length s.now ≤ 4096 }
+    ensures { (result ≡ count_by (λ x. at_most_in w.now.words e.0 x) s.now) × (result ≤ length s.now) }
 {
-    let mut c: usize = 0;
-    for i in 0..n {
-        c += elements::one_if(elements::at_most(w, e, Element(s[i])));
-    }
-    c
+    s.iter().filter(|x| w.at_most(e, Element(**x))).count()
 }
 
 // c of n in whole per cent: the quotient q of 100 c by n, and one more where the rest is over half of n, or is half of n and q is odd.
@@ -34,10 +29,10 @@ fn per_cent(c: usize, n: usize) -> u8
     q as u8
 }
 
-// The per cent of the first n entries of s that are at or above e, an exact half to the even neighbour.
-pub fn share(w: &Codes, e: Element, s: &[u8], n: usize) -> u8
-    requires { (0 < n) × (n ≤ 4096) × (n ≤ length s.now) }
-    ensures { result ≡ share_in w.now e.0 s.now n }
+// The per cent of the entries s that are at or above e, an exact half to the even neighbour.
+pub fn share(w: &Codes, e: Element, s: &[u8]) -> u8
+    requires { (0 < length s.now) × (length s.now ≤ 4096) }
+    ensures { result ≡ share_in w.now.words e.0 s.now (length s.now) }
 {
-    per_cent(count(w, e, s, n), n)
+    per_cent(count(w, e, s), s.len())
 }

@@ -1,38 +1,15 @@
--- `entries::encode_rows` meets its contract: the rows below q are written. Assumes nothing.
-use mathlib.Core.Path.{◌≡◌, refl, ◌∙◌}
-use Prim.Native.Nat.{◌+◌, ◌*◌, ◌≤◌, ◌<◌, ◌-◌}
-use lib.ListN.{length, get_or}
-use Rattle.theory.specs.Written.{written-length}
+-- `entries::encode_rows` meets its contract: the rows below q are written.
+use Rattle.std.proofs.Common.{◌+◌, ◌*◌, refl, ap, ◌∙◌, get_or, length, take, drop, arith}
 use Rattle.elements.specs.Words.{code_in}
-use Rattle.model.specs.Places.{row_le, prod_le}
-use Rattle.entries.specs.Words.{Rows, rows_none, rows_more, rows_all}
-use Rattle.entries.specs.Codes.{table_code}
-use borrow.Author.Rules.{rules}
-use native.Mathlib.Omega.{arith}
+use Rattle.entries.specs.Words.{slice_word, rows_part}
 use Rattle.entries.proofs.encode_rows.Goals as goal
-
-pub loop-q-init : goal.loop-q-init
-loop-q-init c = (omega arith, refl, rows_none)
-
-pub overflow_mul-q : goal.overflow_mul-q
-overflow_mul-q c = omega (arith, prod_le c.loop-q.q c.args.n2 64 64 (omega (arith, c.requires.0)) c.requires.1)
-
-pub encode-requires : goal.encode-requires
-encode-requires c =
-    let q = c.loop-q.q in
-    (omega (arith, row_le q c.args.n1 c.args.n2 (omega arith), c.requires.2), omega (arith, c.loop-q.invariant.1, c.requires.3, c.requires.1))
 
 pub loop-q-preserved : goal.loop-q-preserved
 loop-q-preserved c =
-    let i = c.loop-q.invariant in
     let a = c.args in
     let q = c.loop-q.q in
-    let e = c.encode.ensures in
-    let f : q * 64 + 64 ≤ length c.loop-q.out = omega (arith, i.1, c.requires.3) in
-    (omega arith, search rules ∙ i.1, rows_more (λ r. code_in a.w.now (get_or a.s.now (q * a.n2 + r) 0)) i.2 c.requires.1 f e (λ r l. refl))
-
-pub shape_of-out : goal.shape_of-out
-shape_of-out c = c.loop-q.invariant.1
-
-pub returns : goal.returns
-returns c = rows_all c.loop-q.invariant.2 (omega arith) (omega arith)
+    let n₂ = get_or a.t.now.models.second.bytes.now 0 0 in
+    let bytes = a.t.now.bytes.now in
+    let e = rw (c.row.ensures.1, c.row.ensures.0) at c.encode.ensures in
+    rows_part (λ r. code_in a.w.now.words (get_or (take n₂ (drop (q * n₂) bytes)) r 0)) c.loop-q.invariant a.t.now.models.second.shape.states_most
+    (omega (arith, c.requires)) (omega (arith, c.states-n2.ensures)) e (λ r l. ap (code_in a.w.now.words) (slice_word bytes (q * n₂) n₂ r l))

@@ -1,45 +1,44 @@
--- `entries::work_entry` meets its contract: the transitions of model 2, then the meet. Assumes nothing.
-use mathlib.Core.Path.{refl}
+-- `entries::work_entry` meets its contract: the transitions of model 2, then the meet.
+use Rattle.std.proofs.Common.{rules, ◌≡◌, ◌∙◌, sym, ap, eq-eqb, length, take, arith, length-take-le}
+use Rattle.theory.specs.TestLaws.{false_true}
 use Rattle.entries.specs.Prepared.{row_gap, row_within_lem, entry_met}
+use Rattle.entries.specs.Joins.{words_join, listed_front, all_words_joined}
 use Rattle.entries.specs.Codes.{propositions_within}
 use Rattle.entries.specs.Words.{low_at}
 use Rattle.elements.specs.Words.{code_in}
-use Rattle.model.specs.Places.{row_le}
-use lib.ListN.{get_or}
-use borrow.Author.Rules.{rules}
-use native.Mathlib.Omega.{arith}
 use Rattle.entries.proofs.work_entry.Goals as goal
 
 pub list_blocks-blocks-requires : goal.list_blocks-blocks-requires
-list_blocks-blocks-requires c = (rw c.states-n2.ensures (row_gap _ _ c.transition_codes.ensures c.requires.1.second.states_most), refl)
+list_blocks-blocks-requires c = rw c.states-n2.ensures (row_gap _ _ c.transition_codes.ensures c.args.r.now.table.models.second.shape.states_most)
 
-pub meet-r-requires : goal.meet-r-requires
-meet-r-requires c =
-    let a = c.args in
-    let p = c.requires in
-    let m = p.1.second.states_most in
+pub invariant_of-leaving : goal.invariant_of-leaving
+invariant_of-leaving c =
+    let r = c.args.r.now in
+    let m = r.table.models.second.shape.states_most in
     let e = c.transition_codes.ensures in
-    let l = c.list_blocks-blocks.ensures in (
-      rw (c.index.ensures.0, c.code-top.ensures, p.4.alike_are.at a.q2.0 p.3) (propositions_within a.w.now (code_in a.w.now a.l.top.0) a.m1.now a.m2.now a.q1.0 a.q2.0),
-      rw c.states.ensures p.1.first.states_most,
-      rw c.states.ensures p.4.room,
-      l.0,
-      rw c.code-top.ensures (row_within_lem p.0 a.m2.now a.q2.0 _ e m),
-      l.1,
-      rw c.states-n2.ensures (row_gap _ _ e m),
+    let b = c.list_blocks-blocks in
+    let n : length c.transition_codes.new.out ≡ 64 = search rules in
+    record {
+      long = n;
+      within = rw c.code-top.ensures (row_within_lem r.algebra.coded r.table.models.second.bytes.now c.args.q2.0 _ e m);
+      gap = rw c.states-n2.ensures (row_gap _ _ e m);
+      few = omega (arith, length-take-le b.result b.new.starts (omega (arith, b.ensures.0)), b.ensures.0);
+      listed = listed_front b.result b.ensures.1 (omega (arith, b.ensures.0));
+      may_end = record { no = λ t e. false_true t (eq-eqb _ _ (all_words_joined c.transition_codes.new.out c.join_words.ensures ∙ ap (words_join c.transition_codes.new.out 0) n ∙ e)) };
+    }
+
+pub meet-m-requires : goal.meet-m-requires
+meet-m-requires c =
+    let r = c.args.r.now in
+    let h = r.table.models.first.shape.states_most in (
+      rw (c.from.ensures, c.code-top.ensures, r.prepared.alike_are.at c.args.q2.0 c.requires)
+          (propositions_within r.algebra.codes.now.words (code_in r.algebra.codes.now.words r.algebra.lattice.top.0) r.table.models.first.bytes.now r.table.models.second.bytes.now r.q1.0 c.args.q2.0),
+      omega (arith, r.to_each),
+      omega (arith, r.to_each, r.prepared.room),
     )
-
-pub entry_at-requires : goal.entry_at-requires
-entry_at-requires c =
-    let e = c.states-n2.ensures in
-    (rw e c.requires.1.second.states_most, rw e (omega (arith, row_le c.args.q1.0 (get_or c.args.m1.now 0 0) (get_or c.args.m2.now 0 0) c.requires.2, c.requires.3, c.requires.1.held)))
-
-pub decode-requires : goal.decode-requires
-decode-requires c = c.requires.0
 
 pub returns : goal.returns
 returns c =
-    let a = c.args in
-    let p = c.requires in
-    let u = rw (c.index.ensures.0, c.code-top.ensures, c.states-n2.ensures, c.states.ensures) at c.meet-r.ensures in
-    rw c.decode.ensures (entry_met p.0 p.4 a.q2.0 p.3 _ (low_at _ _ _ c.transition_codes.ensures p.1.second.states_most) u)
+    let r = c.args.r.now in
+    let u = rw (c.from.ensures, c.code-top.ensures, c.states-n2.ensures, r.to_each) at c.meet-m.ensures in
+    rw c.decode.ensures (entry_met r.algebra.coded r.prepared c.args.q2.0 c.requires _ (low_at _ _ _ c.transition_codes.ensures r.table.models.second.shape.states_most) u)

@@ -1,58 +1,51 @@
--- `rounds::is_post_fixed` meets its contract: the rows below q1 are at or below those of F. Assumes nothing.
-use mathlib.Core.Path.{◌≡◌, refl, sym, ◌∙◌}
-use Prim.Native.Nat.{◌≤◌, ◌<◌, ◌-◌}
-use lib.ListN.{get_or}
-use borrow.Author.Tests.{not-true, not-false}
-use Rattle.theory.specs.Loop.{Passed, passed_none, passed_more, passed_stop, passed_all}
+-- `rounds::is_post_fixed` meets its contract: the rows below q are at or below those of F.
+use Rattle.std.proofs.Common.{ℕ, ◌≡◌, ◌*◌, ◌<◌, ◌≤◌, ◌+◌, refl, sym, ◌∙◌, false, true, get_or, length, arith, length-take-le}
+use Rattle.std.proofs.Math.ListN.{replicate}
+use Rattle.std.proofs.lemmas.Bool.{not-true, not-false}
+use Rattle.theory.specs.Loop.{passed_none, passed_more, passed_stop, passed_all}
 use Rattle.theory.specs.Test.{all_below}
-use Rattle.model.specs.Places.{prod_le}
+use Rattle.entries.specs.Shaped.{shaped}
 use Rattle.rounds.specs.Table.{post_fixed_in}
 use Rattle.rounds.specs.Row.{row_at}
-use Rattle.entries.specs.Codes.{model_pair}
 use Rattle.rounds.specs.Early.{top_of}
-use Rattle.rounds.specs.RowCodes.{row_within, row_within_lem, post_fixed_in_lem}
-use borrow.Author.Rules.{rules}
-use native.Mathlib.Omega.{arith}
+use Rattle.rounds.specs.RowCodes.{row_within, row_within_lem, row_compared, post_fixed_in_lem}
 use Rattle.rounds.proofs.is_post_fixed.Goals as goal
 use Rattle.rounds.proofs.is_post_fixed.Goals.{After-all_at_most, After-inner_joins}
 
--- what the comparison of row q1 says
-row-found : (c : After-all_at_most) → let a = c.args in
-    c.all_at_most.result ≡ row_within a.w.now c.code-top.result a.m1.now a.m2.now a.s.now c.inner_joins.new.joins c.loop-q1.q1
+-- what the comparison of row q says
+row-found : (c : After-all_at_most) → let t = c.args.t.now in
+    c.all_at_most.result ≡ row_within c.args.a.now.codes.now.words c.code-top.result t.models.first.bytes.now t.models.second.bytes.now t.bytes.now c.inner_joins.new.joins c.loop-q.q
 row-found c =
-    let l : c.loop-q1.q1 < get_or c.args.m1.now 0 0 = omega (arith, c.states-n1.ensures) in
-    let n = c.states-n2.ensures in
-    row_within_lem c.args.w.now _ _ _ c.args.s.now c.inner_joins.new.joins _ (row_at c.args.m1.now c.args.m2.now c.args.s.now _ _ c.loop-q1.q1 c.requires.1 l n refl) n c.row_from.ensures c.all_at_most.ensures
+    let t = c.args.t.now in
+    let m₁ = t.models.first.bytes.now in
+    let m₂ = t.models.second.bytes.now in
+    let q = c.loop-q.q in
+    let l : q < get_or m₁ 0 0 = omega arith in
+    let r = row_at m₁ m₂ t.bytes.now q (get_or m₂ 0 0) q (shaped t) l refl refl in
+    let m = t.models.second.shape.states_most in
+    let k = length-take-le {A = ℕ} c.states.result (replicate 64 0) (omega (arith, m, c.states.ensures)) in
+    let e = rw c.row.ensures.0 at c.all_at_most.ensures in
+    row_within_lem _ _ m₁ m₂ t.bytes.now c.inner_joins.new.joins _ r refl c.row_from.ensures (row_compared _ t.bytes.now _ (q * get_or m₂ 0 0) (get_or m₂ 0 0) (omega (arith, r.within, t.held)) (omega (arith, k, c.states.ensures)) e)
 
 -- the test of all rows by codes is that of the table
-all-rows : (c : After-inner_joins) → let a = c.args in
-    all_below (get_or a.m1.now 0 0) (row_within a.w.now c.code-top.result a.m1.now a.m2.now a.s.now c.inner_joins.new.joins) ≡ post_fixed_in a.w.now a.l a.m1.now a.m2.now a.s.now
-all-rows c = rw c.code-top.ensures (post_fixed_in_lem c.requires.0 c.inner_joins.ensures)
-
-pub loop-q1-init : goal.loop-q1-init
-loop-q1-init c = (omega arith, passed_none)
+all-rows : (c : After-inner_joins) → let a = c.args.a.now in let t = c.args.t.now in
+    all_below (get_or t.models.first.bytes.now 0 0) (row_within a.codes.now.words c.code-top.result t.models.first.bytes.now t.models.second.bytes.now t.bytes.now c.inner_joins.new.joins)
+    ≡ post_fixed_in a.codes.now.words a.lattice t.models.first.bytes.now t.models.second.bytes.now t.bytes.now
+all-rows c = rw c.code-top.ensures (post_fixed_in_lem c.args.a.now.coded c.inner_joins.ensures)
 
 pub inner_joins-requires : goal.inner_joins-requires
-inner_joins-requires c = let p = c.requires in (top_of p.0 c.code-top.ensures, p.1)
+inner_joins-requires c = top_of c.args.a.now.coded c.code-top.ensures
 
-pub row_from-requires : goal.row_from-requires
-row_from-requires c = (model_pair c.requires.1, omega (arith, c.states-n1.ensures))
-
-pub overflow_mul-q1 : goal.overflow_mul-q1
-overflow_mul-q1 c = omega (arith, prod_le c.loop-q1.q1 c.states-n2.result 64 64 (omega arith) (omega arith))
-
-pub all_at_most-requires : goal.all_at_most-requires
-all_at_most-requires c =
-    let r = row_at c.args.m1.now c.args.m2.now c.args.s.now c.loop-q1.q1 _ _ c.requires.1 (omega (arith, c.states-n1.ensures)) c.states-n2.ensures refl in
-    (omega (arith, r.within, c.requires.1.held), r.few)
+pub loop-q-init : goal.loop-q-init
+loop-q-init c = passed_none
 
 pub returns-then-not-all_at_most : goal.returns-then-not-all_at_most
 returns-then-not-all_at_most c =
-    passed_stop c.loop-q1.invariant.1 (omega (arith, c.states-n1.ensures)) (sym (row-found (goal.at.returns-then-not-all_at_most c).After-all_at_most) ∙ c.if-not-all_at_most.true)
+    passed_stop c.loop-q.invariant (omega arith) (sym (row-found (goal.at.returns-then-not-all_at_most c).After-all_at_most) ∙ c.if-not-all_at_most.true)
     ∙ all-rows (goal.at.returns-then-not-all_at_most c).After-inner_joins
 
-pub loop-q1-preserved : goal.loop-q1-preserved
-loop-q1-preserved c = (omega arith, passed_more c.loop-q1.invariant.1 (sym (row-found (goal.at.loop-q1-preserved c).After-all_at_most) ∙ c.if-not-all_at_most.false))
+pub loop-q-preserved : goal.loop-q-preserved
+loop-q-preserved c = passed_more c.loop-q.invariant (sym (row-found (goal.at.loop-q-preserved c).After-all_at_most) ∙ c.if-not-all_at_most.false)
 
 pub returns : goal.returns
-returns c = let e = c.states-n1.ensures in passed_all c.loop-q1.invariant.1 (omega arith) (omega arith) ∙ all-rows (goal.at.returns c).After-inner_joins
+returns c = passed_all c.loop-q.invariant (omega arith) (omega arith) ∙ all-rows (goal.at.returns c).After-inner_joins

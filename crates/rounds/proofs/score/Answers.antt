@@ -1,39 +1,30 @@
--- `rounds::score` meets its contract: the meet so far. Assumes nothing.
-use mathlib.Core.Path.{◌≡◌, refl, ap, ap₂, ◌∙◌}
-use Prim.Native.Nat.{◌≤◌, ◌-◌}
-use lib.Bits.{bit_and, bit_or}
-use lib.ListN.{length, get_or}
-use Rattle.theory.specs.Loop.{Folded, folded_none, folded_more, folded_all}
-use Rattle.elements.specs.Words.{code_in, negated_code_in, decode_in}
-use Rattle.model.specs.Places.{row_le, prod_le}
-use Rattle.rounds.specs.Row.{held_by}
-use Rattle.rounds.specs.Codes.{score_part, score_join, score_decoded}
-use borrow.Author.Rules.{rules}
-use native.Mathlib.Omega.{arith}
+-- `rounds::score` meets its contract: the meet so far.
+use Rattle.std.proofs.Common.{ℕ, ◌≡◌, ◌≤◌, refl, ap, ap₂, ◌∙◌, length, get_or, bit_or, arith, length-take-le}
+use Rattle.std.proofs.Math.ListN.{replicate}
+use Rattle.theory.specs.Loop.{folded_none, folded_more, folded_all}
+use Rattle.elements.specs.Words.{negated_code_in, decode_in}
+use Rattle.rounds.specs.Codes.{score_join, score_decoded}
 use Rattle.rounds.proofs.score.Goals as goal
 
 pub loop-q-init : goal.loop-q-init
-loop-q-init c = (omega arith, refl, rw c.code-x.ensures folded_none)
-
-pub overflow_mul-q : goal.overflow_mul-q
-overflow_mul-q c =
-    omega (arith, prod_le c.loop-q.q c.states-n2.result 64 64 (omega (arith, c.states-n1.ensures, c.requires.1.first.states_most)) (omega (arith, c.states-n2.ensures, c.requires.1.second.states_most)))
-
-pub encode-requires : goal.encode-requires
-encode-requires c =
-    let h = held_by c.args.m1.now c.args.m2.now c.args.s.now _ _ c.requires.1 c.states-n1.ensures c.states-n2.ensures in
-    omega (arith, h, c.states-n2.ensures, c.requires.1.second.states_most, row_le c.loop-q.q c.states-n1.result c.states-n2.result c.loop-q-test.true)
+loop-q-init c = rw c.code-x.ensures folded_none
 
 pub loop-q-preserved : goal.loop-q-preserved
 loop-q-preserved c =
-    let a = c.args in
-    let i = c.loop-q.invariant in
-    let y = c.joined-y.ensures ∙ score_join a.w.now a.m2.now a.s.now c.loop-q.q _ _ c.initial_codes.ensures c.encode.ensures (omega (arith, i.1, c.states-n2.ensures, c.requires.1.second.states_most)) c.states-n2.ensures in
-    let z = c.negated_code-z.ensures ∙ ap (negated_code_in a.w.now) c.initial.ensures in
-    (omega arith, search rules, folded_more i.2 (ap₂ bit_or z y) refl)
+    let w = c.args.a.now.codes.now.words in
+    let t = c.args.t.now in
+    let e = rw (c.row.ensures.1, c.row.ensures.0) at c.encode.ensures in
+    let z = c.negated_code-z.ensures ∙ ap (negated_code_in w) c.initial.ensures in
+    let m = t.models.second.shape.states_most in
+    let k = length-take-le {A = ℕ} c.states-n2.result (replicate 64 0) (omega (arith, m, c.states-n2.ensures)) in
+    folded_more c.loop-q.invariant
+    (ap₂ bit_or z
+    (score_join w t.models.second.bytes.now t.bytes.now c.loop-q.q _ _ c.states-n2.ensures c.initial_codes.ensures (omega (arith, m, c.states-n2.ensures)) (omega (arith, k)) e (omega (arith, k)) c.join_met-y.ensures))
+    refl
 
 pub returns : goal.returns
 returns c =
-    let a = c.args in
-    let x = folded_all {n = get_or a.m1.now 0 0} c.loop-q.invariant.2 (omega (arith, c.states-n1.ensures)) (omega (arith, c.states-n1.ensures)) in
-    c.decode.ensures ∙ ap (decode_in a.w.now) x ∙ score_decoded c.requires.0 a.m1.now a.m2.now a.s.now
+    let a = c.args.a.now in
+    let t = c.args.t.now in
+    let x = folded_all {n = get_or t.models.first.bytes.now 0 0} c.loop-q.invariant (omega arith) (omega arith) in
+    c.decode.ensures ∙ ap (decode_in a.codes.now.words) x ∙ score_decoded a.coded t.models.first.bytes.now t.models.second.bytes.now t.bytes.now

@@ -1,23 +1,13 @@
--- `rounds::write_row` meets its contract: the entries below q are written and compared. Assumes nothing.
-use mathlib.Core.Path.{◌≡◌, refl}
-use Prim.Native.Nat.{◌+◌, ◌≤◌, ◌-◌}
-use lib.ListN.{length, get_or, length-set}
-use Rattle.elements.specs.Words.{decode_in}
-use Rattle.rounds.specs.Row.{RowSoFar, row_none, row_more, row_all}
-use borrow.Author.Rules.{rules}
-use native.Mathlib.Omega.{arith}
+-- `rounds::write_row` meets its contract: the bytes below q are written and compared.
+use Rattle.std.proofs.Common.{refl, arith}
+use Rattle.rounds.specs.Row.{row_none, row_next, row_all}
 use Rattle.rounds.proofs.write_row.Goals as goal
 
 pub loop-q-init : goal.loop-q-init
-loop-q-init c = (omega arith, refl, row_none)
+loop-q-init g c = λ h e. row_none
 
 pub loop-q-preserved : goal.loop-q-preserved
-loop-q-preserved c =
-    let i = c.loop-q.invariant in
-    (omega arith, simp length-set i.1, row_more i.2 (omega arith) refl c.decode-e.ensures)
-
-pub shape_of-out : goal.shape_of-out
-shape_of-out c = c.loop-q.invariant.1
+loop-q-preserved g c = λ h e. row_next (c.loop-q.invariant h e) (omega arith) refl (e _ _ (omega arith) c.f-e.ensures)
 
 pub returns : goal.returns
-returns c = row_all c.loop-q.invariant.2 (omega arith) (omega arith)
+returns g c = λ h e. row_all (c.loop-q.invariant h e) (omega arith) (omega arith)

@@ -1,46 +1,46 @@
--- `entries::before_top` meets its contract: the join of the blocks before block c, which is not top. Assumes nothing.
-use mathlib.Core.Path.{◌≡◌, refl, sym, ap, ◌∙◌}
-use Prim.Native.Nat.{◌≤◌, ◌-◌}
+-- `entries::before_top` meets its contract: the join of the blocks before a block, which is not top.
+use Rattle.std.proofs.Common.{refl, sym, ap, ◌∙◌, length, arith}
 use Rattle.theory.specs.Loop.{reached}
-use Rattle.entries.specs.Joins.{join_code, block_from, block_next, join_none, join_gap}
-use borrow.Author.Rules.{rules}
-use native.Mathlib.Omega.{arith}
+use Rattle.entries.specs.Joins.{join_code, block_from, block_next, block_joined, join_none, join_gap}
 use Rattle.entries.proofs.joins.before_top.Goals as goal
 
-pub loop-c-init : goal.loop-c-init
-loop-c-init c = (omega arith, join_none c.args.row.now c.args.table.now c.args.at, λ e. c.requires.2 (sym e))
+pub loop-start-init : goal.loop-start-init
+loop-start-init c = (join_none c.args.r.now.row.now c.args.codes.now 0, λ e. c.requires.1 (sym e))
 
-pub join_block-y-requires : goal.join_block-y-requires
-join_block-y-requires c =
-    let a = c.args in
-    let u = c.loop-c in
-    (c.requires.3.fits u.c (omega arith), c.requires.1, u.invariant.1 ∙ sym (join_gap a.row.now a.table.now a.at (c.requires.3.gap u.c (omega arith))))
-
-pub returns-then-y-top : goal.returns-then-y-top
-returns-then-y-top c =
-    let a = c.args in
-    let u = c.loop-c in
+pub returns-then-y-r : goal.returns-then-y-r
+returns-then-y-r c =
+    let r = c.args.r.now in
+    let u = c.loop-start in
+    let t = c.args.r.now.listed in
+    let i = u.start-index in
+    let x = u.invariant.0 ∙ sym (join_gap r.row.now c.args.codes.now 0 (t.gap i (omega arith))) in
     record {
-      code_is = u.invariant.1 ∙ sym (join_gap a.row.now a.table.now a.at (c.requires.3.gap u.c (omega arith)));
-      not_top = u.invariant.2;
-      fits = λ d. c.requires.3.fits u.c (omega arith);
-      reached = λ d. sym c.join_block-y.ensures ∙ c.if-y-top.true;
+      code_is = x;
+      not_top = u.invariant.1;
+      fits = λ d. t.fits i (omega arith);
+      reached = λ d. sym (block_joined r.row.now c.args.codes.now _ _ (omega arith) (omega (arith, r.long, t.fits i (omega arith))) (omega (arith, t.fits i (omega arith))) x c.join_met-y.ensures) ∙ c.if-y-r.true;
     }
 
-pub loop-c-preserved : goal.loop-c-preserved
-loop-c-preserved c =
-    let a = c.args in
-    let u = c.loop-c in
-    (omega arith, c.join_block-y.ensures ∙ ap (join_code a.row.now a.table.now a.at) (sym (block_next a.starts.now u.c)), c.if-y-top.false)
+pub loop-start-preserved : goal.loop-start-preserved
+loop-start-preserved c =
+    let r = c.args.r.now in
+    let u = c.loop-start in
+    let t = c.args.r.now.listed in
+    let i = u.start-index in
+    let x = u.invariant.0 ∙ sym (join_gap r.row.now c.args.codes.now 0 (t.gap i (omega arith))) in (
+      block_joined r.row.now c.args.codes.now _ _ (omega arith) (omega (arith, r.long, t.fits i (omega arith))) (omega (arith, t.fits i (omega arith))) x c.join_met-y.ensures
+          ∙ ap (join_code r.row.now c.args.codes.now 0) (sym (block_next r.starts.now i)),
+      c.if-y-r.false,
+    )
 
 pub returns : goal.returns
 returns c =
-    let a = c.args in
-    let i = c.loop-c.invariant in
+    let r = c.args.r.now in
+    let i = c.loop-start.invariant in
     record {
-      code_is = i.1 ∙ reached (λ n. join_code a.row.now a.table.now a.at (block_from a.starts.now n)) i.0 (omega arith)
-          ∙ sym (join_gap a.row.now a.table.now a.at c.requires.3.last);
-      not_top = i.2;
+      code_is = i.0 ∙ reached (λ n. join_code r.row.now c.args.codes.now 0 (block_from r.starts.now n)) (omega arith) (omega arith)
+          ∙ sym (join_gap r.row.now c.args.codes.now 0 c.args.r.now.listed.last);
+      not_top = i.1;
       fits = λ d. absurd (d refl);
       reached = λ d. absurd (d refl);
     }

@@ -1,14 +1,6 @@
-use mathlib.Core.Path.{◌≡◌, refl, sym, ap, ◌∙◌}
-use Prim.Native.Nat.{◌+◌, ◌≤◌, ◌-◌}
-use native.Mathlib.Nat.{add-zero}
-use Rattle.entries.specs.Joins.{join_code, join_turn, first_top}
-use Rattle.theory.specs.Loop.{reached}
-use borrow.Author.Rules.{rules}
-use native.Mathlib.Omega.{arith}
+use Rattle.std.proofs.Common.{◌≡◌}
+use Rattle.entries.specs.Joins.{join_code}
 use Rattle.entries.proofs.joins.end_in_block.Given as goal
 
 abbrev pub invariant-loop-j : goal.invariant-loop-j
-invariant-loop-j l = (l.j ≤ 16) × (l.y ≡ join_code l.row l.table l.at (l.i + l.j)) × (l.y ≡ l.top → ⊥)
-
-abbrev pub decreases-loop-j : goal.decreases-loop-j
-decreases-loop-j l = 16 - l.j
+invariant-loop-j l = (l.y ≡ join_code l.r.row.now l.codes 0 l.j) × (l.y ≡ l.r.top → ⊥)

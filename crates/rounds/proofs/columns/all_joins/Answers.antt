@@ -1,29 +1,18 @@
--- `rounds::all_joins` meets its contract: the columns below q2 are written. Assumes nothing.
-use mathlib.Core.Path.{◌≡◌, refl, sym, ◌∙◌}
-use Prim.Native.Nat.{◌≤◌, ◌-◌}
-use lib.ListN.{length}
-use Rattle.entries.specs.Words.{Rows}
-use Rattle.rounds.specs.Rows.{rows_empty, rows_column, columns_all}
-use Rattle.rounds.specs.Codes.{by_column}
-use Rattle.entries.specs.Codes.{inner_code}
-use borrow.Author.Rules.{rules}
-use native.Mathlib.Omega.{arith}
+-- `rounds::all_joins` meets its contract: the columns below q2 are written.
+use Rattle.std.proofs.Common.{ℕ, ◌≡◌, length, arith, length-take-le}
+use Rattle.std.proofs.Math.ListN.{replicate}
+use Rattle.entries.specs.Words.{filled_part, filled_same}
+use Rattle.rounds.specs.Rows.{rows_column}
 use Rattle.rounds.proofs.columns.all_joins.Goals as goal
 
-pub loop-q2-init : goal.loop-q2-init
-loop-q2-init c = (omega arith, c.requires.3, rows_empty)
-
-pub put_joins-requires : goal.put_joins-requires
-put_joins-requires c = let p = c.requires in (p.0, p.1, omega (arith, c.states-n2.ensures), p.2, c.loop-q2.invariant.1)
+pub join_columns-requires : goal.join_columns-requires
+join_columns-requires c =
+    let k = length-take-le {A = ℕ} c.args.n1 (replicate 64 0) c.requires.1 in
+    (c.requires.0, omega arith, omega (arith, k, c.requires.1), filled_part c.args.n1 c.requires.1 c.requires.1 (filled_same 0 64 (omega arith)))
 
 pub loop-q2-preserved : goal.loop-q2-preserved
 loop-q2-preserved c =
-    let i = c.loop-q2.invariant in
-    let s = c.put_joins.ensures in
-    (omega arith, s.same_length ∙ i.1, rows_column i.2 (omega (arith, c.states-n2.ensures, c.requires.1.states_most)) s (λ q l. refl))
-
-pub shape_of-joins : goal.shape_of-joins
-shape_of-joins c = c.loop-q2.invariant.1 ∙ sym c.requires.3
-
-pub returns : goal.returns
-returns c = let e = c.states-n2.ensures in columns_all c.loop-q2.invariant.2 (omega arith) (omega arith)
+    let few = c.args.m2.now.shape.states_most in
+    let k = length-take-le {A = ℕ} c.args.n1 (replicate 64 0) c.requires.1 in
+    let n : length c.join_columns.new.row ≡ c.args.n1 = omega (arith, k) in
+    rows_column c.loop-q2.invariant (omega arith) (rw n at c.spread.ensures) (rw k at c.join_columns.ensures.at)

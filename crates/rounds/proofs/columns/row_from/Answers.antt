@@ -1,54 +1,48 @@
--- `rounds::row_from` meets its contract: the meets over the states below q. Assumes nothing.
-use mathlib.Core.Path.{◌≡◌, ap, ◌∙◌}
-use mathlib.Core.Bool.{true}
-use Prim.Native.Nat.{ℕ, ◌≤◌, ◌-◌}
-use lib.Bits.{bit_and, bit_or}
-use lib.ListN.{length, get_or}
+-- `rounds::row_from` meets its contract: the meets over the states below q, all of which are bottom where it ends early.
+use Rattle.std.proofs.Common.{rules, ◌≡◌, ℕ, ◌+◌, ◌*◌, refl, sym, ap, ◌∙◌, get_or, length, bit_and, bit_or, arith}
+use Rattle.elements.proofs.Folds.{top_same}
 use Rattle.elements.specs.Words.{negated_code_in}
-use Rattle.model.specs.Reading.{leaving_code}
-use Rattle.entries.specs.Words.{RowFolded, row_folded_none, row_folded_more, row_folded_all}
+use Rattle.elements.specs.Laws.{within-refl}
+use Rattle.entries.specs.Words.{row_folded_none, row_folded_more, replaced_same, replaced_part}
+use Rattle.entries.specs.Codes.{propositions_within, row_folded_within}
 use Rattle.rounds.specs.Codes.{by_row}
-use Rattle.entries.specs.Codes.{propositions_code, propositions_within, row_folded_within}
 use Rattle.rounds.specs.Early.{meets_end}
-use borrow.Author.Rules.{rules}
-use borrow.Author.Tests.{not-true}
-use native.Mathlib.Omega.{arith}
 use Rattle.rounds.proofs.columns.row_from.Goals as goal
 
 pub loop-q-init : goal.loop-q-init
-loop-q-init c = (omega arith, c.propositions.ensures.0, row_folded_none (rw c.states-n2.ensures c.propositions.ensures.1))
+loop-q-init c = row_folded_none c.propositions.ensures
 
-pub overflow_mul-q : goal.overflow_mul-q
-overflow_mul-q c = omega (arith, c.states-n1.ensures, c.requires.0.first.states_most)
-
-pub meet_with-requires : goal.meet_with-requires
-meet_with-requires c =
-    let i = c.loop-q.invariant in
-    let e₁ = c.states-n1.ensures in
-    let e₂ = c.states-n2.ensures in
-    let p = c.requires.0 in
-    (omega (arith, e₂, p.second.states_most), omega (arith, e₁, e₂, p.first.states_most, p.second.states_most), i.1, row_folded_within c.args.top _ _ (λ r l. propositions_within c.args.w.now c.args.top c.args.m1.now c.args.m2.now c.args.q1.0 r) i.2)
-
-pub returns-then-not-meet_with : goal.returns-then-not-meet_with
-returns-then-not-meet_with c =
+pub loop-q-preserved-then-c-top : goal.loop-q-preserved-then-c-top
+loop-q-preserved-then-c-top c =
     let a = c.args in
-    let i = c.loop-q.invariant in
+    let m = a.m.now in
     let q = c.loop-q.q in
-    let u = c.meet_with.ensures in
-    rw c.states-n2.ensures at
-    (meets_end {n = get_or a.m1.now 0 0}
-    (row_folded_more i.2 u.0 (λ r x. ap (λ (y : ℕ). bit_and x (bit_or y (by_row a.joins.now q r))) (c.negated_code-c.ensures ∙ ap (negated_code_in a.w.now) c.transition.ensures)))
-    (u.1 c.if-not-meet_with.true) (omega (arith, c.states-n1.ensures)))
+    let t : ℕ → ℕ = λ i. get_or a.joins.now (q * 64 + i) 0 in
+    let h = row_folded_within a.top _ _ (λ r l. propositions_within a.w.now.words a.top m.first.bytes.now m.second.bytes.now a.q1.0 r) c.loop-q.invariant in
+    row_folded_more c.loop-q.invariant
+    (replaced_same (λ i l. top_same (h.at i l) (t i) ∙ ap (λ (x : ℕ). bit_and (get_or c.loop-q.out i 0) (bit_or x (t i))) (sym c.if-c-top.true)))
+    (λ r x. ap (λ (y : ℕ). bit_and x (bit_or y (by_row a.joins.now q r))) (c.negated_code-c.ensures ∙ ap (negated_code_in a.w.now.words) c.transition.ensures))
+
+pub returns-then-all_are : goal.returns-then-all_are
+returns-then-all_are c =
+    let a = c.args in
+    let q = c.loop-q.q in
+    let k = c.negated_code-c.result in
+    let few = a.m.now.second.shape.states_most in
+    let n : length c.loop-q.out ≡ get_or a.m.now.second.bytes.now 0 0 = omega (arith, c.requires.1) in
+    meets_end {n = get_or a.m.now.first.bytes.now 0 0}
+    (row_folded_more c.loop-q.invariant
+    (replaced_part (λ x y. bit_and x (bit_or k y)) a.joins.now (q * 64) _ (omega arith) (rw n at (c.replace.ensures (λ x y. bit_and x (bit_or k y)) (λ x y z e. search rules))))
+    (λ r x. ap (λ (y : ℕ). bit_and x (bit_or y (by_row a.joins.now q r))) (c.negated_code-c.ensures ∙ ap (negated_code_in a.w.now.words) c.transition.ensures)))
+    (record { at = λ i l. rw (c.all_are.ensures c.if-all_are.true i (omega arith)) (within-refl 0) }) (omega arith)
 
 pub loop-q-preserved : goal.loop-q-preserved
 loop-q-preserved c =
     let a = c.args in
-    let i = c.loop-q.invariant in
     let q = c.loop-q.q in
-    let u = c.meet_with.ensures in
-    (omega arith, u.0.same_length ∙ i.1, row_folded_more i.2 u.0 (λ r x. ap (λ (y : ℕ). bit_and x (bit_or y (by_row a.joins.now q r))) (c.negated_code-c.ensures ∙ ap (negated_code_in a.w.now) c.transition.ensures)))
-
-pub returns : goal.returns
-returns c =
-    let e = c.states-n1.ensures in
-    rw c.states-n2.ensures at (row_folded_all {k = get_or c.args.m1.now 0 0} c.loop-q.invariant.2 (omega arith) (omega arith))
+    let k = c.negated_code-c.result in
+    let few = a.m.now.second.shape.states_most in
+    let n : length c.loop-q.out ≡ get_or a.m.now.second.bytes.now 0 0 = omega (arith, c.requires.1) in
+    row_folded_more c.loop-q.invariant
+    (replaced_part (λ x y. bit_and x (bit_or k y)) a.joins.now (q * 64) _ (omega arith) (rw n at (c.replace.ensures (λ x y. bit_and x (bit_or k y)) (λ x y z e. search rules))))
+    (λ r x. ap (λ (y : ℕ). bit_and x (bit_or y (by_row a.joins.now q r))) (c.negated_code-c.ensures ∙ ap (negated_code_in a.w.now.words) c.transition.ensures))
