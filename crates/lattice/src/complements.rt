@@ -10,6 +10,9 @@ ghost use Rattle.lattice.specs.Filling.{words_by, antitone_pair, antitone, invol
 use crate::part::Part;
 use elements::{Codes, Element};
 
+// The place of the first complement's code.
+const COMPLEMENTS: usize = 64;
+
 // Any number as an element.
 #[tactic(auto, unfolding(theory::specs::Part::element))]
 fn element_of(n: u8, k: usize) -> Element
@@ -44,7 +47,11 @@ impl Part<'_> {
         ensures { result ≡ words_by (lattice_of self.entry.bytes.now) codes.now k }
     {
         let e = element_of(self.size(), k);
-        let a = if k < 64 { e } else { self.complement(e) };
+        let a = if k < COMPLEMENTS {
+            e
+        } else {
+            self.complement(e)
+        };
         codes[usize::from(a.0)]
     }
 

@@ -7,7 +7,7 @@ use Rattle.lattice.specs.Accepted.{formed}
 use Rattle.lattice.specs.Parts.{element-within}
 use Rattle.lattice.specs.Filling.{words_low, words_high}
 use Rattle.lattice.proofs.part.Part.word_at.Goals as goal
-use Rattle.lattice.proofs.part.Part.word_at.Goals.{then-k-lt64, else-k-lt64}
+use Rattle.lattice.proofs.part.Part.word_at.Goals.{then-k-lt-COMPLEMENTS, else-k-lt-COMPLEMENTS}
 
 pub complement-a-requires : goal.complement-a-requires
 complement-a-requires c = rw c.element_of-e.ensures (element-within _ _ _ (formed _ c.args.self.form) c.size.ensures.is).0
@@ -15,9 +15,9 @@ complement-a-requires c = rw c.element_of-e.ensures (element-within _ _ _ (forme
 pub bounds-codes-from : goal.bounds-codes-from
 bounds-codes-from c =
     let i = (element-within _ _ c.args.k (formed _ c.args.self.form) c.size.ensures.is).0 in
-    elim c.if-k-lt64.branch [
-      | then-k-lt64 w ↦ omega (arith, i, c.requires, c.from.ensures, c.element_of-e.ensures, ap (λ (e : Element). e.0) w.a-is)
-      | else-k-lt64 w ↦ omega (arith, c.requires, c.from.ensures, w.complement-a.ensures.inside, ap (λ (e : Element). e.0) w.a-is)
+    elim c.if-k-lt-COMPLEMENTS.branch [
+      | then-k-lt-COMPLEMENTS w ↦ omega (arith, i, c.requires, c.from.ensures, c.element_of-e.ensures, ap (λ (e : Element). e.0) w.a-is)
+      | else-k-lt-COMPLEMENTS w ↦ omega (arith, c.requires, c.from.ensures, w.complement-a.ensures.inside, ap (λ (e : Element). e.0) w.a-is)
     ]
 
 pub returns : goal.returns
@@ -25,7 +25,7 @@ returns c =
     let codes = c.args.codes.now in
     let P = lattice_of c.args.self.bytes.now in
     let e : c.element_of-e.result.0 ≡ element P.size c.args.k = c.element_of-e.ensures ∙ ap (λ (n : ℕ). element n c.args.k) c.size.ensures.is in
-    elim c.if-k-lt64.branch [
-      | then-k-lt64 w ↦ ap (λ (i : ℕ). get_or codes i 0) (c.from.ensures ∙ ap (λ (e : Element). e.0) w.a-is ∙ e) ∙ words_low P codes _ w.if-k-lt64.true
-      | else-k-lt64 w ↦ ap (λ (i : ℕ). get_or codes i 0) (c.from.ensures ∙ ap (λ (e : Element). e.0) w.a-is ∙ w.complement-a.ensures.is ∙ ap P.complement e) ∙ words_high P codes _ w.if-k-lt64.false
+    elim c.if-k-lt-COMPLEMENTS.branch [
+      | then-k-lt-COMPLEMENTS w ↦ ap (λ (i : ℕ). get_or codes i 0) (c.from.ensures ∙ ap (λ (e : Element). e.0) w.a-is ∙ e) ∙ words_low P codes _ w.if-k-lt-COMPLEMENTS.true
+      | else-k-lt-COMPLEMENTS w ↦ ap (λ (i : ℕ). get_or codes i 0) (c.from.ensures ∙ ap (λ (e : Element). e.0) w.a-is ∙ w.complement-a.ensures.is ∙ ap P.complement e) ∙ words_high P codes _ w.if-k-lt-COMPLEMENTS.false
     ]
