@@ -3,6 +3,7 @@
 --   words_by: what belongs at each of the 128 places; held_from: filled so, they hold the lattice
 --   involutive, antitone_pair, antitone: the rules of the complement, as the code tests them
 --   LatticeWords: a distributive lattice, its codes and the word of its irreducible elements
+--   top_some, bottom_some: the searches for the top and the bottom find them
 --   answered_refused, answered-involutive, answered-antitone, answered-accepted: the answers
 use Rattle.std.specs.Prelude.{ℕ, ◌+◌, ◌≤◌, ◌<◌, ◌≡◌, refl, Bool, true, false, cond, ◌&&◌, List, ltb, eqb, get_or, Option, Some, Ok, Err, IsSome}
 use Rattle.std.proofs.Common.{sym, ap, ◌∙◌, arith, lt-ltb, le-ltb}
@@ -61,20 +62,8 @@ involutive P a = eqb (P.complement (P.complement a)) a
 unfoldable pub antitone_pair : List ℕ → ℕ → ℕ → Bool
 antitone_pair w a b = within (get_or w a 0) (get_or w b 0) ⇒ within (get_or w (64 + b) 0) (get_or w (64 + a) 0)
 
-pub antitone_skip : (w : List ℕ) (a b : ℕ) → within (get_or w a 0) (get_or w b 0) ≡ false → true ≡ antitone_pair w a b
-unfolding antitone_pair
-antitone_skip w a b h = rw h
-
-pub antitone-test : (w : List ℕ) (a b : ℕ) → within (get_or w a 0) (get_or w b 0) ≡ true → within (get_or w (64 + b) 0) (get_or w (64 + a) 0) ≡ antitone_pair w a b
-unfolding antitone_pair
-antitone-test w a b h = rw h
-
 unfoldable pub antitone : ℕ → List ℕ → Bool
 antitone n w = all2 n (antitone_pair w)
-
--- the same for an equal number of elements
-pub antitone-size : {n m : ℕ} (w : List ℕ) {t : Bool} → n ≡ m → antitone n w ≡ t → antitone m w ≡ t
-antitone-size w e h = rw e at h
 
 -- ---- a distributive lattice with its codes
 

@@ -33,6 +33,7 @@ fn pair_antitone(w: &Codes, a: usize, b: usize) -> bool
     x & w.words[b] != x || u & w.words[64 + a] == u
 }
 
+// The same for one a. A function of its own, as a closure round a chain would need these clauses too.
 fn row_antitone(w: &Codes, n: usize, a: usize) -> bool
     requires { (n ≤ 64) × (a < 64) }
     ensures { result ≡ all_below n (antitone_pair w.now.words a) }
@@ -55,6 +56,7 @@ impl Part<'_> {
         codes[usize::from(a.0)]
     }
 
+    // The words at all places.
     pub(crate) fn fill_words(self, codes: &[u64], w: &mut Codes)
         requires { length codes.now ≡ (lattice_of self.bytes.now).size }
         ensures { Filled (words_by (lattice_of self.entry.bytes.now) codes.now) 128 w.new.words }

@@ -58,6 +58,7 @@ impl Words<'_> {
 
     // ---- the order is that of the codes
 
+    // The same for one a. A function of its own, as a closure round a chain would need these clauses too.
     fn row_ordered(self, codes: &[u64], a: usize) -> bool
         requires { (length codes.now ≡ length self.words.now) × (a < length codes.now) }
         ensures { result ≡ all_below (length codes.now) (pair_ordered (words_in self.entry.words.now) (words_in codes.now) a) }
@@ -67,6 +68,7 @@ impl Words<'_> {
         (0..codes.len()).all(|b| pair_ordered(x, y, codes[b], a, b))
     }
 
+    // Each a has bit b in its word exactly where the code of b is within that of a, and no two codes are the same.
     pub(crate) fn is_ordered(self, codes: &[u64]) -> bool
         requires { length codes.now ≡ length self.words.now }
         ensures { result ≡ ordered (length codes.now) (words_in self.entry.words.now) (words_in codes.now) }
@@ -92,6 +94,7 @@ impl Words<'_> {
         ensures { result ≡ closed (length self.entry.words.now) (words_in self.entry.words.now) mask joins }
     {
         let n = self.words.len();
+        // A `for`, as nothing is known outside a closure of what a chain inside it answers.
         for a in 0..n {
             let k = bit(a);
             if (k & mask) != k {
