@@ -33,7 +33,7 @@ fn pair_antitone(w: &Codes, a: usize, b: usize) -> bool
     x & w.words[b] != x || u & w.words[64 + a] == u
 }
 
-// The same for one a. A function of its own, as a closure round a chain would need these clauses too.
+// The same for one a and each b. A function of its own, as a closure round a chain would need these clauses too.
 fn row_antitone(w: &Codes, n: usize, a: usize) -> bool
     requires { (n ≤ 64) × (a < 64) }
     ensures { result ≡ all_below n (antitone_pair w.now.words a) }

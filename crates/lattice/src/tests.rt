@@ -56,9 +56,9 @@ impl Words<'_> {
         self.words.iter().position(|y| *y == x)
     }
 
-    // ---- the order is that of the codes
+    // ---- the order, by codes
 
-    // The same for one a. A function of its own, as a closure round a chain would need these clauses too.
+    // `pair_ordered` for one a and each b. A function of its own, as a closure round a chain would need these clauses too.
     fn row_ordered(self, codes: &[u64], a: usize) -> bool
         requires { (length codes.now ≡ length self.words.now) × (a < length codes.now) }
         ensures { result ≡ all_below (length codes.now) (pair_ordered (words_in self.entry.words.now) (words_in codes.now) a) }
@@ -68,7 +68,7 @@ impl Words<'_> {
         (0..codes.len()).all(|b| pair_ordered(x, y, codes[b], a, b))
     }
 
-    // Each a has bit b in its word exactly where the code of b is within that of a, and no two codes are the same.
+    // The order is that of the codes, and no two codes are the same.
     pub(crate) fn is_ordered(self, codes: &[u64]) -> bool
         requires { length codes.now ≡ length self.words.now }
         ensures { result ≡ ordered (length codes.now) (words_in self.entry.words.now) (words_in codes.now) }
