@@ -66,8 +66,8 @@ impl<'a> Valuation<'a> {
     }
 
     // The second formula of or or and, at place `at`: its map is combined with that of the first, which is in `out`. The array that this takes
-    // stands here, so that other nodes have none: with the copy of a map beside it, it is more than the compiler moves into a function that
-    // calls itself. In the frame of `node` it would be one more for each level of nesting.
+    // stands here and is not inlined, so that other nodes have none: in the frame of `node` it would be one more for each level of nesting.
+    #[inline(never)]
     #[cycle(iterate_node_second)]
     fn second(
         &self,
@@ -88,7 +88,9 @@ impl<'a> Valuation<'a> {
         next
     }
 
-    // A fixpoint whose body stands at a place: from one value at all states on, until a round changes nothing or no round is left.
+    // A fixpoint whose body stands at a place: from one value at all states on, until a round changes nothing or no round is left. Not inlined, as
+    // `second`.
+    #[inline(never)]
     #[cycle(iterate_node_second)]
     fn iterate(
         &self,
