@@ -34,7 +34,7 @@ impl<'a> Valuation<'a> {
         out: &mut [u64; 64],
     ) -> usize
         requires { SomeFormulaAt self.now.formula.now at (get_or self.now.successors.model.bytes.now 1 0) }
-        ensures { Node self.now.successors.codes.now.words self.now.successors.lattice self.now.successors.model.bytes.now self.now.formula.now at
+        ensures { let s = self.now.successors in Node s.codes.now.words s.lattice s.model.bytes.now self.now.formula.now at
             scope.now.near.now scope.now.mid.now scope.now.far.now out.new result }
     {
         let s = &self.successors;
@@ -78,7 +78,7 @@ impl<'a> Valuation<'a> {
         out: &mut [u64; 64],
     ) -> usize
         requires { SomeFormulaAt self.now.formula.now at (get_or self.now.successors.model.bytes.now 1 0) }
-        ensures { Both self.now.successors.codes.now.words self.now.successors.lattice self.now.successors.model.bytes.now self.now.formula.now at or
+        ensures { let s = self.now.successors in Both s.codes.now.words s.lattice s.model.bytes.now self.now.formula.now at or
             scope.now.near.now scope.now.mid.now scope.now.far.now out.old out.new result }
     {
         let mut y = [0u64; 64];
@@ -101,7 +101,7 @@ impl<'a> Valuation<'a> {
         out: &mut [u64; 64],
     ) -> usize
         requires { SomeFormulaAt self.now.formula.now body (get_or self.now.successors.model.bytes.now 1 0) }
-        ensures { Iterated self.now.successors.codes.now.words self.now.successors.lattice self.now.successors.model.bytes.now self.now.formula.now body
+        ensures { let s = self.now.successors in Iterated s.codes.now.words s.lattice s.model.bytes.now self.now.formula.now body
             scope.now.near.now scope.now.mid.now start out.new result }
     {
         let n = self.successors.model.states();
