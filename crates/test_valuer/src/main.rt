@@ -4,84 +4,65 @@
 #![tactic(auto)]
 
 ghost use Rattle.std.specs.Prelude.{◌≡◌, get_or};
-ghost use Rattle.elements.specs.Words.{Coded};
 ghost use Rattle.valuer.specs.Values.{ModelOver, Reads};
 
-use elements::{Codes, Lattice};
-use lattice::LatticeCheck;
-use model::{ModelCheck, State};
+use elements::{Algebra, Codes};
+use model::{Model, State};
 use std::io;
 
 fn show_set(rt: &impl Print, x: u8) -> io::Result<()> {
-    rt.write_all(b" {")?;
-    if x % 2 == 1 {
-        rt.write_all(b"a")?;
+    print!(rt; " {{")?;
+    for (i, name) in ["a", "b", "c"].iter().enumerate() {
+        if x & (1 << i) != 0 {
+            print!(rt; "{name}")?;
+        }
     }
-    if x / 2 % 2 == 1 {
-        rt.write_all(b"b")?;
-    }
-    if x / 4 % 2 == 1 {
-        rt.write_all(b"c")?;
-    }
-    rt.write_all(b"}")
+    print!(rt; "}}")
 }
 
 // A formula's values at all states, and on the whole model.
-fn show(rt: &impl Print, name: &[u8], w: &Codes, l: Lattice, m: &[u8], f: &[u8]) -> io::Result<()>
-    requires { ModelOver w.now l m.now × Reads m.now f.now }
+fn show(rt: &impl Print, name: &str, a: &Algebra, m: &Model, f: &[u8]) -> io::Result<()>
+    requires { ModelOver a.now.codes.now.words a.now.lattice m.now.bytes.now × Reads m.now.bytes.now f.now }
 {
-    rt.write_all(name)?;
-    let n = model::states(m);
-    for q in 0..n {
-        show_set(rt, valuer::value(w, l, m, f, State(q as u8)).0)?;
+    print!(rt; "{name}")?;
+    for q in 0..m.states() {
+        show_set(rt, valuer::value(a, m, f, State(q as u8)).0)?;
     }
-    rt.write_all(b" whole")?;
-    show_set(rt, valuer::whole(w, l, m, f).0)?;
-    rt.write_all(b"\n")
+    print!(rt; " whole")?;
+    show_set(rt, valuer::whole(a, m, f).0)?;
+    println!(rt; "")
 }
 
-fn show_all(rt: &impl Print, w: &Codes, l: Lattice, m: &[u8]) -> io::Result<()>
-    requires { ModelOver w.now l m.now × (get_or m.now 1 0 ≡ 1) }
+fn show_all(rt: &impl Print, a: &Algebra, m: &Model) -> io::Result<()>
+    requires { ModelOver a.now.codes.now.words a.now.lattice m.now.bytes.now × (get_or m.now.bytes.now 1 0 ≡ 1) }
 {
-    show(rt, b"p", w, l, m, b"\x02\x00")?;
-    show(rt, b"not p", w, l, m, b"\x03\x00")?;
-    show(rt, b"AX p", w, l, m, b"\x07\x02\x00")?;
-    show(rt, b"EX p", w, l, m, b"\x08\x02\x00")?;
+    show(rt, "p", a, m, b"\x02\x00")?;
+    show(rt, "not p", a, m, b"\x03\x00")?;
+    show(rt, "AX p", a, m, b"\x07\x02\x00")?;
+    show(rt, "EX p", a, m, b"\x08\x02\x00")?;
     show(
         rt,
-        b"nu z. p and AX z",
-        w,
-        l,
+        "nu z. p and AX z",
+        a,
         m,
         b"\x0a\x06\x02\x00\x07\x04\x00",
     )?;
+    show(rt, "mu z. p or EX z", a, m, b"\x09\x05\x02\x00\x08\x04\x00")?;
     show(
         rt,
-        b"mu z. p or EX z",
-        w,
-        l,
-        m,
-        b"\x09\x05\x02\x00\x08\x04\x00",
-    )?;
-    show(
-        rt,
-        b"nu y. mu z. (p and AX y) or AX z",
-        w,
-        l,
+        "nu y. mu z. (p and AX y) or AX z",
+        a,
         m,
         b"\x0a\x09\x05\x06\x02\x00\x07\x04\x01\x07\x04\x00",
     )
 }
 
 // The model, over the lattice.
-fn work(rt: &impl Print, w: &Codes, l: Lattice) -> io::Result<()>
-    requires { Coded w.now l }
-{
-    let m = [3u8, 1, 7, 0, 0, 3, 2, 6, 0, 6, 6, 0, 7, 0, 0, 7, 0];
-    let answer = model::check(&m, l.size);
-    match answer {
-        ModelCheck::Refused => rt.write_all(b"refused\n"),
-        ModelCheck::Accepted(_, _) => show_all(rt, w, l, &m),
+fn work(rt: &impl Print, a: &Algebra) -> io::Result<()> {
+    let bytes = [3u8, 1, 7, 0, 0, 3, 2, 6, 0, 6, 6, 0, 7, 0, 0, 7, 0];
+    match model::check(&bytes, a.lattice.size) {
+        Some(_) => show_all(rt, a, &Model { bytes: &bytes }),
+        None => println!(rt; "refused"),
     }
 }
 
@@ -92,10 +73,15 @@ fn main(rt: HostRuntime) -> io::Result<()> {
           \x00\x00\x01\x01\x00\x00\x01\x01\x00\x00\x00\x01\x00\x00\x00\x01\
           \x00\x00\x00\x00\x01\x01\x01\x01\x00\x00\x00\x00\x00\x01\x00\x01\
           \x00\x00\x00\x00\x00\x00\x01\x01\x00\x00\x00\x00\x00\x00\x00\x01";
-    let mut w = [0u64; 128];
-    let answer = lattice::check(part, &mut w);
-    match answer {
-        LatticeCheck::Refused(_) => rt.write_all(b"refused\n"),
-        LatticeCheck::Accepted(l) => work(&rt, &w, l),
+    let mut codes = Codes::new();
+    match lattice::check(part, &mut codes) {
+        Ok(lattice) => work(
+            &rt,
+            &Algebra {
+                codes: &codes,
+                lattice,
+            },
+        ),
+        Err(_) => println!(rt; "refused"),
     }
 }

@@ -34,7 +34,7 @@ impl<'a> Valuation<'a> {
         out: &mut [u64; 64],
     ) -> usize
         requires { SomeFormulaAt self.now.formula.now at (get_or self.now.successors.model.bytes.now 1 0) }
-        ensures { Node self.now.successors.codes.now.words self.now.successors.lattice self.now.successors.model.bytes.now self.now.formula.now at
+        ensures { let s = self.now.successors in Node s.codes.now.words s.lattice s.model.bytes.now self.now.formula.now at
             scope.now.near.now scope.now.mid.now scope.now.far.now out.new result }
     {
         let s = &self.successors;
@@ -66,8 +66,8 @@ impl<'a> Valuation<'a> {
     }
 
     // The second formula of or or and, at place `at`: its map is combined with that of the first, which is in `out`. The array that this takes
-    // stands here, so that other nodes have none: with the copy of a map beside it, it is more than the compiler moves into a function that
-    // calls itself. In the frame of `node` it would be one more for each level of nesting.
+    // stands here and is not inlined, so that other nodes have none: in the frame of `node` it would be one more for each level of nesting.
+    #[inline(never)]
     #[cycle(iterate_node_second)]
     fn second(
         &self,
@@ -78,7 +78,7 @@ impl<'a> Valuation<'a> {
         out: &mut [u64; 64],
     ) -> usize
         requires { SomeFormulaAt self.now.formula.now at (get_or self.now.successors.model.bytes.now 1 0) }
-        ensures { Both self.now.successors.codes.now.words self.now.successors.lattice self.now.successors.model.bytes.now self.now.formula.now at or
+        ensures { let s = self.now.successors in Both s.codes.now.words s.lattice s.model.bytes.now self.now.formula.now at or
             scope.now.near.now scope.now.mid.now scope.now.far.now out.old out.new result }
     {
         let mut y = [0u64; 64];
@@ -88,7 +88,9 @@ impl<'a> Valuation<'a> {
         next
     }
 
-    // A fixpoint whose body stands at a place: from one value at all states on, until a round changes nothing or no round is left.
+    // A fixpoint whose body stands at a place: from one value at all states on, until a round changes nothing or no round is left. Not inlined, as
+    // `second`.
+    #[inline(never)]
     #[cycle(iterate_node_second)]
     fn iterate(
         &self,
@@ -99,7 +101,7 @@ impl<'a> Valuation<'a> {
         out: &mut [u64; 64],
     ) -> usize
         requires { SomeFormulaAt self.now.formula.now body (get_or self.now.successors.model.bytes.now 1 0) }
-        ensures { Iterated self.now.successors.codes.now.words self.now.successors.lattice self.now.successors.model.bytes.now self.now.formula.now body
+        ensures { let s = self.now.successors in Iterated s.codes.now.words s.lattice s.model.bytes.now self.now.formula.now body
             scope.now.near.now scope.now.mid.now start out.new result }
     {
         let n = self.successors.model.states();

@@ -5,13 +5,11 @@
 
 mod successors;
 
-ghost use Rattle.std.specs.Prelude.{◌≡◌, ℕ, ◌*◌, ◌≤◌, ◌<◌, eqb, length, get_or, replicate};
+ghost use Rattle.std.specs.Prelude.{◌≡◌, ℕ, ◌*◌, ◌≤◌, ◌<◌, eqb, length, get_or};
 ghost use Rattle.std.specs.Int.Bits.{bit_and, bit_or};
-ghost use Rattle.theory.specs.Part.{ModelShape};
 ghost use Rattle.theory.specs.Test.{all_below};
 ghost use Rattle.elements.specs.Words.{code_in, negated_code_in};
-ghost use Rattle.valuer_maps.specs.Successors.{leads_to, RowListed, SuccessorsOf};
-ghost use Rattle.valuer_maps.specs.Code.{map_words, join_or_meet_code, start_code, slot_of, first_code, step_code, next_code, Literals, Combined, NextMap};
+ghost use Rattle.valuer_maps.specs.Code.{map_words, start_code, slot_of, Literals, Combined};
 
 use elements::{Codes, Element, Lattice};
 use model::{Model, Proposition, State};
@@ -62,8 +60,11 @@ pub fn literals(w: &Codes, m: &Model, negated: bool, p: Proposition, out: &mut [
     requires { (p.0 < get_or m.now.bytes.now 1 0) × (length out.old ≡ map_words) }
     ensures { Literals w.now.words m.now.bytes.now negated p.0 out.new }
 {
-    let label = |q: usize| m.label(State(q as u8), p);
-    write_first(m.states(), |q| w.value_code(negated, label(q)), out)
+    write_first(
+        m.states(),
+        |q| w.value_code(negated, m.label(State(q as u8), p)),
+        out,
+    )
 }
 
 // The joins (up) or the meets of two maps.

@@ -1,6 +1,6 @@
 // The successors of each state, listed once for a formula: AX and EX go along them alone, since a transition that is bottom takes nothing
 // from a meet and adds nothing to a join.
-ghost use Rattle.std.specs.Prelude.{◌≡◌, ℕ, ◌*◌, ◌<◌, length, get_or};
+ghost use Rattle.std.specs.Prelude.{◌≡◌, ◌*◌, ◌<◌, length, get_or};
 ghost use Rattle.elements.specs.Words.{code_in};
 ghost use Rattle.valuer_maps.specs.Code.{map_words, all_next_code, some_next_code, NextMap};
 ghost use Rattle.valuer_maps.specs.Successors.{list_bytes, leads, leads_to, RowListed, RowOf, SuccessorsOf};
@@ -15,7 +15,7 @@ pub struct Successors<'a> {
     pub codes: &'a Codes,
     pub lattice: Lattice,
     pub model: Model<'a>,
-    // Row q has 65 bytes: how many successors q has, then their numbers in order.
+    // Row q has 65 bytes: how many successors q has, then their numbers in order. (The rows are of fixed size, since a call allocates nothing.)
     pub rows: &'a [u8; 4160],
     pub ghost listed: { SuccessorsOf codes.now.words lattice model.bytes.now rows.now },
 }
@@ -24,8 +24,8 @@ impl<'a> Successors<'a> {
     // The numbers of the successors of q.
     fn of(&self, q: State) -> &'a [u8]
         requires { q.0 < get_or self.now.model.bytes.now 0 0 }
-        ensures { RowOf (leads_to self.now.codes.now.words (code_in self.now.codes.now.words self.now.lattice.top.0) self.now.model.bytes.now q.0) (get_or self.now.model.bytes.now 0 0)
-            result.now }
+        ensures { let w = self.now.codes.now.words in let m = self.now.model.bytes.now in
+            RowOf (leads_to w (code_in w self.now.lattice.top.0) m q.0) (get_or m 0 0) result.now }
     {
         let rows = self.rows;
         let at = usize::from(q.0) * 65;
