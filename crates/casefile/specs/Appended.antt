@@ -1,14 +1,14 @@
 -- Bytes that are written one after the other into a buffer: what stands so far, and what is still to come. Rests on Gapless and Steps.
 --   Appended: the first bytes of a buffer are written, and with the rest they are a whole; its laws are appended_start, -length,
 --     -byte, -part, -done, -last, -u16
---   copied: a copy byte by byte
-use Rattle.std.specs.Prelude.{ℕ, suc, ◌+◌, ◌/◌, ◌%◌, ◌≤◌, ◌<◌, ◌≡◌, refl, List, [], ◌∷◌, ◌++◌, length, get_or, take, drop, set}
+--   copied, pair_put: a copy byte by byte, and a pair by two u16 numbers
+use Rattle.std.specs.Prelude.{ℕ, suc, ◌+◌, ◌*◌, ◌/◌, ◌%◌, ◌≤◌, ◌<◌, ◌≡◌, refl, List, [], ◌∷◌, ◌++◌, length, get_or, take, drop, set}
 use Rattle.std.proofs.Common.{sym, subst, ap, ap₂, ◌∙◌, append_assoc, append-nil, add-one, arith, length-append, length-drop, take-append-drop, length-take-le, take_at, drop-cons, drop-drop}
 use Rattle.std.proofs.Math.Seq.{take-length, drop-append-add, paste}
 use Rattle.std.proofs.lemmas.List.{set_at}
 use Rattle.theory.specs.Lists.{written}
 use Rattle.casefile.specs.Gapless.{u16_then}
-use Rattle.casefile.specs.Steps.{with_u16}
+use Rattle.casefile.specs.Steps.{with_u16, with_pair}
 
 -- d was the buffer at first, out is it now. The first `at` bytes are written; with `rest` after them they are `whole`
 pub record Appended (d out : List ℕ) (at : ℕ) (rest whole : List ℕ) : Type 0 where
@@ -62,6 +62,10 @@ appended_last {d} {out} {whole} {at} p w = appended_done (appended_part p (subst
 -- a copy, byte by byte, that has come to its end
 pub copied : (d : List ℕ) (at : ℕ) (s : List ℕ) (j : ℕ) → j ≤ length s → length s ≤ j → paste d at s j ≡ written at s d
 copied d at s j l m = let e : j ≡ length s = omega arith in rw (e, take-length s) refl
+
+-- a pair is written by two u16 numbers
+pub pair_put : (d e f : List ℕ) (i u v start size : ℕ) → u ≡ i → v ≡ i → e ≡ with_u16 d (1 + 4 * u) start → f ≡ with_u16 e (3 + 4 * v) size → f ≡ with_pair d i start size
+pair_put d e f i u v start size p q x y = y ∙ rw (x, p, q) refl
 
 -- a u16 number is written by two stores
 pub appended_u16 : {d out rest whole : List ℕ} {at : ℕ} (x : ℕ) → Appended d out at (u16_then x rest) whole → at + 2 ≤ length d → Appended d (with_u16 out at x) (at + 2) rest whole

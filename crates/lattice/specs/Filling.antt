@@ -65,6 +65,18 @@ antitone_pair w a b = within (get_or w a 0) (get_or w b 0) ⇒ within (get_or w 
 unfoldable pub antitone : ℕ → List ℕ → Bool
 antitone n w = all2 n (antitone_pair w)
 
+pub antitone_skip : (w : List ℕ) (a b : ℕ) → within (get_or w a 0) (get_or w b 0) ≡ false → true ≡ antitone_pair w a b
+unfolding antitone_pair
+antitone_skip w a b h = rw h
+
+pub antitone-test : (w : List ℕ) (a b : ℕ) → within (get_or w a 0) (get_or w b 0) ≡ true → within (get_or w (64 + b) 0) (get_or w (64 + a) 0) ≡ antitone_pair w a b
+unfolding antitone_pair
+antitone-test w a b h = rw h
+
+-- the same for an equal number of elements
+pub antitone-size : {n m : ℕ} (w : List ℕ) {t : Bool} → n ≡ m → antitone n w ≡ t → antitone m w ≡ t
+antitone-size w e h = rw e at h
+
 -- ---- a distributive lattice with its codes
 
 pub record LatticeWords (P : LatticePart) (codes : List ℕ) (mask : ℕ) : Type 0 where

@@ -5,9 +5,10 @@
 --   ordered: the order is that of words; closed: each & or each | of two words is a word; pair_ordered, pair_closed: the same of two elements
 --   irreducible, irreducibles, code_of: the elements that are no joins, their word, and the code of an element
 --   lattice_test: what an accepted part passes; meets_and_joins_test: refusal 6 does not apply
-use Rattle.std.specs.Prelude.{ℕ, ◌-◌, ◌^◌, ◌<◌, ◌≡◌, Bool, cond, ◌&&◌, List, ltb, eqb, get_or, Option, Some, None, is_some}
+use Rattle.std.specs.Prelude.{ℕ, ◌-◌, ◌^◌, ◌<◌, ◌≡◌, refl, Bool, cond, not, ◌&&◌, List, ltb, eqb, get_or, Option, Some, None, is_some}
 use Rattle.std.proofs.Math.Path.{sym, ap}
-use Rattle.std.proofs.Common.{◌∙◌, arith}
+use Rattle.std.proofs.Common.{ap₂, ◌∙◌, arith}
+use Rattle.std.specs.Bool.{beq}
 use Rattle.std.proofs.Math.Bool.{true, false}
 use borrow.Author.Tests.{ltb-true, lt-ltb, eq-eqb, ne_eqb}
 use Rattle.std.specs.Int.Bits.{bit_and, bit_or}
@@ -76,6 +77,36 @@ ordered_by x y z a b = same (within (2 ^ b) x) (within z y) && (eqb y z ⇒ eqb 
 unfoldable pub pair_ordered : (ℕ → ℕ) → (ℕ → ℕ) → ℕ → ℕ → Bool
 pair_ordered f g a b = ordered_by (f a) (g a) (g b) a b
 
+-- as the code compares them
+unlike : (p q : Bool) → not (beq p q) ≡ true → same p q ≡ false
+unlike true true h = sym h
+unlike true false h = refl
+unlike false true h = refl
+unlike false false h = sym h
+
+alike : (p q : Bool) → not (beq p q) ≡ false → same p q ≡ true
+alike true true h = refl
+alike true false h = sym h
+alike false true h = sym h
+alike false false h = refl
+
+-- the test of a pair, case by case, k being the bit
+module _ (x y z a b k : ℕ) (e : k ≡ 2 ^ b) where
+  by_bit : same (within (2 ^ b) x) (within z y) ≡ same (within k x) (within z y)
+  by_bit = ap (λ (j : ℕ). same (within j x) (within z y)) (sym e)
+
+  pub pair_unlike : not (beq (within k x) (within z y)) ≡ true → false ≡ ordered_by x y z a b
+  unfolding ordered_by
+  pair_unlike h = rw (by_bit ∙ unlike (within k x) (within z y) h)
+
+  pub pair_same : not (beq (within k x) (within z y)) ≡ false → y ≡ z → eqb a b ≡ ordered_by x y z a b
+  unfolding ordered_by
+  pair_same h g = rw (by_bit ∙ alike (within k x) (within z y) h, eq-eqb y z g)
+
+  pub pair_apart : not (beq (within k x) (within z y)) ≡ false → (y ≡ z → ⊥) → true ≡ ordered_by x y z a b
+  unfolding ordered_by
+  pair_apart h g = rw (by_bit ∙ alike (within k x) (within z y) h, ne_eqb y z g)
+
 unfoldable pub ordered : ℕ → (ℕ → ℕ) → (ℕ → ℕ) → Bool
 ordered n f g = all2 n (pair_ordered f g)
 
@@ -111,6 +142,14 @@ both joins x y = cond joins (bit_or x y) (bit_and x y)
 -- for every a that has its bit in the mask, and every b, the & or the | of the two words is one of the words
 unfoldable pub pair_closed : ℕ → (ℕ → ℕ) → ℕ → Bool → ℕ → ℕ → Bool
 pair_closed n f mask joins a b = within (2 ^ a) mask ⇒ is_word n f (both joins (f a) (f b))
+
+-- the test of a pair, case by case
+module _ (w : List ℕ) (n : ℕ) (joins : Bool) (a b : ℕ) where
+  pub both_found : (z : ℕ) (r : Option ℕ) → z ≡ both joins (get_or w a 0) (get_or w b 0) → FoundAt w n z r → is_some r ≡ is_word n (words_in w) (both joins (get_or w a 0) (get_or w b 0))
+  both_found z r d f = sym f.word ∙ ap (is_word n (words_in w)) d
+
+  pub both-here : (z c : ℕ) → z ≡ both joins (get_or w a 0) (get_or w b 0) → c < n → z ≡ get_or w c 0 → true ≡ is_word n (words_in w) (both joins (get_or w a 0) (get_or w b 0))
+  both-here z c d l f = both_found z (Some c) d (found_here w n z c l (sym f))
 
 -- the tests of a row: k is the bit of a
 module _ (f : ℕ → ℕ) (n mask : ℕ) (joins : Bool) (a k : ℕ) (e : k ≡ 2 ^ a) where
@@ -154,3 +193,7 @@ lattice_test P =
 -- where it fails: a partial order, and in it all meets and a top
 abbrev pub meets_and_joins_test : LatticePart → Bool
 meets_and_joins_test P = closed P.size (down_of P) (all_of P.size) false && is_word P.size (down_of P) (all_of P.size)
+
+-- the test of an irreducible element, x being its word without its bit
+pub irreducible_found : (w : List ℕ) (n a k x y : ℕ) {r : Option ℕ} → x ≡ get_or w a 0 → k ≡ 2 ^ a → y ≡ x - k → FoundAt w n y r → is_some r ≡ irreducible n (words_in w) a
+irreducible_found w n a k x y d e g f = sym f.word ∙ ap (is_word n (words_in w)) (g ∙ ap₂ ◌-◌ d e)
