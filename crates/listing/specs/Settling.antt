@@ -22,7 +22,8 @@ use Rattle.entries.specs.Table.{table_of, Shaped}
 use Rattle.rounds.specs.Round.{F_reads, top_round, RoundSoFar, RoundDone, round_done}
 use Rattle.listing.specs.Text.{table_text}
 use Rattle.listing.specs.Entries.{table_cong}
-use Rattle.listing.specs.Writing.{Wrote}
+use Rattle.listing.specs.declared.writing.Text.{Text}
+use Rattle.listing.specs.Lines.{Puts}
 
 -- two model parts with a lattice, a table s for their states that holds round 0, and room in another
 pub record Startable (w : List ℕ) (l : Lattice) (m₁ m₂ s other : List ℕ) : Type 0 where
@@ -121,7 +122,7 @@ settled_text {O} {M₁} {M₂} {s} {r} h T f =
 abbrev pub text_of_table : List ℕ → Lattice → List ℕ → List ℕ → ℕ → List ℕ → List ℕ
 text_of_table w l m₁ m₂ r table = table_text (ops_in w l) (model_of m₁) (model_of m₂) r (table_of table (get_or m₂ 0 0))
 
--- for T, the first round that equals the one before, the text of round T is written at place 0: d before, e after, n the place after it
-abbrev pub WroteSettled : List ℕ → Lattice → List ℕ → List ℕ → List ℕ → List ℕ → ℕ → Type 0
-WroteSettled w l m₁ m₂ d e n =
-    (T : ℕ) → FirstUnchanged (ops_in w l) (model_of m₁) (model_of m₂) T → Wrote d 0 (table_text (ops_in w l) (model_of m₁) (model_of m₂) T (round (ops_in w l) (model_of m₁) (model_of m₂) T)) e n
+-- for T, the first round that equals the one before, the text of round T is put into the text t, which became u
+abbrev pub WroteSettled : List ℕ → Lattice → List ℕ → List ℕ → Text → Text → Type 0
+WroteSettled w l m₁ m₂ t u =
+    (T : ℕ) → FirstUnchanged (ops_in w l) (model_of m₁) (model_of m₂) T → Puts t (table_text (ops_in w l) (model_of m₁) (model_of m₂) T (round (ops_in w l) (model_of m₁) (model_of m₂) T)) u

@@ -5,9 +5,9 @@ ghost use Rattle.elements.specs.Words.{ops_in, Coded};
 ghost use Rattle.entries.specs.Table.{Shaped};
 ghost use Rattle.listing.specs.Settling.{Startable, SettledAt, text_of_table, WroteSettled};
 ghost use Rattle.listing.specs.Accepting.{Settleable};
-ghost use Rattle.listing.specs.Writing.{Wrote};
+ghost use Rattle.listing.specs.Lines.{Room, Puts};
 
-use crate::writing::{put_last, put_rows};
+use crate::writing::Text;
 use elements::{Codes, Lattice};
 
 // Works rounds up to the first that equals the one before, and gives its number T. The first table, which holds round 0, comes to hold
@@ -29,37 +29,28 @@ fn settle(w: &Codes, l: Lattice, m1: &[u8], m2: &[u8], first: &mut [u8], second:
 }
 
 // The number of the last round, the lines of its table, and its score.
-fn put_table(
-    w: &Codes,
-    l: Lattice,
-    m1: &[u8],
-    m2: &[u8],
-    table: &[u8],
-    r: usize,
-    text: &mut [u8],
-) -> usize
+#[tactic(auto, unfolding(crate::specs::Text::table_text))]
+fn put_table(w: &Codes, l: Lattice, m1: &[u8], m2: &[u8], table: &[u8], r: usize, text: &mut Text)
     requires { Coded w.now l × Shaped m1.now m2.now table.now
-        × (0 + length (text_of_table w.now l m1.now m2.now r table.now) ≤ length text.old) }
-    ensures { Wrote text.old 0
-        (text_of_table w.now l m1.now m2.now r table.now) text.new result }
+        × Room text.old (text_of_table w.now l m1.now m2.now r table.now) }
+    ensures { Puts text.old (text_of_table w.now l m1.now m2.now r table.now) text.new }
 {
     let n1 = model::states(m1);
     let n2 = model::states(m2);
-    let e = rounds::score(w, l, m1, m2, table);
-    let score = elements::index(e.0);
-    let rows = put_last(b"rounds ", r, text, 0);
-    let end = put_rows(table, n1, n2, text, rows);
-    put_last(b"score ", score, text, end)
+    let score = rounds::score(w, l, m1, m2, table);
+    text.put_last(b"rounds ", r);
+    text.put_rows(table, n1, n2);
+    text.put_last(b"score ", usize::from(score.0));
 }
 
 // Works the rounds, and writes the lines of the settled table.
-pub fn put_settled(w: &Codes, l: Lattice, m1: &[u8], m2: &[u8], text: &mut [u8]) -> usize
+pub fn put_settled(w: &Codes, l: Lattice, m1: &[u8], m2: &[u8], text: &mut Text)
     requires { Settleable w.now l m1.now m2.now text.old }
-    ensures { WroteSettled w.now l m1.now m2.now text.old text.new result }
+    ensures { WroteSettled w.now l m1.now m2.now text.old text.new }
 {
     let top = l.top.0;
     let mut first = [top; 4096];
     let mut second = [top; 4096];
     let r = settle(w, l, m1, m2, &mut first, &mut second);
-    put_table(w, l, m1, m2, &first, r, text)
+    put_table(w, l, m1, m2, &first, r, text);
 }

@@ -2,7 +2,6 @@
 use native.Mathlib.Omega.{arith}
 use Rattle.model.specs.Places.{prod_le}
 use Rattle.listing.specs.Settling.{tops_start, settled_text}
-use borrow.Author.Rules.{rules}
 use Rattle.listing.proofs.settling.put_settled.Goals as goal
 
 pub settle-r-requires : goal.settle-r-requires

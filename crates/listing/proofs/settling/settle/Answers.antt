@@ -1,14 +1,9 @@
 -- `listing::settle` meets its contract: the first table holds round r, and every round up to r differs from the one before.
-use Prim.Native.Nat.{◌-◌, ◌≤◌}
 use Prim.Native.Nat.{◌+◌}
 use mathlib.Core.Path.{◌≡◌, refl, ◌∙◌}
-use borrow.Author.Tests.{not-true, not-false}
 use Rattle.model.specs.Places.{prod_le}
 use native.Mathlib.Omega.{arith}
-use lib.ListN.{length}
-use Rattle.theory.specs.Part.{model_of}
-use Rattle.elements.specs.Words.{ops_in}
-use Rattle.listing.specs.Settling.{AtRound, at_start, rounds-few, next-round, settled-done, settled-read}
+use Rattle.listing.specs.Settling.{at_start, rounds-few, next-round, settled-done, settled-read}
 use Rattle.listing.proofs.settling.settle.Goals as goal
 
 pub loop-l-init : goal.loop-l-init

@@ -1,13 +1,9 @@
-use Prim.Native.Nat.{◌-◌, ◌≤◌}
-use Prim.Native.Nat.{◌+◌}
-use mathlib.Core.Path.{◌≡◌, refl, ◌∙◌}
-use borrow.Author.Tests.{not-true, not-false}
-use Rattle.model.specs.Places.{prod_le}
-use native.Mathlib.Omega.{arith}
+use Prim.Native.Nat.{◌-◌}
+use mathlib.Core.Path.{◌≡◌}
 use lib.ListN.{length}
 use Rattle.theory.specs.Part.{model_of}
 use Rattle.elements.specs.Words.{ops_in}
-use Rattle.listing.specs.Settling.{AtRound, at_start, rounds-few, next-round, settled-done, settled-read}
+use Rattle.listing.specs.Settling.{AtRound}
 use Rattle.listing.proofs.settling.settle.Given as goal
 
 abbrev pub invariant-loop-l : goal.invariant-loop-l
