@@ -1,13 +1,12 @@
 -- What is written into a text: room for bytes, and bytes that are put at its place. Rests on Writing and Decimal.
---   Room, Puts: the terms of the code's contracts; row_entries, row_line: the entries and the line of a row that is held by itself
+--   Room, Puts: the terms of the code's contracts; row_entries, row_line, table_rows: the entries and the line of a row, and the lines of a table
 --   puts_then, room_then: two writings, one after the other; puts_few, puts_more, room_tenth, room_few, room_last: a number's digits
 --   loop_start, loop_room, loop_turn, loop_done: a loop that writes f 0, f 1, ..
-use Rattle.std.specs.Prelude.{ℕ, ◌+◌, ◌*◌, ◌-◌, ◌/◌, ◌%◌, ◌≤◌, ◌<◌, ◌≡◌, refl, List, [], ◌∷◌, ◌++◌, length, get_or, take, drop}
-use Rattle.std.proofs.Common.{ap, sym, ◌∙◌, arith, length-append, length-take-le, length-drop, get_or-take, get_or-drop}
+use Rattle.std.specs.Prelude.{ℕ, ◌+◌, ◌*◌, ◌/◌, ◌%◌, ◌≤◌, ◌<◌, ◌≡◌, refl, List, [], ◌∷◌, ◌++◌, length, get_or, take, drop}
+use Rattle.std.proofs.Common.{ap, sym, ◌∙◌, arith, length-append, get_or-take, get_or-drop}
 use Rattle.listing.specs.declared.writing.Text.{Text}
-use Rattle.model.specs.Places.{row_le}
 use Rattle.entries.specs.Table.{table_of}
-use Rattle.listing.specs.Text.{decimal, blank, item, each, entries_text, heading, row_label, line_end, row_text}
+use Rattle.listing.specs.Text.{decimal, blank, item, each, entries_text, heading, row_label, line_end, row_text, rows_text}
 use Rattle.listing.specs.Decimal.{decimal-few, decimal_more}
 use Rattle.listing.specs.Writing.{Wrote, wrote_then, wrote_length, fits_then, each-starts, each-room, each_none, each_more, each_cong}
 
@@ -88,19 +87,14 @@ row_entries row = entries_text (λ q. get_or row q 0) (length row)
 abbrev pub row_line : ℕ → List ℕ → List ℕ
 row_line q₁ row = heading row_label q₁ ++ row_entries row ++ line_end
 
--- row q₁ of a table of n₂ entries a row, cut out of it
-module _ (table : List ℕ) (n₁ n₂ q₁ : ℕ) (l : q₁ < n₁) (held : n₁ * n₂ ≤ length table) where
-  abbrev pub cut : List ℕ
-  cut = take (q₁ * n₂ + n₂ - q₁ * n₂) (drop (q₁ * n₂) table)
+-- the lines of all rows of a table with the bytes s, for the states of the model parts m₁ and m₂
+abbrev pub table_rows : List ℕ → List ℕ → List ℕ → List ℕ
+table_rows m₁ m₂ s = rows_text (table_of s (get_or m₂ 0 0)) (get_or m₁ 0 0) (get_or m₂ 0 0)
 
-  cut-length : length cut ≡ n₂
-  cut-length = omega (arith, length-take-le (q₁ * n₂ + n₂ - q₁ * n₂) (drop (q₁ * n₂) table) (omega (arith, length-drop (q₁ * n₂) table, row_le q₁ n₁ n₂ l)))
-
-  cut-at : (q : ℕ) → q < n₂ → get_or cut q 0 ≡ get_or table (q₁ * n₂ + q) 0
-  cut-at q l = get_or-take (q₁ * n₂ + n₂ - q₁ * n₂) (drop (q₁ * n₂) table) q 0 (omega arith) ∙ get_or-drop (q₁ * n₂) table q 0
-
-  pub cut_line : row_line q₁ cut ≡ row_text (table_of table n₂) n₂ q₁
-  unfolding row_text
-  cut_line =
-      ap (λ (s : List ℕ). heading row_label q₁ ++ s ++ line_end)
-      (ap (λ (n : ℕ). each n (λ q. item blank (get_or cut q 0))) cut-length ∙ each_cong n₂ _ _ (λ q l. ap (item blank) (cut-at q l)))
+-- row q₁ of a table of n₂ entries a row, held by itself
+pub row_is : (table : List ℕ) (n₂ q₁ : ℕ) (row : List ℕ) → row ≡ take n₂ (drop (q₁ * n₂) table) → length row ≡ n₂ → row_line q₁ row ≡ row_text (table_of table n₂) n₂ q₁
+unfolding row_text
+row_is table n₂ q₁ row e l =
+    let entry : (q : ℕ) → q < n₂ → get_or row q 0 ≡ get_or table (q₁ * n₂ + q) 0 = λ q h. ap (λ (s : List ℕ). get_or s q 0) e ∙ get_or-take n₂ (drop (q₁ * n₂) table) q 0 h ∙ get_or-drop (q₁ * n₂) table q 0 in
+    ap (λ (s : List ℕ). heading row_label q₁ ++ s ++ line_end)
+    (ap (λ (n : ℕ). each n (λ q. item blank (get_or row q 0))) l ∙ each_cong n₂ _ _ (λ q h. ap (item blank) (entry q h)))

@@ -16,19 +16,18 @@ use Rattle.theory.proofs.Rounds.{F_mono, F_element, exists-T, T_unique}
 use Rattle.theory.proofs.Sharp.{T_sharp}
 use Rattle.theory.specs.TestLaws.{false_true}
 use Rattle.elements.specs.declared.Lattice.{Lattice}
-use Rattle.elements.specs.Words.{ops_in, Coded}
+use Rattle.elements.specs.Words.{ops_in}
 use Rattle.model.specs.Places.{prod_le}
-use Rattle.entries.specs.Table.{table_of, Shaped}
+use Rattle.entries.specs.Table.{table_of}
 use Rattle.rounds.specs.Round.{F_reads, top_round, RoundSoFar, RoundDone, round_done}
 use Rattle.listing.specs.Text.{table_text}
 use Rattle.listing.specs.Entries.{table_cong}
 use Rattle.listing.specs.declared.writing.Text.{Text}
 use Rattle.listing.specs.Lines.{Puts}
 
--- two model parts with a lattice, a table s for their states that holds round 0, and room in another
+-- a table s for the states of two model parts, which holds round 0 over a lattice, and room in another
 pub record Startable (w : List ℕ) (l : Lattice) (m₁ m₂ s other : List ℕ) : Type 0 where
-  pub coded : Coded w l
-  pub shaped : Shaped m₁ m₂ s
+  pub held : get_or m₁ 0 0 * get_or m₂ 0 0 ≤ length s
   pub room : get_or m₁ 0 0 * get_or m₂ 0 0 ≤ length other
   pub laws : Laws (ops_in w l)
   pub start : SameTable (ops_in w l) (model_of m₁) (model_of m₂) (table_of s (get_or m₂ 0 0)) (round (ops_in w l) (model_of m₁) (model_of m₂) 0)
@@ -98,17 +97,11 @@ module _ {O : Ops ℕ} {M₁ M₂ : Model ℕ} {s : List ℕ} {r : ℕ} where
     settled-read e = rw add-one (record { is_T = first-unchanged e; holds = λ q₁ l q₂ m. h.holds q₁ l q₂ m ∙ sym (done.unchanged.0 e q₁ l q₂ m) })
 
 -- two tables of 4,096 bytes, all top
-pub tops_start : (w : List ℕ) (l : Lattice) (m₁ m₂ : List ℕ) → Coded w l → ModelShape m₁ → ModelShape m₂ → get_or m₁ 1 0 ≡ get_or m₂ 1 0 → Laws (ops_in w l) → Startable w l m₁ m₂ (replicate 4096 l.top.0) (replicate 4096 l.top.0)
-tops_start w l m₁ m₂ o a b k L =
+pub tops_start : (w : List ℕ) (l : Lattice) (m₁ m₂ : List ℕ) → ModelShape m₁ → ModelShape m₂ → Laws (ops_in w l) → Startable w l m₁ m₂ (replicate 4096 l.top.0) (replicate 4096 l.top.0)
+tops_start w l m₁ m₂ a b L =
     let n = prod_le _ _ 64 64 a.states_most b.states_most in
     let f : get_or m₁ 0 0 * get_or m₂ 0 0 ≤ length (replicate 4096 l.top.0) = rw length-replicate n in
-    record {
-      coded = o;
-      shaped = record { first = a; second = b; same_propositions = k; held = f };
-      room = f;
-      laws = L;
-      start = top_start (ops_in w l) (model_of m₁) (model_of m₂) 4096 n;
-    }
+    record { held = f; room = f; laws = L; start = top_start (ops_in w l) (model_of m₁) (model_of m₂) 4096 n }
 
 -- the text of a settled table is that of round T
 pub settled_text : {O : Ops ℕ} {M₁ M₂ : Model ℕ} {s : List ℕ} {r : ℕ} → SettledAt O M₁ M₂ s r → (T : ℕ) → FirstUnchanged O M₁ M₂ T → table_text O M₁ M₂ r (table_of s M₂.states) ≡ table_text O M₁ M₂ T (round O M₁ M₂ T)

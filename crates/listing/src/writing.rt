@@ -1,8 +1,10 @@
 // The text that is written: bytes, numbers and lines, one after the other.
-ghost use Rattle.std.specs.Prelude.{◌≡◌, ◌+◌, ◌*◌, ◌≤◌, ◌<◌, length};
-ghost use Rattle.entries.specs.Table.{table_of};
-ghost use Rattle.listing.specs.Text.{decimal, blank, item, last_item, heading, rows_text};
-ghost use Rattle.listing.specs.Lines.{Room, Puts, row_entries, row_line};
+ghost use Rattle.std.specs.Prelude.{◌≡◌, ◌+◌, ◌<◌};
+ghost use Rattle.listing.specs.Text.{decimal, blank, item, last_item, heading};
+ghost use Rattle.listing.specs.Lines.{Room, Puts, row_entries, row_line, table_rows};
+
+use entries::Table;
+use model::State;
 
 // A text: the bytes lent for it, and the place after those that are written.
 #[derive(Drop)]
@@ -98,14 +100,13 @@ impl Text<'_> {
         self.put(b"\n");
     }
 
-    // The lines of the first n1 rows of a table, of n2 entries each.
-    pub fn put_rows(&mut self, table: &[u8], n1: usize, n2: usize)
-        requires { (n1 * n2 ≤ length table.now) × Room self.old (rows_text (table_of table.now n2) n1 n2) }
-        ensures { Puts self.old (rows_text (table_of table.now n2) n1 n2) self.new }
+    // The lines of all rows of a table.
+    pub fn put_rows(&mut self, t: &Table)
+        requires { Room self.old (table_rows t.now.models.first.bytes.now t.now.models.second.bytes.now t.now.bytes.now) }
+        ensures { Puts self.old (table_rows t.now.models.first.bytes.now t.now.models.second.bytes.now t.now.bytes.now) self.new }
     {
-        for q1 in 0..n1 {
-            let first = q1 * n2;
-            self.put_row(q1, &table[first..first + n2]);
+        for q1 in 0..t.models.first.states() {
+            self.put_row(q1, t.row(State(q1 as u8)));
         }
     }
 }

@@ -6,4 +6,4 @@ use Rattle.listing.proofs.put_formulas.Given as goal
 
 -- the lines passed so far are written
 abbrev pub invariant-loop-f : goal.invariant-loop-f
-invariant-loop-f l = (c : Content) → case_reading l.case ≡ content c → Puts l.initial.text (each l.f (formula_line c)) l.text
+invariant-loop-f l = (c : Content) → case_reading l.case.bytes.now ≡ content c → Puts l.initial.text (each l.f (formula_line c)) l.text

