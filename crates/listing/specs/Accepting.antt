@@ -1,25 +1,22 @@
 -- What the code of the listing knows of an accepted case. Rests on Text, Lines, Settling, Settled, Most and casefile's Caller.
 --   accepted_case: a case that is answered so is accepted; model_over, whole_is: it can be valued, and the whole value found is that of its content
 --   FormulaFits, FormulasFit, PutsFormula, PutsFormulas: the terms of the contracts; formulas_fit, formulas_are, formulas_room: where the room comes from
---   Settleable, settleable: the models of the case can be settled, with room for the text; settled_part_lem: what is then written
+--   settleable: the models of the case can be settled, with room for the text; settled_part_lem: what is then written
 --   all_written: what is written is the text of the case
 --   content_unique: a case has one content
 use Rattle.std.specs.Prelude.{ℕ, ◌+◌, ◌≤◌, ◌<◌, ◌≡◌, refl, true, List, Ok}
 use Rattle.std.proofs.Common.{◌∙◌, arith}
 use Rattle.std.proofs.Math.Path.{ap}
 use Rattle.std.proofs.Math.ListN.{length}
-use Rattle.theory.specs.Lattice.{Laws}
-use Rattle.theory.specs.Part.{model_of}
 use Rattle.theory.specs.Value.{whole_value}
-use Rattle.theory.specs.Simulation.{round, FirstUnchanged}
-use Rattle.elements.specs.declared.Lattice.{Lattice}
-use Rattle.elements.specs.Words.{ops_in}
+use Rattle.elements.specs.declared.algebra.Algebra.{Algebra}
 use Rattle.casefile.specs.declared.Sizes.{Sizes}
 use Rattle.casefile.specs.Directory.{part_at}
 use Rattle.casefile.specs.Reading.{Content, content, case_reading}
 use Rattle.casefile.specs.Answer.{CaseAnswered}
 use Rattle.casefile.specs.Caller.{AcceptedCase}
 use Rattle.casefile.proofs.Caller.{when_accepted}
+use Rattle.entries.specs.declared.table.Models.{Models}
 use Rattle.valuer.specs.Values.{ModelOver, WholeValue}
 use Rattle.desk.proofs.CaseParts.{model_part, model_valued, formula_part}
 use Rattle.desk.specs.Refused.{is_model}
@@ -27,7 +24,7 @@ use Rattle.desk.specs.Case.{ops, model1, model2, model_in, formula_in, round_in}
 use Rattle.listing.specs.Text.{each, formula_line, formulas_text, table_text, settled_round, accepted_text, listing_text}
 use Rattle.listing.specs.declared.writing.Text.{Text}
 use Rattle.listing.specs.Lines.{Room, Puts, puts_then, room_then}
-use Rattle.listing.specs.Settling.{WroteSettled}
+use Rattle.listing.specs.Settling.{Settleable, WroteSettled}
 use Rattle.listing.specs.Most.{table_most, text_most}
 use Rattle.listing.specs.Settled.{settled_is_T, listing_is}
 
@@ -74,24 +71,20 @@ module _ {b : List ℕ} {z : Sizes} {w : List ℕ} (a : AcceptedCase b z w) (c :
 
 -- ---- the settled table
 
--- the laws of the lattice, and room for the text of the settled table of two model parts
-pub record Settleable (w : List ℕ) (l : Lattice) (m₁ m₂ : List ℕ) (t : Text) : Type 0 where
-  pub laws : Laws (ops_in w l)
-  pub room : (T : ℕ) → FirstUnchanged (ops_in w l) (model_of m₁) (model_of m₂) T → Room t (table_text (ops_in w l) (model_of m₁) (model_of m₂) T (round (ops_in w l) (model_of m₁) (model_of m₂) T))
-
 module _ {b : List ℕ} {z : Sizes} {w : List ℕ} (a : AcceptedCase b z w) where
   -- the text of the settled table; the formulas' lines come after it
   abbrev settled_part : List ℕ
   settled_part = let c = a.holds in table_text (ops c) (model1 c) (model2 c) (settled_round c) (round_in c (settled_round c))
 
   -- the lattice and the models of the case
-  module _ {v : List ℕ} {l : Lattice} {m₁ m₂ : List ℕ} (codes : v ≡ w) (lattice : l ≡ z.lattice) (first : m₁ ≡ part_at b 1) (second : m₂ ≡ part_at b 2) where
-    pub settleable : (t : Text) → t.at + 12957 ≤ length t.bytes.now → Settleable v l m₁ m₂ t
-    settleable t fit =
-        rw (codes, lattice, first ∙ a.parts.model1, second ∙ a.parts.model2)
-        (record { laws = a.laws; room = rw a.ops (λ T f. omega (arith, fit, table_most b a.holds a.reads T f)) })
+  module _ (x : Algebra) (m : Models) (codes : x.codes.now.words ≡ w) (lattice : x.lattice ≡ z.lattice) (first : m.first.bytes.now ≡ part_at b 1) (second : m.second.bytes.now ≡ part_at b 2) where
+    pub settleable : (t : Text) → t.at + 12957 ≤ length t.bytes.now → Settleable x m t
+    settleable t fit = record {
+      laws = rw (codes, lattice) a.laws;
+      room = rw (codes, lattice, first ∙ a.parts.model1, second ∙ a.parts.model2, a.ops) (λ T f. omega (arith, fit, table_most b a.holds a.reads T f));
+    }
 
-    pub settled_part_lem : (t u : Text) → WroteSettled v l m₁ m₂ t u → Puts t settled_part u
+    pub settled_part_lem : (t u : Text) → WroteSettled x m t u → Puts t settled_part u
     settled_part_lem t u h = (rw (codes, lattice, first ∙ a.parts.model1, second ∙ a.parts.model2, a.ops) at h) (settled_round a.holds) (settled_is_T a.holds a.sound)
 
   abbrev whole_text : List ℕ

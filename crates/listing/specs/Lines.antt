@@ -5,6 +5,7 @@
 use Rattle.std.specs.Prelude.{ℕ, ◌+◌, ◌*◌, ◌/◌, ◌%◌, ◌≤◌, ◌<◌, ◌≡◌, refl, List, [], ◌∷◌, ◌++◌, length, get_or, take, drop}
 use Rattle.std.proofs.Common.{ap, sym, ◌∙◌, arith, length-append, get_or-take, get_or-drop}
 use Rattle.listing.specs.declared.writing.Text.{Text}
+use Rattle.entries.specs.declared.table.Table.{Table}
 use Rattle.entries.specs.Table.{table_of}
 use Rattle.listing.specs.Text.{decimal, blank, item, each, entries_text, heading, row_label, line_end, row_text, rows_text}
 use Rattle.listing.specs.Decimal.{decimal-few, decimal_more}
@@ -87,9 +88,9 @@ row_entries row = entries_text (λ q. get_or row q 0) (length row)
 abbrev pub row_line : ℕ → List ℕ → List ℕ
 row_line q₁ row = heading row_label q₁ ++ row_entries row ++ line_end
 
--- the lines of all rows of a table with the bytes s, for the states of the model parts m₁ and m₂
-abbrev pub table_rows : List ℕ → List ℕ → List ℕ → List ℕ
-table_rows m₁ m₂ s = rows_text (table_of s (get_or m₂ 0 0)) (get_or m₁ 0 0) (get_or m₂ 0 0)
+-- the lines of all rows of a table
+abbrev pub table_rows : Table → List ℕ
+table_rows t = let n₂ = get_or t.models.second.bytes.now 0 0 in rows_text (table_of t.bytes.now n₂) (get_or t.models.first.bytes.now 0 0) n₂
 
 -- row q₁ of a table of n₂ entries a row, held by itself
 pub row_is : (table : List ℕ) (n₂ q₁ : ℕ) (row : List ℕ) → row ≡ take n₂ (drop (q₁ * n₂) table) → length row ≡ n₂ → row_line q₁ row ≡ row_text (table_of table n₂) n₂ q₁

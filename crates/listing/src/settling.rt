@@ -1,9 +1,5 @@
 // The rounds, and the lines of the settled table.
-ghost use Rattle.std.specs.Prelude.{◌+◌, ◌≤◌, length};
-ghost use Rattle.theory.specs.Part.{model_of};
-ghost use Rattle.elements.specs.Words.{ops_in};
-ghost use Rattle.listing.specs.Settling.{Startable, SettledAt, text_of_table, WroteSettled};
-ghost use Rattle.listing.specs.Accepting.{Settleable};
+ghost use Rattle.listing.specs.Settling.{Startable, Settles, text_of_table, Settleable, WroteSettled};
 ghost use Rattle.listing.specs.Lines.{Room, Puts};
 
 use crate::writing::Text;
@@ -13,8 +9,8 @@ use entries::{Models, Table};
 // Works rounds up to the first that equals the one before, and gives its number T. The first table, which holds round 0, comes to hold
 // round T. The tables take turns, so that none is copied.
 fn settle(a: &Algebra, models: &Models, first: &mut [u8], second: &mut [u8]) -> usize
-    requires { Startable a.now.codes.now.words a.now.lattice models.now.first.bytes.now models.now.second.bytes.now first.old second.old }
-    ensures { SettledAt (ops_in a.now.codes.now.words a.now.lattice) (model_of models.now.first.bytes.now) (model_of models.now.second.bytes.now) first.new result }
+    requires { Startable a.now models.now first.old second.old }
+    ensures { Settles a.now models.now first.new result }
 {
     let mut r: usize = 0;
     loop {
@@ -39,8 +35,8 @@ fn settle(a: &Algebra, models: &Models, first: &mut [u8], second: &mut [u8]) -> 
 // The number of the last round, the lines of its table, and its score.
 #[tactic(auto, unfolding(crate::specs::Text::table_text))]
 fn put_table(a: &Algebra, t: &Table, r: usize, text: &mut Text)
-    requires { Room text.old (text_of_table a.now.codes.now.words a.now.lattice t.now.models.first.bytes.now t.now.models.second.bytes.now r t.now.bytes.now) }
-    ensures { Puts text.old (text_of_table a.now.codes.now.words a.now.lattice t.now.models.first.bytes.now t.now.models.second.bytes.now r t.now.bytes.now) text.new }
+    requires { Room text.old (text_of_table a.now t.now r) }
+    ensures { Puts text.old (text_of_table a.now t.now r) text.new }
 {
     let score = rounds::score(a, t);
     text.put_last(b"rounds ", r);
@@ -50,8 +46,8 @@ fn put_table(a: &Algebra, t: &Table, r: usize, text: &mut Text)
 
 // Works the rounds, and writes the lines of the settled table.
 pub fn put_settled(a: &Algebra, models: &Models, text: &mut Text)
-    requires { Settleable a.now.codes.now.words a.now.lattice models.now.first.bytes.now models.now.second.bytes.now text.old }
-    ensures { WroteSettled a.now.codes.now.words a.now.lattice models.now.first.bytes.now models.now.second.bytes.now text.old text.new }
+    requires { Settleable a.now models.now text.old }
+    ensures { WroteSettled a.now models.now text.old text.new }
 {
     let top = a.lattice.top.0;
     let mut first = [top; 4096];

@@ -102,8 +102,8 @@ impl Text<'_> {
 
     // The lines of all rows of a table.
     pub fn put_rows(&mut self, t: &Table)
-        requires { Room self.old (table_rows t.now.models.first.bytes.now t.now.models.second.bytes.now t.now.bytes.now) }
-        ensures { Puts self.old (table_rows t.now.models.first.bytes.now t.now.models.second.bytes.now t.now.bytes.now) self.new }
+        requires { Room self.old (table_rows t.now) }
+        ensures { Puts self.old (table_rows t.now) self.new }
     {
         for q1 in 0..t.models.first.states() {
             self.put_row(q1, t.row(State(q1 as u8)));

@@ -14,6 +14,7 @@ put_last-requires c =
       puts-length p,
       decimal_three c.from-number.result (omega arith),
       decimal_three c.from-part.result (omega arith),
+      length-append (decimal c.from-number.result) line_end,
       length-append (decimal c.from-part.result) line_end,
     )
 

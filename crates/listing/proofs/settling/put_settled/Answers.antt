@@ -3,9 +3,7 @@ use Rattle.listing.specs.Settling.{tops_start, settled_text}
 use Rattle.listing.proofs.settling.put_settled.Goals as goal
 
 pub settle-r-requires : goal.settle-r-requires
-settle-r-requires c =
-    let m = c.args.models.now in
-    tops_start c.args.a.now.codes.now.words c.args.a.now.lattice m.first.bytes.now m.second.bytes.now m.first.shape m.second.shape c.requires.laws
+settle-r-requires c = tops_start c.args.a.now c.args.models.now c.requires.laws
 
 pub put_table-requires : goal.put_table-requires
 put_table-requires c = let w = c.settle-r in rw (settled_text w.ensures w.result w.ensures.is_T) (c.requires.room w.result w.ensures.is_T)
