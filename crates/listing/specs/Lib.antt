@@ -11,5 +11,7 @@ pub mod Most  -- the greatest length of a text
 pub mod Examples  -- the text of document 01's example, and that of empty input
 -- ---- for the code
 pub mod Writing  -- bytes written one after the other at a place of a buffer
+pub mod Unique  -- the fact of an accepted case is a proposition
+pub mod Lines  -- what is put into a text
 pub mod Settling  -- rounds worked until one equals the one before
 pub mod Accepting  -- what the code knows of an accepted case

@@ -1,5 +1,5 @@
 -- The greatest length of a text. Rests on Text, Decimal, Writing, casefile's Content and Placed, theory's Rounds and Sharp.
-use Rattle.std.specs.Prelude.{ℕ, ◌+◌, ◌≤◌, ◌<◌, ◌≡◌, List, ◌++◌, length}
+use Rattle.std.specs.Prelude.{ℕ, ◌≤◌, ◌<◌, ◌≡◌, List, ◌++◌, length}
 use native.Mathlib.Omega.{arith}
 use Rattle.std.proofs.Common.{ltb-true}
 use Rattle.std.proofs.Math.ListN.{length-append}

@@ -1,5 +1,5 @@
 -- The round that Text finds is T, and the listing of an accepted case is that of T. Rests on Text, casefile's Content, theory's Rounds and rounds' Round.
-use Prim.Native.Nat.{ℕ, suc, ◌+◌, ◌-◌}
+use Prim.Native.Nat.{ℕ, suc, ◌-◌}
 use Rattle.std.specs.Prelude.{◌≡◌, refl, true, List}
 use Rattle.std.proofs.Common.{sym, subst, ◌∙◌, arith}
 use Rattle.std.proofs.Math.Path.{ap}

@@ -1,36 +1,31 @@
 -- Rounds that are worked until one equals the one before: what a table holds after each of them and at the end.
 -- Rests on theory's Simulation, Rounds and Sharp, and rounds' Round.
---   Startable, SettledAt, text_of_table, WroteSettled: the terms of the code's contracts
+--   Startable, tops_start, Settles, text_of_table, Settleable, WroteSettled: the terms of the code's contracts
 --   AtRound, at_start, next-round: a table that holds round r, every round up to r having changed something; rounds-few: r is bounded
---   top_start, tops_start: tables that are all top hold round 0
+--   top_start: a table that is all top holds round 0
 --   settled-done, settled-read: what it holds when a round changed nothing; settled_text: its text
-use Rattle.std.specs.Prelude.{ℕ, suc, ◌+◌, ◌*◌, ◌-◌, ◌≤◌, ◌<◌, ◌≡◌, Bool, true, false, List, length, get_or, replicate}
+use Rattle.std.specs.Prelude.{ℕ, suc, ◌+◌, ◌*◌, ◌-◌, ◌≤◌, ◌<◌, ◌≡◌, Bool, true, false, List, length, replicate}
 use Rattle.std.proofs.Common.{sym, subst, ◌∙◌, ⊎_elim, eq-or-lt_of_le, add-one, arith}
 use Rattle.std.proofs.lemmas.List.{length-replicate, get_or-replicate}
 use Rattle.theory.specs.Lattice.{Ops, Laws}
 use Rattle.theory.specs.Model.{Model}
-use Rattle.theory.specs.Part.{model_of, ModelShape}
+use Rattle.theory.specs.Part.{model_of}
 use Rattle.theory.specs.Simulation.{F, round, SameTable, FirstUnchanged}
 use Rattle.theory.proofs.Fixpoint.{chain-size}
 use Rattle.theory.proofs.Rounds.{F_mono, F_element, exists-T, T_unique}
 use Rattle.theory.proofs.Sharp.{T_sharp}
 use Rattle.theory.specs.TestLaws.{false_true}
-use Rattle.elements.specs.declared.Lattice.{Lattice}
-use Rattle.elements.specs.Words.{ops_in, Coded}
+use Rattle.elements.specs.declared.algebra.Algebra.{Algebra}
+use Rattle.elements.specs.Words.{ops_in}
 use Rattle.model.specs.Places.{prod_le}
-use Rattle.entries.specs.Table.{table_of, Shaped}
+use Rattle.entries.specs.Table.{table_of}
+use Rattle.entries.specs.declared.table.Models.{Models}
+use Rattle.entries.specs.declared.table.Table.{Table}
 use Rattle.rounds.specs.Round.{F_reads, top_round, RoundSoFar, RoundDone, round_done}
 use Rattle.listing.specs.Text.{table_text}
 use Rattle.listing.specs.Entries.{table_cong}
-use Rattle.listing.specs.Writing.{Wrote}
-
--- two model parts with a lattice, a table s for their states that holds round 0, and room in another
-pub record Startable (w : List ℕ) (l : Lattice) (m₁ m₂ s other : List ℕ) : Type 0 where
-  pub coded : Coded w l
-  pub shaped : Shaped m₁ m₂ s
-  pub room : get_or m₁ 0 0 * get_or m₂ 0 0 ≤ length other
-  pub laws : Laws (ops_in w l)
-  pub start : SameTable (ops_in w l) (model_of m₁) (model_of m₂) (table_of s (get_or m₂ 0 0)) (round (ops_in w l) (model_of m₁) (model_of m₂) 0)
+use Rattle.listing.specs.declared.writing.Text.{Text}
+use Rattle.listing.specs.Lines.{Room, Puts}
 
 module _ (O : Ops ℕ) (M₁ M₂ : Model ℕ) (s : List ℕ) where
   -- s holds round r, and every round up to r differs from the one before
@@ -96,19 +91,6 @@ module _ {O : Ops ℕ} {M₁ M₂ : Model ℕ} {s : List ℕ} {r : ℕ} where
     pub settled-read : changed ≡ false → SettledAt O M₁ M₂ s (r + 1)
     settled-read e = rw add-one (record { is_T = first-unchanged e; holds = λ q₁ l q₂ m. h.holds q₁ l q₂ m ∙ sym (done.unchanged.0 e q₁ l q₂ m) })
 
--- two tables of 4,096 bytes, all top
-pub tops_start : (w : List ℕ) (l : Lattice) (m₁ m₂ : List ℕ) → Coded w l → ModelShape m₁ → ModelShape m₂ → get_or m₁ 1 0 ≡ get_or m₂ 1 0 → Laws (ops_in w l) → Startable w l m₁ m₂ (replicate 4096 l.top.0) (replicate 4096 l.top.0)
-tops_start w l m₁ m₂ o a b k L =
-    let n = prod_le _ _ 64 64 a.states_most b.states_most in
-    let f : get_or m₁ 0 0 * get_or m₂ 0 0 ≤ length (replicate 4096 l.top.0) = rw length-replicate n in
-    record {
-      coded = o;
-      shaped = record { first = a; second = b; same_propositions = k; held = f };
-      room = f;
-      laws = L;
-      start = top_start (ops_in w l) (model_of m₁) (model_of m₂) 4096 n;
-    }
-
 -- the text of a settled table is that of round T
 pub settled_text : {O : Ops ℕ} {M₁ M₂ : Model ℕ} {s : List ℕ} {r : ℕ} → SettledAt O M₁ M₂ s r → (T : ℕ) → FirstUnchanged O M₁ M₂ T → table_text O M₁ M₂ r (table_of s M₂.states) ≡ table_text O M₁ M₂ T (round O M₁ M₂ T)
 settled_text {O} {M₁} {M₂} {s} {r} h T f =
@@ -117,11 +99,47 @@ settled_text {O} {M₁} {M₂} {s} {r} h T f =
 
 -- ---- for contracts
 
--- the text of round r with the bytes of its table, for the model parts m₁ and m₂
-abbrev pub text_of_table : List ℕ → Lattice → List ℕ → List ℕ → ℕ → List ℕ → List ℕ
-text_of_table w l m₁ m₂ r table = table_text (ops_in w l) (model_of m₁) (model_of m₂) r (table_of table (get_or m₂ 0 0))
+-- the operations of a lattice, and two models, as the code holds them
+abbrev pub operations : Algebra → Ops ℕ
+operations a = ops_in a.codes.now.words a.lattice
 
--- for T, the first round that equals the one before, the text of round T is written at place 0: d before, e after, n the place after it
-abbrev pub WroteSettled : List ℕ → Lattice → List ℕ → List ℕ → List ℕ → List ℕ → ℕ → Type 0
-WroteSettled w l m₁ m₂ d e n =
-    (T : ℕ) → FirstUnchanged (ops_in w l) (model_of m₁) (model_of m₂) T → Wrote d 0 (table_text (ops_in w l) (model_of m₁) (model_of m₂) T (round (ops_in w l) (model_of m₁) (model_of m₂) T)) e n
+abbrev pub model_1 : Models → Model ℕ
+model_1 m = model_of m.first.bytes.now
+
+abbrev pub model_2 : Models → Model ℕ
+model_2 m = model_of m.second.bytes.now
+
+-- a table s of two models, which holds round 0, and room in another
+pub record Startable (a : Algebra) (m : Models) (s other : List ℕ) : Type 0 where
+  pub held : (model_1 m).states * (model_2 m).states ≤ length s
+  pub room : (model_1 m).states * (model_2 m).states ≤ length other
+  pub laws : Laws (operations a)
+  pub start : SameTable (operations a) (model_1 m) (model_2 m) (table_of s (model_2 m).states) (round (operations a) (model_1 m) (model_2 m) 0)
+
+-- two tables of 4,096 bytes, all top
+pub tops_start : (a : Algebra) (m : Models) → Laws (operations a) → Startable a m (replicate 4096 a.lattice.top.0) (replicate 4096 a.lattice.top.0)
+tops_start a m L =
+    let n = prod_le _ _ 64 64 m.first.shape.states_most m.second.shape.states_most in
+    let f : (model_1 m).states * (model_2 m).states ≤ length (replicate 4096 a.lattice.top.0) = rw length-replicate n in
+    record { held = f; room = f; laws = L; start = top_start (operations a) (model_1 m) (model_2 m) 4096 n }
+
+-- the first table comes to hold round T, the first that equals the one before
+abbrev pub Settles : Algebra → Models → List ℕ → ℕ → Type 0
+Settles a m s T = SettledAt (operations a) (model_1 m) (model_2 m) s T
+
+-- the text of round r with the bytes of a table
+abbrev pub text_of_table : Algebra → Table → ℕ → List ℕ
+text_of_table a t r = table_text (operations a) (model_1 t.models) (model_2 t.models) r (table_of t.bytes.now (model_2 t.models).states)
+
+-- the text of round T
+abbrev pub text_of_round : Algebra → Models → ℕ → List ℕ
+text_of_round a m T = table_text (operations a) (model_1 m) (model_2 m) T (round (operations a) (model_1 m) (model_2 m) T)
+
+-- the laws of the lattice, and room in the text t for round T, the first that equals the one before
+pub record Settleable (a : Algebra) (m : Models) (t : Text) : Type 0 where
+  pub laws : Laws (operations a)
+  pub room : (T : ℕ) → FirstUnchanged (operations a) (model_1 m) (model_2 m) T → Room t (text_of_round a m T)
+
+-- round T is put into the text t, which became u
+abbrev pub WroteSettled : Algebra → Models → Text → Text → Type 0
+WroteSettled a m t u = (T : ℕ) → FirstUnchanged (operations a) (model_1 m) (model_2 m) T → Puts t (text_of_round a m T) u

@@ -1,27 +1,31 @@
 // The rounds, and the lines of the settled table.
-ghost use Rattle.std.specs.Prelude.{◌+◌, ◌≤◌, length};
-ghost use Rattle.theory.specs.Part.{model_of};
-ghost use Rattle.elements.specs.Words.{ops_in, Coded};
-ghost use Rattle.entries.specs.Table.{Shaped};
-ghost use Rattle.listing.specs.Settling.{Startable, SettledAt, text_of_table, WroteSettled};
-ghost use Rattle.listing.specs.Accepting.{Settleable};
-ghost use Rattle.listing.specs.Writing.{Wrote};
+ghost use Rattle.listing.specs.Settling.{Startable, Settles, text_of_table, Settleable, WroteSettled};
+ghost use Rattle.listing.specs.Lines.{Room, Puts};
 
-use crate::writing::{put_last, put_rows};
-use elements::{Codes, Lattice};
+use crate::writing::Text;
+use elements::Algebra;
+use entries::{Models, Table};
 
 // Works rounds up to the first that equals the one before, and gives its number T. The first table, which holds round 0, comes to hold
-// round T.
-fn settle(w: &Codes, l: Lattice, m1: &[u8], m2: &[u8], first: &mut [u8], second: &mut [u8]) -> usize
-    requires { Startable w.now l m1.now m2.now first.old second.old }
-    ensures { SettledAt (ops_in w.now l) (model_of m1.now) (model_of m2.now) first.new result }
+// round T. The tables take turns, so that none is copied.
+fn settle(a: &Algebra, models: &Models, first: &mut [u8], second: &mut [u8]) -> usize
+    requires { Startable a.now models.now first.old second.old }
+    ensures { Settles a.now models.now first.new result }
 {
     let mut r: usize = 0;
     loop {
-        if !rounds::round(w, l, m1, m2, first, second) {
+        let even = Table {
+            models: *models,
+            bytes: first,
+        };
+        if !rounds::round(a, &even, second) {
             return r + 1;
         }
-        if !rounds::round(w, l, m1, m2, second, first) {
+        let odd = Table {
+            models: *models,
+            bytes: second,
+        };
+        if !rounds::round(a, &odd, first) {
             return r + 2;
         }
         r += 2;
@@ -29,37 +33,29 @@ fn settle(w: &Codes, l: Lattice, m1: &[u8], m2: &[u8], first: &mut [u8], second:
 }
 
 // The number of the last round, the lines of its table, and its score.
-fn put_table(
-    w: &Codes,
-    l: Lattice,
-    m1: &[u8],
-    m2: &[u8],
-    table: &[u8],
-    r: usize,
-    text: &mut [u8],
-) -> usize
-    requires { Coded w.now l × Shaped m1.now m2.now table.now
-        × (0 + length (text_of_table w.now l m1.now m2.now r table.now) ≤ length text.old) }
-    ensures { Wrote text.old 0
-        (text_of_table w.now l m1.now m2.now r table.now) text.new result }
+#[tactic(auto, unfolding(crate::specs::Text::table_text))]
+fn put_table(a: &Algebra, t: &Table, r: usize, text: &mut Text)
+    requires { Room text.old (text_of_table a.now t.now r) }
+    ensures { Puts text.old (text_of_table a.now t.now r) text.new }
 {
-    let n1 = model::states(m1);
-    let n2 = model::states(m2);
-    let e = rounds::score(w, l, m1, m2, table);
-    let score = elements::index(e.0);
-    let rows = put_last(b"rounds ", r, text, 0);
-    let end = put_rows(table, n1, n2, text, rows);
-    put_last(b"score ", score, text, end)
+    let score = rounds::score(a, t);
+    text.put_last(b"rounds ", r);
+    text.put_rows(t);
+    text.put_last(b"score ", usize::from(score.0));
 }
 
 // Works the rounds, and writes the lines of the settled table.
-pub fn put_settled(w: &Codes, l: Lattice, m1: &[u8], m2: &[u8], text: &mut [u8]) -> usize
-    requires { Settleable w.now l m1.now m2.now text.old }
-    ensures { WroteSettled w.now l m1.now m2.now text.old text.new result }
+pub fn put_settled(a: &Algebra, models: &Models, text: &mut Text)
+    requires { Settleable a.now models.now text.old }
+    ensures { WroteSettled a.now models.now text.old text.new }
 {
-    let top = l.top.0;
+    let top = a.lattice.top.0;
     let mut first = [top; 4096];
     let mut second = [top; 4096];
-    let r = settle(w, l, m1, m2, &mut first, &mut second);
-    put_table(w, l, m1, m2, &first, r, text)
+    let r = settle(a, models, &mut first, &mut second);
+    let table = Table {
+        models: *models,
+        bytes: &first,
+    };
+    put_table(a, &table, r, text);
 }

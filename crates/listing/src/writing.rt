@@ -1,108 +1,112 @@
-// Bytes, numbers and lines, each written at a place in the text; the answer is the place after them.
-ghost use Rattle.std.specs.Prelude.{◌≡◌, ◌+◌, ◌*◌, ◌≤◌, ◌<◌, length, get_or};
-ghost use Rattle.entries.specs.Table.{table_of};
-ghost use Rattle.listing.specs.Text.{decimal, blank, item, last_item, heading, entries_text, row_text, rows_text};
-ghost use Rattle.listing.specs.Writing.{Wrote};
+// The text that is written: bytes, numbers and lines, one after the other.
+ghost use Rattle.std.specs.Prelude.{◌≡◌, ◌+◌, ◌<◌};
+ghost use Rattle.listing.specs.Text.{decimal, blank, item, last_item, heading};
+ghost use Rattle.listing.specs.Lines.{Room, Puts, row_entries, row_line, table_rows};
 
-fn put(bytes: &[u8], text: &mut [u8], at: usize) -> usize
-    requires { at + length bytes.now ≤ length text.old }
-    ensures { Wrote text.old at bytes.now text.new result }
-{
-    let count = bytes.len();
-    for j in 0..count {
-        text[at + j] = bytes[j];
-    }
-    at + count
+use entries::Table;
+use model::State;
+
+// A text: the bytes lent for it, and the place after those that are written.
+#[derive(Drop)]
+pub struct Text<'a> {
+    pub bytes: &'a mut [u8],
+    pub at: usize,
 }
 
 fn digit(n: usize) -> u8
     requires { n < 10 }
     ensures { result ≡ 48 + n }
 {
-    48 + n as u8
+    b'0' + n as u8
 }
 
-// A number's decimal digits.
-fn put_number(n: usize, text: &mut [u8], at: usize) -> usize
-    requires { at + length (decimal n) ≤ length text.old }
-    ensures { Wrote text.old at (decimal n) text.new result }
-{
-    if n < 10 {
-        text[at] = digit(n);
-        return at + 1;
+impl Text<'_> {
+    pub fn put(&mut self, bytes: &[u8])
+        requires { Room self.old bytes.now }
+        ensures { Puts self.old bytes.now self.new }
+    {
+        let end = self.at + bytes.len();
+        self.bytes[self.at..end].copy_from_slice(bytes);
+        self.at = end;
     }
-    let next = put_number(n / 10, text, at);
-    text[next] = digit(n % 10);
-    next + 1
-}
 
-// A label and a number.
-pub fn put_item(label: &[u8], n: usize, text: &mut [u8], at: usize) -> usize
-    requires { at + length (item label.now n) ≤ length text.old }
-    ensures { Wrote text.old at (item label.now n) text.new result }
-{
-    let next = put(label, text, at);
-    put_number(n, text, next)
-}
-
-// A label and a number at the end of a line.
-pub fn put_last(label: &[u8], n: usize, text: &mut [u8], at: usize) -> usize
-    requires { at + length (last_item label.now n) ≤ length text.old }
-    ensures { Wrote text.old at (last_item label.now n) text.new result }
-{
-    let next = put_item(label, n, text, at);
-    put(b"\n", text, next)
-}
-
-// A label, a number and a colon.
-pub fn put_heading(label: &[u8], n: usize, text: &mut [u8], at: usize) -> usize
-    requires { at + length (heading label.now n) ≤ length text.old }
-    ensures { Wrote text.old at (heading label.now n) text.new result }
-{
-    let next = put_item(label, n, text, at);
-    put(b":", text, next)
-}
-
-// ---- a table
-
-// An entry with the blank before it.
-pub fn put_entry(e: u8, text: &mut [u8], at: usize) -> usize
-    requires { at + length (item blank e) ≤ length text.old }
-    ensures { Wrote text.old at (item blank e) text.new result }
-{
-    put_item(b" ", elements::index(e), text, at)
-}
-
-// The n entries from `from` on.
-fn put_entries(table: &[u8], from: usize, n: usize, text: &mut [u8], at: usize) -> usize
-    requires { (from + n ≤ length table.now) × (at + length (entries_text (λ q. get_or table.now (from + q) 0) n) ≤ length text.old) }
-    ensures { Wrote text.old at (entries_text (λ q. get_or table.now (from + q) 0) n) text.new result }
-{
-    let mut next = at;
-    for q in 0..n {
-        next = put_entry(table[from + q], text, next);
+    // A number's decimal digits.
+    fn put_number(&mut self, n: usize)
+        requires { Room self.old (decimal n) }
+        ensures { Puts self.old (decimal n) self.new }
+    {
+        if n >= 10 {
+            self.put_number(n / 10);
+        }
+        self.put(&[digit(n % 10)]);
     }
-    next
-}
 
-// The line of row q1.
-fn put_row(table: &[u8], q1: usize, n2: usize, text: &mut [u8], at: usize) -> usize
-    requires { (q1 * n2 + n2 ≤ length table.now) × (at + length (row_text (table_of table.now n2) n2 q1) ≤ length text.old) }
-    ensures { Wrote text.old at (row_text (table_of table.now n2) n2 q1) text.new result }
-{
-    let entries = put_heading(b"row ", q1, text, at);
-    let end = put_entries(table, q1 * n2, n2, text, entries);
-    put(b"\n", text, end)
-}
-
-// The lines of all rows.
-pub fn put_rows(table: &[u8], n1: usize, n2: usize, text: &mut [u8], at: usize) -> usize
-    requires { (n1 * n2 ≤ length table.now) × (at + length (rows_text (table_of table.now n2) n1 n2) ≤ length text.old) }
-    ensures { Wrote text.old at (rows_text (table_of table.now n2) n1 n2) text.new result }
-{
-    let mut next = at;
-    for q1 in 0..n1 {
-        next = put_row(table, q1, n2, text, next);
+    // A label and a number.
+    pub fn put_item(&mut self, label: &[u8], n: usize)
+        requires { Room self.old (item label.now n) }
+        ensures { Puts self.old (item label.now n) self.new }
+    {
+        self.put(label);
+        self.put_number(n);
     }
-    next
+
+    // A label and a number at the end of a line.
+    #[tactic(auto, using(crate::specs::Lines::puts_then))]
+    pub fn put_last(&mut self, label: &[u8], n: usize)
+        requires { Room self.old (last_item label.now n) }
+        ensures { Puts self.old (last_item label.now n) self.new }
+    {
+        self.put_item(label, n);
+        self.put(b"\n");
+    }
+
+    // A label, a number and a colon.
+    #[tactic(auto, using(crate::specs::Lines::puts_then))]
+    pub fn put_heading(&mut self, label: &[u8], n: usize)
+        requires { Room self.old (heading label.now n) }
+        ensures { Puts self.old (heading label.now n) self.new }
+    {
+        self.put_item(label, n);
+        self.put(b":");
+    }
+
+    // ---- a table
+
+    // An entry with the blank before it.
+    pub fn put_entry(&mut self, e: u8)
+        requires { Room self.old (item blank e) }
+        ensures { Puts self.old (item blank e) self.new }
+    {
+        self.put_item(b" ", usize::from(e));
+    }
+
+    // The entries of a row.
+    fn put_entries(&mut self, row: &[u8])
+        requires { Room self.old (row_entries row.now) }
+        ensures { Puts self.old (row_entries row.now) self.new }
+    {
+        for &e in row {
+            self.put_entry(e);
+        }
+    }
+
+    // The line of row q1.
+    fn put_row(&mut self, q1: usize, row: &[u8])
+        requires { Room self.old (row_line q1 row.now) }
+        ensures { Puts self.old (row_line q1 row.now) self.new }
+    {
+        self.put_heading(b"row ", q1);
+        self.put_entries(row);
+        self.put(b"\n");
+    }
+
+    // The lines of all rows of a table.
+    pub fn put_rows(&mut self, t: &Table)
+        requires { Room self.old (table_rows t.now) }
+        ensures { Puts self.old (table_rows t.now) self.new }
+    {
+        for q1 in 0..t.models.first.states() {
+            self.put_row(q1, t.row(State(q1 as u8)));
+        }
+    }
 }

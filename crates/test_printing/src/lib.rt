@@ -1,7 +1,7 @@
 // What the example programs share: bytes and facts that they print, and lines of text with bytes in hexadecimal that they read.
 #![tactic(auto)]
 
-ghost use Rattle.std.specs.Prelude.{◌≤◌, ◌<◌, length};
+ghost use Rattle.std.specs.Prelude.{◌≤◌, length};
 
 use formula::FormulaFacts;
 pub use input::read_full;
@@ -21,21 +21,10 @@ pub fn item(rt: &impl Print, text: &[u8], n: u64) -> io::Result<()> {
     rt.print(n)
 }
 
-// A label and two numbers, a blank between them.
-pub fn two(rt: &impl Print, text: &[u8], a: u64, b: u64) -> io::Result<()> {
-    say(rt, text)?;
-    print!(rt; "{a} {b}")
-}
-
-// A byte as a number, with a blank before it.
-pub fn byte(rt: &impl Print, x: u8) -> io::Result<()> {
-    print!(rt; " {x}")
-}
-
-// Each byte of a part.
+// Each byte of a part as a number, with a blank before it.
 pub fn bytes(rt: &impl Print, part: &[u8]) -> io::Result<()> {
     for &x in part {
-        byte(rt, x)?;
+        print!(rt; " {x}")?;
     }
     Ok(())
 }
@@ -58,17 +47,6 @@ pub fn facts(rt: &impl Print, facts: FormulaFacts) -> io::Result<()> {
 // The byte at a place of a part, or 0 past its end.
 pub fn at(part: &[u8], i: usize) -> u8 {
     part.get(i).copied().unwrap_or(0)
-}
-
-// Where the line that begins at `at` ends: the place after its line end.
-pub fn line(text: &[u8], at: usize) -> usize
-    requires { at < length text.now }
-    ensures { (at < result) × (result ≤ length text.now) }
-{
-    match text[at..].iter().position(|&b| b == b'\n') {
-        Some(i) => at + i + 1,
-        None => text.len(),
-    }
 }
 
 // How many bytes stand before the first that is `stop` or a line end.

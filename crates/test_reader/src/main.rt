@@ -7,7 +7,7 @@ ghost use Rattle.formula_reader.specs.Through.{tokens_from};
 use formula_reader::FormulaReader;
 use formula_tokens::Token;
 use std::io;
-use test_printing::{item, say};
+use test_printing::say;
 
 // What stands at three places, one after the other. The one function that holds a reader: it is made for the part, and moved on twice.
 #[tactic(auto, unfolding(formula_reader::specs::Through::tokens_from))]
@@ -30,9 +30,9 @@ fn say_token(rt: &impl Print, t: Token) -> io::Result<()> {
         Token::Top => say(rt, b" top"),
         Token::Literal { p, negated } => {
             say_one(rt, negated, b" negated", b"")?;
-            item(rt, b" proposition ", p.0 as u64)
+            print!(rt; " proposition {}", p.0)
         }
-        Token::Variable(v) => item(rt, b" variable ", v as u64),
+        Token::Variable(v) => print!(rt; " variable {v}"),
         Token::Two { or } => say_one(rt, or, b" or", b" and"),
         Token::Next { all } => say_one(rt, all, b" AX", b" EX"),
         Token::Fixpoint { least } => say_one(rt, least, b" least", b" greatest"),

@@ -1,37 +1,25 @@
 -- `listing::put_formulas` meets its contract: the lines passed so far are written.
-use Prim.Native.Nat.{◌-◌, ◌≤◌}
-use mathlib.Core.Path.{◌≡◌, refl}
-use native.Mathlib.Omega.{arith}
-use Rattle.casefile.specs.Reading.{Content, content, case_reading}
-use Rattle.listing.specs.Text.{formula_line, each}
-use Rattle.listing.specs.Writing.{Wrote, each-starts, each-room, each_turn, each_done, each_buffer_length}
-use Rattle.listing.specs.Accepting.{formulas_are, formulas_room}
+use Rattle.std.proofs.Common.{arith}
+use Rattle.listing.specs.Text.{formula_line}
+use Rattle.listing.specs.Lines.{loop_start, loop_room, loop_turn, loop_done}
+use Rattle.listing.specs.Accepting.{accepted_case, formulas_are, formulas_room}
 use Rattle.listing.proofs.put_formulas.Goals as goal
 
 pub loop-f-init : goal.loop-f-init
-loop-f-init c =
-    (omega arith, refl, λ d e. each-starts c.args.text.now c.args.at c.args.z.formulas (formula_line d) (formulas_room c.requires d e))
+loop-f-init c d e =
+    let k = c.args.case.now in
+    loop_start c.args.text.now k.sizes.formulas (formula_line d) (formulas_room (accepted_case k.answered) d e c.args.text.now c.requires)
 
-pub put_formula-next-requires : goal.put_formula-next-requires
-put_formula-next-requires c =
-    let l = c.loop-f in
-    record {
-      case = c.requires.case;
-      formula = omega arith;
-      room = each-room c.args.text.now c.args.at c.args.z.formulas (formula_line c.requires.case.holds) (formulas_room c.requires c.requires.case.holds c.requires.case.reads) l.f l.text l.next (omega arith) (l.invariant.2 c.requires.case.holds c.requires.case.reads);
-    }
+pub put_formula-requires : goal.put_formula-requires
+put_formula-requires c = (
+  omega arith,
+  λ d e. loop_room c.args.text.now c.args.case.now.sizes.formulas (formula_line d) (formulas_room (accepted_case c.args.case.now.answered) d e c.args.text.now c.requires) c.loop-f.f (omega arith) (c.loop-f.invariant d e),
+)
 
 pub loop-f-preserved : goal.loop-f-preserved
-loop-f-preserved c =
-    let l = c.loop-f in
-    (omega arith, l.invariant.1, λ d e. each_turn c.args.text.now c.args.at c.args.z.formulas (formula_line d) (formulas_room c.requires d e) l.f l.text l.next (omega arith) (l.invariant.2 d e) _ _ (c.put_formula-next.ensures d e))
-
-pub shape_of-text : goal.shape_of-text
-shape_of-text c =
-    let l = c.loop-f in
-    each_buffer_length c.args.text.now c.args.at c.args.z.formulas (formula_line c.requires.case.holds) (formulas_room c.requires c.requires.case.holds c.requires.case.reads) l.f l.text l.next (omega arith) (l.invariant.2 c.requires.case.holds c.requires.case.reads)
+loop-f-preserved c d e = loop_turn c.loop-f.f (formula_line d) (c.loop-f.invariant d e) (c.put_formula.ensures d e)
 
 pub returns : goal.returns
 returns c d e =
-    let l = c.loop-f in
-    rw (formulas_are c.requires.case d e) at (each_done c.args.text.now c.args.at c.args.z.formulas (formula_line d) (formulas_room c.requires d e) l.f l.text l.next (omega arith) (omega arith) (l.invariant.2 d e))
+    rw (formulas_are (accepted_case c.args.case.now.answered) d e) at
+    (loop_done c.loop-f.f c.args.case.now.sizes.formulas (formula_line d) (omega arith) (c.loop-f.invariant d e))

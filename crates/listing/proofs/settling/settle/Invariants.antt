@@ -1,17 +1,15 @@
-use Prim.Native.Nat.{◌-◌, ◌≤◌}
-use Prim.Native.Nat.{◌+◌}
-use mathlib.Core.Path.{◌≡◌, refl, ◌∙◌}
-use borrow.Author.Tests.{not-true, not-false}
-use Rattle.model.specs.Places.{prod_le}
-use native.Mathlib.Omega.{arith}
-use lib.ListN.{length}
-use Rattle.theory.specs.Part.{model_of}
-use Rattle.elements.specs.Words.{ops_in}
-use Rattle.listing.specs.Settling.{AtRound, at_start, rounds-few, next-round, settled-done, settled-read}
+use Rattle.std.proofs.Common.{◌≡◌, ◌-◌, ◌≤◌, length}
+use Rattle.listing.specs.Settling.{operations, model_1, model_2, AtRound}
 use Rattle.listing.proofs.settling.settle.Given as goal
 
-abbrev pub invariant-loop-l : goal.invariant-loop-l
-invariant-loop-l l = AtRound (ops_in l.w l.l) (model_of l.m1) (model_of l.m2) l.first l.r × (length l.first ≡ length l.initial.first) × (length l.second ≡ length l.initial.second)
+-- the first table holds round r, and every round up to r differs from the one before
+abbrev pub invariant-loop-r : goal.invariant-loop-r
+invariant-loop-r l = record {
+  holds : AtRound (operations l.a) (model_1 l.models) (model_2 l.models) l.first l.r;
+  few : l.r ≤ 4096;
+  same_first : length l.first ≡ length l.initial.first;
+  same_second : length l.second ≡ length l.initial.second;
+}
 
-abbrev pub decreases-loop-l : goal.decreases-loop-l
-decreases-loop-l l = 4098 - l.r
+abbrev pub decreases-loop-r : goal.decreases-loop-r
+decreases-loop-r l = 4098 - l.r
