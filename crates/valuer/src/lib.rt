@@ -1,7 +1,6 @@
-// The values of formulas at the states of a model: a valuer of nodes and a fixpoint iteration that call each other, over a function for
-// each kind of node (valuer_maps); the token at a place says which (formula_tokens). A map from states to elements is 64 words, of which the first
-// N count: the codes of its values (elements). It is written into the lent array `out`, and a value is decoded at the end, once. f is a formula
-// part (formula).
+// The values of formulas at the states of a model. A map from states to elements is 64 words, of which the first N count: the codes of its
+// values (elements). It is written into the lent array `out`, and a value is decoded at the end, once. f is a formula part (formula).
+//   valuation: the maps of the formulas within it, by the token at each place (formula_tokens)
 #![tactic(auto)]
 
 mod valuation;

@@ -1,4 +1,5 @@
-// A formula that is valued over a model: the valuer of nodes and the fixpoint iteration, which call each other.
+// A formula that is valued over a model: a valuer of nodes and a fixpoint iteration that call each other, over a function for each kind of node
+// (valuer_maps); the token at a place says which.
 ghost use Rattle.std.specs.Prelude.{◌≡◌, get_or};
 ghost use Rattle.valuer.specs.Values.{ModelOver};
 ghost use Rattle.valuer.specs.Node.{SomeFormulaAt, round_limit, Node, Both, Iterated};

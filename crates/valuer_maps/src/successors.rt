@@ -47,7 +47,7 @@ impl<'a> Successors<'a> {
         y
     }
 
-    // EX of a map at q: the join of what they give to that.
+    // EX of a map at q: the join of what they give to it.
     fn some_next(&self, x: &[u64; 64], q: State) -> u64
         requires { q.0 < get_or self.now.model.bytes.now 0 0 }
         ensures { result ≡ some_next_code self.now.codes.now.words self.now.model.bytes.now x.now q.0 }
