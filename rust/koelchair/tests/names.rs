@@ -11,13 +11,13 @@ fn text(path: &str) -> String {
     std::fs::read_to_string(root.join(path)).unwrap_or_else(|error| panic!("{path}: {error}"))
 }
 
-/// The lines of a text from one that begins so up to one that begins with `}`.
+/// The lines of a text, without the blanks round them, from one that begins so up to one that begins with `}`.
 fn block<'a>(text: &'a str, begins: &'a str) -> impl Iterator<Item = &'a str> {
     text.lines()
+        .map(str::trim)
         .skip_while(move |line| !line.starts_with(begins))
         .skip(1)
         .take_while(|line| !line.starts_with('}'))
-        .map(str::trim)
 }
 
 /// A name of the table with underscores, in capitals: `CASE_SIZE` for `CaseSize`.
