@@ -2,7 +2,7 @@
 -- nothing. Rests on Codes, theory's Loop, Simulation, PairLaws and TestLaws, and elements' Folds and Laws.
 --   join_code: the join of the first words of a row, each met with that of a table at its place; join_none, join_turn: its begin, and one word more
 --   words_join: the join of words of a row alone; words_met: of a row's words, each met with that of a table; lt_or_le: two numbers in order
---   fold_items, fold_pairs: the fold of a list's items, and of those of two; fold_on: a fold that goes on
+--   fold_items: the fold of a list's items; fold_on: a fold that goes on
 --   block_joined, words_joined, all_words_joined: one block more of a join, and the joins of a block's words and of all
 --   Gap, gap_late, join_gap: words that are 0 add nothing
 --   block_from, block_next, Listed, listed_none, listed-passed, listed_turn: the blocks that are not all 0
@@ -11,12 +11,12 @@
 --   MayEnd, never_top, open_all: a join that cannot be top
 use Prim.Native.Nat.{ℕ, zero, suc, ◌+◌, ◌-◌, ◌≤◌, ◌<◌}
 use Rattle.std.specs.Prelude.{◌≡◌, refl, Bool, true, false, not, ◌⊎◌, List, [], ◌∷◌, ltb, eqb, length, get_or, take, drop, set}
-use Rattle.std.proofs.Common.{sym, ap₂, ◌∙◌, inl, inr, ⊎_elim, add-zero, add-suc, le_refl, zero-add, le_of_suc-le-suc, not-suc-le-zero, add-one, arith, ltb-true, ltb-false, eq-eqb, ne_eqb, eqb-true, get_or-set_same, get_or-set_other, get_or-take, get_or-drop, length-take-le, length-drop}
+use Rattle.std.proofs.Common.{sym, ap₂, ◌∙◌, inl, inr, ⊎_elim, add-zero, add-suc, le_refl, zero-add, not-suc-le-zero, add-one, arith, ltb-true, ltb-false, eq-eqb, ne_eqb, eqb-true, get_or-set_same, get_or-set_other, get_or-take, get_or-drop, length-take-le, length-drop}
 use Rattle.std.proofs.Math.Path.{ap}
 use Rattle.std.proofs.lemmas.Bool.{not-false}
 use Rattle.std.specs.Int.Bits.{bit_and, bit_or, or_comm}
 use Rattle.std.proofs.lemmas.Nat.{and_comm}
-use Rattle.std.specs.List.{fold as list_fold, zip}
+use Rattle.std.specs.List.{fold as list_fold}
 use mir.Val.{bool_byte}
 use Rattle.theory.specs.Loop.{fold, fold_cong}
 use Rattle.theory.specs.Simulation.{indicator, count}
@@ -40,7 +40,7 @@ abbrev pub all_joined : List ℕ → ℕ
 all_joined row = list_fold bit_or 0 row
 
 abbrev pub words_met : ℕ → List ℕ → List ℕ → ℕ
-words_met x row codes = list_fold (λ y (p : ℕ × ℕ). bit_or y (bit_and p.0 p.1)) x (zip row codes)
+words_met x row codes = fold bit_or x (λ i. bit_and (get_or row i 0) (get_or codes i 0)) (length row)
 
 -- ---- the folds of lists are these
 
@@ -53,12 +53,6 @@ pub fold_items : (g : ℕ → ℕ → ℕ) (x : ℕ) (xs : List ℕ) → list_fo
 unfolding fold
 fold_items g x [] = refl
 fold_items g x (y ∷ ys) = fold_items g (g x y) ys ∙ fold_first g x (λ i. get_or (y ∷ ys) i 0) (length ys)
-
-pub fold_pairs : (g h : ℕ → ℕ → ℕ) (x : ℕ) (xs ys : List ℕ) → length xs ≤ length ys → list_fold (λ y (p : ℕ × ℕ). g y (h p.0 p.1)) x (zip xs ys) ≡ fold g x (λ i. h (get_or xs i 0) (get_or ys i 0)) (length xs)
-unfolding fold
-fold_pairs g h x [] ys l = refl
-fold_pairs g h x (a ∷ ks) [] l = absurd (not-suc-le-zero l)
-fold_pairs g h x (a ∷ ks) (b ∷ bs) l = fold_pairs g h (g x (h a b)) ks bs (le_of_suc-le-suc l) ∙ fold_first g x (λ i. h (get_or (a ∷ ks) i 0) (get_or (b ∷ bs) i 0)) (length ks)
 
 pub fold_on : (g : ℕ → ℕ → ℕ) (x : ℕ) (f : ℕ → ℕ) (i n : ℕ) → fold g (fold g x f i) (λ j. f (i + j)) n ≡ fold g x f (i + n)
 unfolding fold
@@ -112,12 +106,10 @@ unfolding fold
 join_none row table at = refl
 
 -- one block more, of the n words from i on
-pub block_joined : (row codes : List ℕ) (i n : ℕ) {x y : ℕ} → n ≡ 16 → i + 16 ≤ length row → i + 16 ≤ length codes → x ≡ join_code row codes 0 i → y ≡ words_met x (take n (drop i row)) (take n (drop i codes)) → y ≡ join_code row codes 0 (i + 16)
-block_joined row codes i n {x} {y} s l k d e =
+pub block_joined : (row codes : List ℕ) (i n : ℕ) {x y : ℕ} → n ≡ 16 → i + 16 ≤ length row → x ≡ join_code row codes 0 i → y ≡ words_met x (take n (drop i row)) (take n (drop i codes)) → y ≡ join_code row codes 0 (i + 16)
+block_joined row codes i n {x} {y} s l d e =
     let m : length (take n (drop i row)) ≡ n = length-take-le n (drop i row) (omega (arith, length-drop i row)) in
-    let m' : length (take n (drop i codes)) ≡ n = length-take-le n (drop i codes) (omega (arith, length-drop i codes)) in
-    e ∙ fold_pairs bit_or bit_and x (take n (drop i row)) (take n (drop i codes)) (omega arith)
-    ∙ ap (fold bit_or x (λ j. bit_and (get_or (take n (drop i row)) j 0) (get_or (take n (drop i codes)) j 0))) m
+    e ∙ ap (fold bit_or x (λ j. bit_and (get_or (take n (drop i row)) j 0) (get_or (take n (drop i codes)) j 0))) m
     ∙ fold_cong bit_or x _ _ n (λ j k. ap₂ bit_and (slice_word row i n j k) (slice_word codes i n j k ∙ ap (λ (m : ℕ). get_or codes m 0) (sym (zero-add (i + j)))))
     ∙ ap (λ (z : ℕ). fold bit_or z (λ j. bit_and (get_or row (i + j) 0) (get_or codes (0 + (i + j)) 0)) n) d
     ∙ fold_on bit_or 0 (λ k. bit_and (get_or row k 0) (get_or codes (0 + k) 0)) i n

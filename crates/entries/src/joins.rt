@@ -13,11 +13,17 @@ pub(crate) fn join_words(row: &[u64]) -> u64
     row.iter().fold(0, |x, y| x | *y)
 }
 
-// The join of x and the words of `row`, each met with the word of `codes` at its place.
+// The join of x and the words of `row`, each met with the word of `codes` at its place. A loop by places is worked two words at a time; a chain over
+// `zip` is not, and takes longer.
 pub fn join_met(x: u64, row: &[u64], codes: &[u64]) -> u64
+    requires { length row.now ≤ length codes.now }
     ensures { result ≡ words_met x row.now codes.now }
 {
-    row.iter().zip(codes).fold(x, |y, (r, c)| y | (*r & *c))
+    let mut y = x;
+    for (i, r) in row.iter().enumerate() {
+        y = y | (*r & codes[i]);
+    }
+    y
 }
 
 // Writes where the blocks of 16 words of `row` begin that are not all 0, and says how many there are. From place n on all words are 0.
@@ -61,10 +67,10 @@ fn end_in_block(x: u64, r: &Leaving, i: usize, codes: &[u64]) -> usize
     ensures { FirstTop r.now.top r.now.row.now codes.now 0 result }
 {
     let mut y = x;
-    for j in i..i + 16 {
-        y = y | (r.row[j] & codes[j]);
+    for j in 0..16usize {
+        y = y | (r.row[i + j] & codes[i + j]);
         if y == r.top {
-            return j + 1;
+            return i + j + 1;
         }
     }
     i + 16

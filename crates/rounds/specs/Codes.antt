@@ -16,7 +16,7 @@ use Rattle.elements.proofs.Folds.{decode_in_lem, code_of, negated_of, meet_of_le
 use Rattle.entries.specs.Table.{table_of}
 use Rattle.entries.specs.Words.{Rows, low_at, slice_word}
 use Rattle.entries.specs.Codes.{table_code, codes_of_table, inner_code, TableCoded, InnerCoded, inner_of}
-use Rattle.entries.specs.Joins.{words_met, fold_pairs}
+use Rattle.entries.specs.Joins.{words_met}
 use Rattle.rounds.specs.Table.{score_in}
 
 -- entry (q1, q2) of a table of codes that has 64 to a row, and of one that has 64 to a column
@@ -59,12 +59,11 @@ score_part w m₁ m₂ s q₁ =
 
 -- the join of one turn, from the codes of the initial values and those of a row of entries
 pub score_join : (w m₂ s : List ℕ) (q n : ℕ) (before : List ℕ) {right entries : List ℕ} {y : ℕ} → n ≡ get_or m₂ 0 0 → Filled (initial_code w m₂) (get_or m₂ 0 0) right → n ≤ length right → n ≤ length before
-    → entries ≡ written 0 (tab (λ i. code_in w (get_or (take (get_or m₂ 0 0) (drop (q * get_or m₂ 0 0) s)) i 0)) (get_or m₂ 0 0) 0) before → length entries ≡ n → y ≡ words_met 0 (take n right) entries
+    → entries ≡ written 0 (tab (λ i. code_in w (get_or (take (get_or m₂ 0 0) (drop (q * get_or m₂ 0 0) s)) i 0)) (get_or m₂ 0 0) 0) before → y ≡ words_met 0 (take n right) entries
     → y ≡ fold bit_or 0 (λ i. bit_and (initial_code w m₂ i) (codes_of_table w m₂ s q i)) (get_or m₂ 0 0)
-score_join w m₂ s q n before {right} {entries} g f l m e k u =
+score_join w m₂ s q n before {right} {entries} g f l m e u =
     let j : length (take n right) ≡ n = length-take-le n right l in
-    u ∙ fold_pairs bit_or bit_and 0 (take n right) entries (omega arith)
-    ∙ ap (fold bit_or 0 (λ i. bit_and (get_or (take n right) i 0) (get_or entries i 0))) (j ∙ g)
+    u ∙ ap (fold bit_or 0 (λ i. bit_and (get_or (take n right) i 0) (get_or entries i 0))) (j ∙ g)
     ∙ fold_cong bit_or 0 _ _ (get_or m₂ 0 0)
     (λ i h. ap₂ bit_and (get_or-take n right i 0 (omega arith) ∙ f.at i h)
     (low_at _ _ before e (omega arith) i h ∙ ap (code_in w) (slice_word s (q * get_or m₂ 0 0) (get_or m₂ 0 0) i h)))

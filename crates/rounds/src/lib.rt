@@ -6,8 +6,7 @@
 
 mod columns;
 
-ghost use Rattle.std.specs.Prelude.{◌≡◌, ℕ, ◌*◌, ◌≤◌, ◌<◌, not, eqb, count_by, length, get_or};
-ghost use Rattle.std.specs.List.{zip};
+ghost use Rattle.std.specs.Prelude.{◌≡◌, ℕ, ◌*◌, ◌≤◌, ◌<◌, length, get_or};
 ghost use Rattle.theory.specs.Lists.{Filled};
 ghost use Rattle.rounds.specs.Table.{Room, RowIn, score_in, post_fixed_in, bytes_differing};
 ghost use Rattle.rounds.specs.Round.{RoundIn};
@@ -159,20 +158,18 @@ pub fn is_post_fixed(a: &Algebra, t: &Table) -> bool
 
 // ---- lowerings
 
-// In how many places two lists of bytes differ.
-fn count_differing(a: &[u8], b: &[u8]) -> usize
-    ensures { (result ≡ count_by (λ p. not (eqb p.0 p.1)) (zip a.now b.now)) × (result ≤ length a.now) }
-{
-    a.iter().zip(b).filter(|(x, y)| **x != **y).count()
-}
-
-// In how many entries two tables with n1 rows of n2 entries differ.
+// In how many entries two tables with n1 rows of n2 entries differ. A loop by places compares many bytes at once; a chain over `zip` is not compiled so, and
+// takes ten times as long.
 pub fn differing(a: &[u8], b: &[u8], n1: usize, n2: usize) -> u32
     requires { (n1 * n2 ≤ 4096) × (n1 * n2 ≤ length a.now) × (n1 * n2 ≤ length b.now) }
     ensures { result ≡ bytes_differing a.now b.now n1 n2 }
 {
     let n = n1 * n2;
-    count_differing(&a[..n], &b[..n]) as u32
+    let mut c: usize = 0;
+    for i in 0..n {
+        c += usize::from(a[i] != b[i]);
+    }
+    c as u32
 }
 
 // ---- score

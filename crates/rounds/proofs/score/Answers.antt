@@ -19,7 +19,7 @@ loop-q-preserved c =
     let k = length-take-le {A = ℕ} c.states-n2.result (replicate 64 0) (omega (arith, m, c.states-n2.ensures)) in
     folded_more c.loop-q.invariant
     (ap₂ bit_or z
-    (score_join w t.models.second.bytes.now t.bytes.now c.loop-q.q _ _ c.states-n2.ensures c.initial_codes.ensures (omega (arith, m, c.states-n2.ensures)) (omega (arith, k)) e (omega (arith, k)) c.join_met-y.ensures))
+    (score_join w t.models.second.bytes.now t.bytes.now c.loop-q.q _ _ c.states-n2.ensures c.initial_codes.ensures (omega (arith, m, c.states-n2.ensures)) (omega (arith, k)) e c.join_met-y.ensures))
     refl
 
 pub returns : goal.returns

@@ -18,7 +18,7 @@ returns-then-y-r c =
       code_is = x;
       not_top = u.invariant.1;
       fits = λ d. t.fits i (omega arith);
-      reached = λ d. sym (block_joined r.row.now c.args.codes.now _ _ (omega arith) (omega (arith, r.long, t.fits i (omega arith))) (omega (arith, t.fits i (omega arith))) x c.join_met-y.ensures) ∙ c.if-y-r.true;
+      reached = λ d. sym (block_joined r.row.now c.args.codes.now _ _ (omega arith) (omega (arith, r.long, t.fits i (omega arith))) x c.join_met-y.ensures) ∙ c.if-y-r.true;
     }
 
 pub loop-start-preserved : goal.loop-start-preserved
@@ -28,7 +28,7 @@ loop-start-preserved c =
     let t = c.args.r.now.listed in
     let i = u.start-index in
     let x = u.invariant.0 ∙ sym (join_gap r.row.now c.args.codes.now 0 (t.gap i (omega arith))) in (
-      block_joined r.row.now c.args.codes.now _ _ (omega arith) (omega (arith, r.long, t.fits i (omega arith))) (omega (arith, t.fits i (omega arith))) x c.join_met-y.ensures
+      block_joined r.row.now c.args.codes.now _ _ (omega arith) (omega (arith, r.long, t.fits i (omega arith))) x c.join_met-y.ensures
           ∙ ap (join_code r.row.now c.args.codes.now 0) (sym (block_next r.starts.now i)),
       c.if-y-r.false,
     )
