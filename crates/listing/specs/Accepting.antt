@@ -1,28 +1,32 @@
 -- What the code of the listing knows of an accepted case. Rests on Text, Lines, Settling, Settled, Most and casefile's Caller.
---   accepted_case: a case that is answered so is accepted; model_over, whole_is: it can be valued, and the whole value found is that of its content
+--   accepted_case: a case that is answered so is accepted
+--   InCase: formula f and model m of a case; model_over, formula_on_model, whole_is: they can be valued, and the whole value found is that of its content
 --   FormulaFits, FormulasFit, PutsFormula, PutsFormulas: the terms of the contracts; formulas_fit, formulas_are, formulas_room: where the room comes from
 --   settleable: the models of the case can be settled, with room for the text; settled_part_lem: what is then written
---   all_written: what is written is the text of the case
+--   all_written, lists, lists_refused: what is written is the text of the case
 --   content_unique: a case has one content
 use Rattle.std.specs.Prelude.{ℕ, ◌+◌, ◌≤◌, ◌<◌, ◌≡◌, refl, true, List, Ok}
-use Rattle.std.proofs.Common.{◌∙◌, arith}
+use Rattle.std.proofs.Common.{sym, ◌∙◌, zero-add, arith, length-take-le}
 use Rattle.std.proofs.Math.Path.{ap}
 use Rattle.std.proofs.Math.ListN.{length}
 use Rattle.theory.specs.Value.{whole_value}
 use Rattle.elements.specs.declared.algebra.Algebra.{Algebra}
+use Rattle.refusal.specs.declared.Refusal.{Refusal}
 use Rattle.casefile.specs.declared.Sizes.{Sizes}
 use Rattle.casefile.specs.Directory.{part_at}
-use Rattle.casefile.specs.Reading.{Content, content, case_reading}
+use Rattle.casefile.specs.Reading.{Content, refused, content, case_reading}
 use Rattle.casefile.specs.Answer.{CaseAnswered}
 use Rattle.casefile.specs.Caller.{AcceptedCase}
 use Rattle.casefile.proofs.Caller.{when_accepted}
 use Rattle.entries.specs.declared.table.Models.{Models}
 use Rattle.valuer.specs.Values.{ModelOver, WholeValue}
-use Rattle.desk.proofs.CaseParts.{model_part, model_valued, formula_part}
+use Rattle.desk.specs.CaseParts.{FormulaOnModel}
+use Rattle.desk.proofs.CaseParts.{model_part, model_valued, formula_part, parts_formula_on_model}
 use Rattle.desk.specs.Refused.{is_model}
 use Rattle.desk.specs.Case.{ops, model1, model2, model_in, formula_in, round_in}
-use Rattle.listing.specs.Text.{each, formula_line, formulas_text, table_text, settled_round, accepted_text, listing_text}
+use Rattle.listing.specs.Text.{each, formula_line, formulas_text, table_text, refused_text, settled_round, accepted_text, listing_text, Lists}
 use Rattle.listing.specs.declared.writing.Text.{Text}
+use Rattle.listing.specs.Writing.{Wrote, wrote_within}
 use Rattle.listing.specs.Lines.{Room, Puts, puts_then, room_then}
 use Rattle.listing.specs.Settling.{Settleable, WroteSettled}
 use Rattle.listing.specs.Most.{table_most, text_most}
@@ -38,12 +42,24 @@ accepted_case {b} {z} {w} h = when_accepted b (Ok z) z w h refl
 
 -- ---- a formula's value on model 1 or 2
 
-module _ {b : List ℕ} {z : Sizes} {w : List ℕ} (a : AcceptedCase b z w) (f m : ℕ) (formula : f < z.formulas) (model : is_model m ≡ true) where
+-- formula f and model m of the case b, with its sizes z and the codes w
+pub record InCase (b : List ℕ) (z : Sizes) (w : List ℕ) (f m : ℕ) : Type 0 where
+  pub case : AcceptedCase b z w
+  pub formula : f < z.formulas
+  pub model : is_model m ≡ true
+
+module _ {b : List ℕ} {z : Sizes} {w : List ℕ} {f m : ℕ} (h : InCase b z w f m) where
+  abbrev held : Content
+  held = h.case.holds
+
   pub model_over : ModelOver w z.lattice (part_at b m)
-  model_over = record { coded = a.coded; shape = (model_part a m model).shape; valued = model_valued a m model }
+  model_over = record { coded = h.case.coded; shape = (model_part h.case m h.model).shape; valued = model_valued h.case m h.model }
+
+  pub formula_on_model : FormulaOnModel b f m
+  formula_on_model = parts_formula_on_model h.case f m h.formula h.model
 
   pub whole_is : (x : ℕ) → WholeValue w z.lattice (part_at b m) (part_at b (3 + f)) x → (c : Content) → case_reading b ≡ content c → x ≡ whole_value (ops c) (model_in c m) (formula_in c f)
-  whole_is x v c e = rw (← content_unique b a.holds c a.reads e) (rw ((model_part a m model).is, a.ops) at (v.is (formula_in a.holds f) (formula_part a f m formula model)))
+  whole_is x v c e = rw (← content_unique b held c h.case.reads e) (rw ((model_part h.case m h.model).is, h.case.ops) at (v.is (formula_in held f) (formula_part h.case f m h.formula h.model)))
 
 -- ---- the formulas' lines
 
@@ -100,3 +116,11 @@ module _ {b : List ℕ} {z : Sizes} {w : List ℕ} (a : AcceptedCase b z w) wher
   pub all_written : (t u v : Text) → Puts t settled_part u → PutsFormulas b u v → Puts t (listing_text b) v
   unfolding accepted_text
   all_written t u v p q = rw (listing_is b a.holds a.reads (settled_round a.holds) (settled_is_T a.holds a.sound)) (puts_then p (q a.holds a.reads))
+
+-- ---- the whole text
+
+pub lists : (b d e : List ℕ) (n : ℕ) → Wrote d 0 (listing_text b) e n → Lists b d e n
+lists b d e n w = record { count = w.next_is ∙ zero-add _; bytes = w.out_is; within = wrote_within w; first = sym (length-take-le n e (wrote_within w)) }
+
+pub lists_refused : (b d e : List ℕ) (n : ℕ) (f : Refusal) → case_reading b ≡ refused f → Wrote d 0 (refused_text f) e n → Lists b d e n
+lists_refused b d e n f r w = lists b d e n (rw r w)
