@@ -1,6 +1,7 @@
 -- What step does, from the row that it worked. Rests on desk_check's Held, desk's Moved, entries' Table and rounds' Table.
 --   case_row, case_row_differs, Workable, Comparable, Movable, differing_for, moved_by: the terms of the code's contracts
 --   row_out, row_differs: the same from two model parts; workable, movable: a held desk meets what these ask
+--   leaves: what a step gives, where the standing is known by an equation
 --   settled_step: a step of a settled desk
 --   into-first, into-second: a step that works a row into the first table, or into the second
 use Rattle.std.specs.Prelude.{ℕ, ◌*◌, ◌-◌, ◌≤◌, ◌<◌, ◌≡◌, Bool, true, false, ◌||◌, List, [], length, get_or, take}
@@ -17,14 +18,17 @@ use Rattle.casefile.specs.Directory.{part_count, part_at}
 use Rattle.casefile.specs.Conditions.{Placed}
 use Rattle.entries.specs.Table.{table_of, Shaped}
 use Rattle.rounds.specs.Table.{row_written, row_changed, bytes_differing}
-use Rattle.desk.specs.Desk.{Desk, Standing, Call, Reply, whole_table}
+use Rattle.desk.specs.Desk.{Desk, Standing, Call, whole_table}
 use Rattle.desk.specs.Case.{lattice_size, model1, model2, N1, N2, operator, table_size}
 use Rattle.desk.specs.View.{shown_table}
 use Rattle.desk.specs.Moved.{row_worked, changed_now, lowered_now, moved_on, worked, stepped, step_answer}
 use Rattle.desk.specs.Perform.{After, answer, moved, lent_after}
 use Rattle.desk.proofs.RefusedLaws.{in_store, perform_accepted}
+use Rattle.desk_check.specs.Read.{standing_of}
 use Rattle.desk_check.specs.Answer.{Does}
 use Rattle.desk_check.specs.Held.{HeldDesk}
+use Rattle.desk_moves.specs.declared.Stepped.{Stepped}
+use Rattle.desk_moves.specs.Answer.{step_reply, Leaves}
 
 -- row `row` of F of the table whole, in its place in other; and whether it differs from that of whole. For the codes w and the numbers l
 -- of a lattice, and the model parts m1 and m2
@@ -71,8 +75,9 @@ differing_for s whole other = bytes_differing whole other s.states1 s.states2
 abbrev pub moved_by : Bool → List ℕ → List ℕ → Standing → Standing
 moved_by differs whole other s = moved_on s.states1 (s.changed || differs) (differing_for s whole other) s
 
-settled_answer : (s : Standing) → s.settled ≡ true → step_answer s ≡ Reply.Settled s.round s.lowerings
-settled_answer s u = rw u
+-- the same, where the standing is known by an equation
+pub leaves : {s t : Standing} {r : Stepped} → t ≡ s → Leaves t r → Leaves s r
+leaves m a = record { standing = a.standing ∙ m; answer = a.answer ∙ ap step_answer m }
 
 module _ {d : Desk} {z : Sizes} {w : List ℕ} (h : HeldDesk d z w) where
   abbrev bytes : List ℕ
@@ -108,16 +113,13 @@ module _ {d : Desk} {z : Sizes} {w : List ℕ} (h : HeldDesk d z w) where
   abbrev after_step : Desk → After
   after_step e = record { reply = step_answer e.standing; desk = e; lent = [] }
 
-  abbrev unmoved : Reply → After
-  unmoved x = record { reply = x; desk = d; lent = [] }
-
   held_step : (e : Desk) → stepped h.case.holds d ≡ e → Does Call.Step d (step_answer e.standing) e
   unfolding answer moved lent_after
   held_step e p = perform_accepted Call.Step d h.case.holds (in_store Call.Step d h.case.holds refl h.unspoiled) ∙ ap after_step p
 
-  pub settled_step : d.standing.settled ≡ true → Does Call.Step d (Reply.Settled d.standing.round d.standing.lowerings) d
+  pub settled_step : {r : Stepped} → d.standing.settled ≡ true → Leaves d.standing r → Does Call.Step d (step_reply r.answer) (record { standing = standing_of r.standing; store = d.store; first = d.first; second = d.second })
   unfolding stepped
-  settled_step u = held_step d (ap (λ (b : Bool). cond b d (worked h.case.holds d)) u) ∙ ap unmoved (settled_answer d.standing u)
+  settled_step u m = rw (m.standing, m.answer) (held_step d (ap (λ (b : Bool). cond b d (worked h.case.holds d)) u))
 
   -- the row, in the desk's terms
   out_is : (out whole other : List ℕ) → out ≡ case_row w z.lattice bytes whole d.standing.row other → out ≡ row_written (model1 h.case.holds) (model2 h.case.holds) (operator h.case.holds) (table_of whole (N2 h.case.holds)) d.standing.row other
@@ -131,26 +133,26 @@ module _ {d : Desk} {z : Sizes} {w : List ℕ} (h : HeldDesk d z w) where
       → moved_on (N1 h.case.holds) (changed_now h.case.holds d) (lowered_now h.case.holds d) d.standing ≡ moved_by differs whole out d.standing
   standing-moved differs whole out p o e = rw (p, o, e, h.unspoiled.rules.size1, h.unspoiled.rules.size2)
 
-  -- a row was worked into `other`, which gives `out`, and the standing moved on: `differs`, `next` and x are what was said, left and answered
-  module _ (out : List ℕ) (differs : Bool) (next : Standing) (x : Reply) (u : d.standing.settled ≡ false) where
+  -- a row was worked into `other`, which gives `out`, and the standing moved on: `differs` and r are what was said and given
+  module _ (out : List ℕ) (differs : Bool) (r : Stepped) (u : d.standing.settled ≡ false) where
     abbrev RowWorked : List ℕ → List ℕ → Type 0
     RowWorked whole other = (out ≡ case_row w z.lattice bytes whole d.standing.row other) × (differs ≡ case_row_differs w z.lattice bytes whole d.standing.row)
 
     abbrev MovedFrom : List ℕ → Type 0
-    MovedFrom whole = (next ≡ moved_by differs whole out d.standing) × (x ≡ step_answer (moved_by differs whole out d.standing))
+    MovedFrom whole = Leaves (moved_by differs whole out d.standing) r
 
     -- the second table is whole, and the row is worked into the first
-    pub into-first : d.standing.second_whole ≡ true → RowWorked d.second d.first → MovedFrom d.second → Does Call.Step d x (record { standing = next; store = d.store; first = out; second = d.second })
+    pub into-first : d.standing.second_whole ≡ true → RowWorked d.second d.first → MovedFrom d.second → Does Call.Step d (step_reply r.answer) (record { standing = standing_of r.standing; store = d.store; first = out; second = d.second })
     unfolding stepped worked
     into-first v e m =
         let o = out_is out d.second d.first e.0 in
         let s = standing-moved differs d.second out (rw v) (rw v o) (rw v (differs_is differs d.second e.1)) in
-        rw (m.0, m.1) (held_step (record { standing = moved_by differs d.second out d.standing; store = d.store; first = out; second = d.second }) (rw (u, s, o, v)))
+        rw (m.standing, m.answer) (held_step (record { standing = moved_by differs d.second out d.standing; store = d.store; first = out; second = d.second }) (rw (u, s, o, v)))
 
     -- the first table is whole, and the row is worked into the second
-    pub into-second : d.standing.second_whole ≡ false → RowWorked d.first d.second → MovedFrom d.first → Does Call.Step d x (record { standing = next; store = d.store; first = d.first; second = out })
+    pub into-second : d.standing.second_whole ≡ false → RowWorked d.first d.second → MovedFrom d.first → Does Call.Step d (step_reply r.answer) (record { standing = standing_of r.standing; store = d.store; first = d.first; second = out })
     unfolding stepped worked
     into-second v e m =
         let o = out_is out d.first d.second e.0 in
         let s = standing-moved differs d.first out (rw v) (rw v o) (rw v (differs_is differs d.first e.1)) in
-        rw (m.0, m.1) (held_step (record { standing = moved_by differs d.first out d.standing; store = d.store; first = d.first; second = out }) (rw (u, s, o, v)))
+        rw (m.standing, m.answer) (held_step (record { standing = moved_by differs d.first out d.standing; store = d.store; first = d.first; second = out }) (rw (u, s, o, v)))

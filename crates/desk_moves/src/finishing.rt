@@ -1,20 +1,18 @@
 // The call that works the rows of the round that are left.
-ghost use Rattle.std.specs.Prelude.{◌≡◌, ◌<◌, get_or};
+ghost use Rattle.std.specs.Prelude.{◌<◌, get_or};
 ghost use Rattle.elements.specs.Words.{Coded};
 ghost use Rattle.casefile.specs.Directory.{part_at};
 ghost use Rattle.entries.specs.Table.{Shaped};
 ghost use Rattle.rounds.specs.Table.{Room};
 ghost use Rattle.rounds.specs.Rest.{RestIn};
-ghost use Rattle.desk.specs.Moved.{step_answer};
 ghost use Rattle.desk.specs.RoundLeft.{Finishes};
-ghost use Rattle.desk_check.specs.Read.{standing_of, desk_of};
+ghost use Rattle.desk_check.specs.Read.{desk_of};
 ghost use Rattle.desk_moves.specs.Answer.{step_reply};
-ghost use Rattle.desk_moves.specs.Stepped.{Workable, Movable};
-ghost use Rattle.desk_moves.specs.Finished.{round_by};
+ghost use Rattle.desk_moves.specs.Stepped.{Workable};
 
-use crate::stepping::{answer_of, either, lowered, next_round};
-use crate::{StepAnswer, Stepped};
-use desk_check::{Examined, STORE_LENGTH, Standing, examine};
+use crate::Stepped;
+use crate::stepping::{answered, next_round};
+use desk_check::{Desk, STORE_LENGTH, Standing};
 use elements::{Codes, Lattice};
 use model::State;
 
@@ -33,11 +31,10 @@ fn work_rows(
         from.0 other.old other.new result }
 {
     let n1 = model::states(m1);
-    let start = elements::index(from.0);
+    let start = usize::from(from.0);
     let mut changed = false;
     for q in start..n1 {
-        let c = rounds::row(w, l, m1, m2, whole, other, State(q as u8));
-        changed = changed | c;
+        changed |= rounds::row(w, l, m1, m2, whole, other, State(q as u8));
     }
     changed
 }
@@ -58,22 +55,9 @@ fn work_rest(
     let m1 = casefile::part(bytes, 1);
     let m2 = casefile::part(bytes, 2);
     if from.0 == 0 {
-        return rounds::round(w, l, m1, m2, whole, other);
-    }
-    work_rows(w, l, m1, m2, whole, other, from)
-}
-
-// What is given after the last row, where the rows that were left differed, or did not, and stand in the other table.
-fn round_done(s: Standing, differs: bool, whole: &[u8], other: &[u8]) -> Stepped
-    requires { Movable (standing_of s) whole.now other.now }
-    ensures { (standing_of result.standing ≡ round_by differs whole.now other.now (standing_of s))
-        × (step_reply result.answer ≡ step_answer (round_by differs whole.now other.now (standing_of s))) }
-{
-    let changed = either(s.changed, differs);
-    let next = next_round(s, changed, s.lowerings + lowered(true, s, whole, other));
-    Stepped {
-        standing: next,
-        answer: answer_of(next),
+        rounds::round(w, l, m1, m2, whole, other)
+    } else {
+        work_rows(w, l, m1, m2, whole, other, from)
     }
 }
 
@@ -83,26 +67,29 @@ pub fn finish_round(s: Standing, store: &[u8], first: &mut [u8], second: &mut [u
         (step_reply result.answer) (desk_of result.standing store.now first.new second.new) }
 {
     let mut w = [0u64; 128];
-    match examine(s, store, first, second, &mut w) {
-        Examined::Refused(f) => Stepped {
+    let d = Desk {
+        standing: s,
+        store,
+        first,
+        second,
+    };
+    match d.examine(&mut w) {
+        Err(f) => Stepped {
             standing: s,
-            answer: StepAnswer::Refused(f),
+            answer: Err(f),
         },
-        Examined::Held(z) => {
+        Ok(z) => {
             if s.settled {
-                return Stepped {
-                    standing: s,
-                    answer: StepAnswer::Settled(s.round, s.lowerings),
-                };
+                return answered(s);
             }
             let l = z.lattice;
             let bytes = &store[..STORE_LENGTH];
             if s.second_whole {
                 let differs = work_rest(&w, l, bytes, second, first, State(s.row));
-                return round_done(s, differs, second, first);
+                return answered(next_round(s, s.changed | differs, second, first));
             }
             let differs = work_rest(&w, l, bytes, first, second, State(s.row));
-            round_done(s, differs, first, second)
+            answered(next_round(s, s.changed | differs, first, second))
         }
     }
 }

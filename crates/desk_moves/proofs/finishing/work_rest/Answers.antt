@@ -10,7 +10,6 @@ use Rattle.elements.specs.declared.Lattice.{Lattice}
 use Rattle.rounds.specs.Table.{Room}
 use Rattle.rounds.specs.Round.{RoundIn}
 use Rattle.rounds.specs.Rest.{RestIn, round_rest}
-use borrow.Author.Rules.{rules}
 use Rattle.desk_moves.proofs.finishing.work_rest.Goals as goal
 
 module _ (w : List ℕ) (l : Lattice) (q : ℕ) (whole other out : List ℕ) (r : Bool) {m1 m2 p1 p2 : List ℕ} (e : m1 ≡ p1) (f : m2 ≡ p2) where
@@ -37,6 +36,6 @@ work_rows-requires c =
     let p = c.requires in
     rw (c.part-m1.ensures, c.part-m2.ensures) (p.coded, p.shaped, p.room, omega (arith, p.row_below))
 
-pub returns : goal.returns
-returns c =
+pub returns-else-from-eq0 : goal.returns-else-from-eq0
+returns-else-from-eq0 c =
     rest-of-parts c.args.w.now c.args.l c.args.from.0 c.args.whole.now c.args.other.now _ _ c.part-m1.ensures c.part-m2.ensures c.work_rows.ensures

@@ -1,11 +1,9 @@
 use mathlib.Core.Path.{◌≡◌}
 use Prim.Native.Nat.{◌≤◌, ◌-◌}
-use native.Mathlib.Omega.{arith}
 use lib.ListN.{get_or}
 use Rattle.theory.specs.Part.{model_of}
 use Rattle.entries.specs.Table.{table_of, FIn}
-use Rattle.rounds.specs.Rest.{RestSoFar, rest_none, rest_more, rest_done}
-use borrow.Author.Rules.{rules}
+use Rattle.rounds.specs.Rest.{RestSoFar}
 use Rattle.desk_moves.proofs.finishing.work_rows.Given as goal
 
 abbrev pub invariant-loop-q : goal.invariant-loop-q

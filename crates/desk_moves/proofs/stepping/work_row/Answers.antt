@@ -7,7 +7,6 @@ use mathlib.Core.List.{List}
 use Rattle.elements.specs.declared.Lattice.{Lattice}
 use Rattle.desk_moves.specs.Stepped.{row_out, row_differs}
 use native.Mathlib.Omega.{arith}
-use borrow.Author.Rules.{rules}
 use Rattle.desk_moves.proofs.stepping.work_row.Goals as goal
 
 row-of-parts : (w : List ℕ) (l : Lattice) (row : ℕ) (whole other out : List ℕ) (r : Bool) {m1 m2 p1 p2 : List ℕ} → m1 ≡ p1 → m2 ≡ p2 → (out ≡ row_out w l m1 m2 whole row other) × (r ≡ row_differs w l m1 m2 whole row) → (out ≡ row_out w l p1 p2 whole row other) × (r ≡ row_differs w l p1 p2 whole row)
