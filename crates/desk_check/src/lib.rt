@@ -36,13 +36,13 @@ pub struct Standing {
     pub lowerings: u32,
 }
 
-// A desk: its standing, its store and its two tables.
+// A desk: its standing, its store and its two tables. The store's lifetime is its own, since what show gives is a part of a table.
 #[derive(Clone, Copy)]
-pub struct Desk<'a> {
+pub struct Desk<'s, 't> {
     pub standing: Standing,
-    pub store: &'a [u8],
-    pub first: &'a [u8],
-    pub second: &'a [u8],
+    pub store: &'s [u8],
+    pub first: &'t [u8],
+    pub second: &'t [u8],
 }
 
 // N1·N2, the entries of a table.
@@ -92,7 +92,7 @@ impl Standing {
     }
 }
 
-impl<'a> Desk<'a> {
+impl<'s, 't> Desk<'s, 't> {
     // The store or a table is shorter than a desk wants.
     pub fn too_short(self) -> bool
         ensures { result ≡ too_short self.entry.store.now self.entry.first.now self.entry.second.now }
@@ -142,7 +142,7 @@ impl<'a> Desk<'a> {
     }
 
     // The table that is shown: the whole one.
-    pub fn whole_table(self) -> &'a [u8]
+    pub fn whole_table(self) -> &'t [u8]
         ensures { result.now ≡ cond self.entry.standing.second_whole self.entry.second.now self.entry.first.now }
     {
         if self.standing.second_whole {

@@ -8,7 +8,7 @@ use elements::Element;
 use refusal::Refusal;
 
 // The first N1·N2 bytes of the whole table; an empty part where the desk is refused.
-pub fn show<'a>(d: Desk<'a>) -> &'a [u8]
+pub fn show<'s, 't>(d: Desk<'s, 't>) -> &'t [u8]
     ensures { Reads Call.Show (desk_in d.entry) (Reply.Shown result.now) }
 {
     let mut w = [0u64; 128];
