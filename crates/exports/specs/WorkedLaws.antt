@@ -1,7 +1,7 @@
 -- The export of one entry answers so, from what the code found. Rests on Worked, desk's Refused and RefusedLaws, desk_check's Answer and Held,
 -- entries' Table and theory's PairLaws.
 --   worked, worked_refused, worked_outside, worked_entry_lem: the three answers; state_below: a state is below the model's count; pairs_fit: 32 bits hold the count
-use Rattle.std.specs.Prelude.{ℕ, ◌≤◌, ◌<◌, ◌≡◌, refl, true, false, ◌&&◌, List, ltb, get_or, take}
+use Rattle.std.specs.Prelude.{ℕ, ◌≤◌, ◌<◌, ◌≡◌, refl, true, false, ◌&&◌, List, ltb, get_or, take, Err}
 use Rattle.std.proofs.Common.{sym, ap, ap₂, ◌∙◌, arith, ltb-true}
 use Rattle.theory.specs.Part.{model_of}
 use Rattle.theory.proofs.PairLaws.{pairs_most}
@@ -17,8 +17,6 @@ use Rattle.desk.specs.Desk.{Desk, Call, whole_table}
 use Rattle.desk.specs.Case.{N1, N2}
 use Rattle.desk.specs.Refused.{examined}
 use Rattle.desk.proofs.RefusedLaws.{in_store}
-use Rattle.desk_check.specs.declared.Examined.{Examined}
-use Rattle.desk_check.specs.declared.Examined.TheVariants.{Refused}
 use Rattle.desk_check.specs.Answer.{examined_answer, DeskExamined}
 use Rattle.desk_check.specs.Held.{HeldDesk, few, show-examined}
 use Rattle.exports.specs.declared.WorkedEntry.{WorkedEntry}
@@ -28,10 +26,10 @@ use Rattle.exports.specs.Worked.{refused_entry, worked_entry}
 abbrev pub worked : ℕ → ℕ → WorkedEntry
 worked e n = record { number = 0; part = 0; value = e; pairs = n }
 
-pub worked_refused : (q₁ q₂ : ℕ) (d : Desk) (r : Examined) (f : Refusal) (w : List ℕ) → DeskExamined d r w → r ≡ Refused f → refused_entry f ≡ worked_entry q₁ q₂ d (examined Call.Show d)
-worked_refused q₁ q₂ d r f w a e = go (examined Call.Show d) (sym e ∙ a.answer ∙ sym (ap examined_answer (show-examined d)))
+pub worked_refused : (q₁ q₂ : ℕ) {d : Desk} {f : Refusal} {w : List ℕ} → DeskExamined d (Err f) w → refused_entry f ≡ worked_entry q₁ q₂ d (examined Call.Show d)
+worked_refused q₁ q₂ {d} {f} {w} a = go (examined Call.Show d) (a.answer ∙ sym (ap examined_answer (show-examined d)))
   where
-    go : (x : CaseReading) → Refused f ≡ examined_answer x → refused_entry f ≡ worked_entry q₁ q₂ d x
+    go : (x : CaseReading) → Err f ≡ examined_answer x → refused_entry f ≡ worked_entry q₁ q₂ d x
     go (refused r) e = let q : f ≡ r = cc in rw q
     go (content c) e = absurd (let z : ◌≡◌ {A = ℕ} 0 1 = cc in omega arith)
 

@@ -1,5 +1,5 @@
 // One entry of the next round, with the pairs that working it looks at. It is no call of document 01.
-ghost use Rattle.std.specs.Prelude.{◌≡◌, ◌&&◌, ◌<◌, ltb, get_or};
+ghost use Rattle.std.specs.Prelude.{◌≡◌, ◌<◌, get_or};
 ghost use Rattle.casefile.specs.Directory.{part_at};
 ghost use Rattle.entries.specs.Table.{EntryIs};
 ghost use Rattle.desk.specs.Desk.{Call};
@@ -9,7 +9,7 @@ ghost use Rattle.desk_questions.specs.Questions.{Readable};
 ghost use Rattle.exports.specs.Worked.{refused_entry, worked_entry};
 
 use crate::WorkedEntry;
-use desk_check::{Examined, STORE_LENGTH, Standing};
+use desk_check::{Desk, STORE_LENGTH, Standing};
 use elements::{Codes, Lattice};
 use entries::Entry;
 use model::State;
@@ -25,16 +25,6 @@ fn refused_entry(f: Refusal) -> WorkedEntry
         value: 0,
         pairs: 0,
     }
-}
-
-// q1 is below n1 and q2 below n2.
-fn is_below(q1: u8, n1: u8, q2: u8, n2: u8) -> bool
-    ensures { result ≡ (ltb q1 n1 && ltb q2 n2) }
-{
-    if n1 <= q1 {
-        return false;
-    }
-    q2 < n2
 }
 
 // The entry of the table `whole`, for the models of the case in `bytes`.
@@ -62,21 +52,24 @@ pub extern "C" fn koelchair_entry<'a>(
         (examined Call.Show (desk_of s store.now first.now second.now)) }
 {
     let mut w = [0u64; 128];
-    match desk_check::examine(s, store, first, second, &mut w) {
-        Examined::Refused(f) => refused_entry(f),
-        Examined::Held(z) => {
-            let l = z.lattice;
-            if !is_below(q1, z.states1, q2, z.states2) {
+    let d = Desk {
+        standing: s,
+        store,
+        first,
+        second,
+    };
+    match d.examine(&mut w) {
+        Err(f) => refused_entry(f),
+        Ok(z) => {
+            if z.states1 <= q1 || z.states2 <= q2 {
                 return refused_entry(Refusal::OutOfRange);
             }
             let bytes = &store[..STORE_LENGTH];
-            let whole = desk_questions::whole_table(s.second_whole, first, second);
-            let e = entry_in(&w, l, bytes, whole, q1, q2);
-            let value = e.value;
+            let e = entry_in(&w, z.lattice, bytes, d.whole_table(), q1, q2);
             WorkedEntry {
                 number: 0,
                 part: 0,
-                value: value.0,
+                value: e.value.0,
                 pairs: e.pairs as u32,
             }
         }
