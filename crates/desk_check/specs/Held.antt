@@ -1,16 +1,21 @@
 -- What a call knows of a desk that is held, how the examination gets its answer, and what a call does after it.
 -- Rests on Answer, casefile's Caller, and desk's RefusedLaws.
---   HeldDesk, when_held: what is known of a desk that is held
+--   Stored, ModelsOf, HeldDesk, when_held: what is known of a desk that is held, of its store and of the models in it
 --   held_shown, held_question, held_outside, Refuses, refused_call: what a call does that is answered, refused for its conditions, or by the examination
 --   case_few, few: N1·N2 is at most 4,096; table_obeys_lem: the test of a table's bytes, from that of the code
 --   short-examined, unread_examined, spoiled-examined, held-examined: the four answers of the examination
 --   show-examined: the examination of show is that of step
-use Rattle.std.specs.Prelude.{ℕ, ◌+◌, ◌*◌, ◌≤◌, ◌≡◌, Bool, true, false, cond, List, ltb, take, get_or, Ok, Err}
+use Rattle.std.specs.Prelude.{ℕ, ◌+◌, ◌*◌, ◌≤◌, ◌≡◌, Bool, true, false, cond, List, ltb, length, take, get_or, Ok, Err}
 use Rattle.std.proofs.Math.Path.{refl, ap}
-use Rattle.std.proofs.Common.{sym, ◌∙◌, zero-add, arith}
+use Rattle.std.proofs.Common.{sym, ◌∙◌, length-take-le, arith}
 use Rattle.std.proofs.Math.Option.{none, some}
-use Rattle.theory.specs.Test.{all_below}
+use Rattle.std.specs.List.{list_all}
+use Rattle.std.proofs.lemmas.List.{get_or-take}
+use Rattle.theory.proofs.Parts.{list_all_below}
 use Rattle.theory.specs.TestLaws.{all_cong}
+use Rattle.theory.specs.Part.{ModelShape}
+use Rattle.casefile.specs.Directory.{part_count, part_at}
+use Rattle.casefile.specs.Conditions.{Placed}
 use Rattle.refusal.specs.declared.Refusal.{Refusal}
 use Rattle.refusal.specs.declared.Refusal.TheVariants.{ShortDesk, SpoiledDesk}
 use Rattle.casefile.specs.declared.Sizes.{Sizes}
@@ -32,10 +37,36 @@ use Rattle.desk_check.specs.Answer.{examined_answer, DeskExamined, Does, DoesWit
 
 -- ---- after the answer that the desk is held with the sizes z, and the codes w
 
+-- what is known of the store: the case in it, and its two models
+pub record Stored (s : List ℕ) : Type 0 where
+  pub long : 24576 ≤ length s
+  pub placed : Placed (take 24576 s)
+  pub parts : 3 ≤ part_count (take 24576 s)
+  pub first : ModelShape (part_at (take 24576 s) 1)
+  pub second : ModelShape (part_at (take 24576 s) 2)
+  pub same_propositions : get_or (part_at (take 24576 s) 1) 1 0 ≡ get_or (part_at (take 24576 s) 2) 1 0
+
+-- these are its two models
+pub record ModelsOf (s m1 m2 : List ℕ) : Type 0 where
+  pub first : m1 ≡ part_at (take 24576 s) 1
+  pub second : m2 ≡ part_at (take 24576 s) 2
+
+stored : {s : List ℕ} {z : Sizes} {w : List ℕ} → 24576 ≤ length s → AcceptedCase (take 24576 s) z w → Stored s
+stored l a =
+    record {
+      long = l;
+      placed = a.placed;
+      parts = a.parts.least;
+      first = rw a.parts.model1 a.sound.shape1;
+      second = rw a.parts.model2 a.sound.shape2;
+      same_propositions = rw (a.parts.model1, a.parts.model2) a.sound.same_propositions;
+    }
+
 pub record HeldDesk (d : Desk) (z : Sizes) (w : List ℕ) : Type 0 where
   pub case : AcceptedCase (take 24576 d.store) z w
   pub unspoiled : Unspoiled d case.holds
   pub lengths : Long d
+  pub store : Stored d.store
 
 pub when_held : {d : Desk} {z : Sizes} {w : List ℕ} → DeskExamined d (Ok z) w → HeldDesk d z w
 unfolding accepted_as
@@ -46,7 +77,9 @@ when_held {d} {z} {w} a = go (examined Call.Step d) refl a.answer
     go (content c) e h =
         let q : z ≡ sizes_of c = cc in
         let u = (other_accepted Call.Step d c refl e).held in
-        record { case = accepted_as (take 24576 d.store) c z w u.rules.reads q (a.codes c e); unspoiled = u; lengths = long-enough d u.long }
+        let k = accepted_as (take 24576 d.store) c z w u.rules.reads q (a.codes c e) in
+        let l = long-enough d u.long in
+        record { case = k; unspoiled = u; lengths = l; store = stored l.store_long k }
 
 -- a table has at most 4,096 entries
 pub case_few : {b : List ℕ} {z : Sizes} {w : List ℕ} → AcceptedCase b z w → z.states1 * z.states2 ≤ 4096
@@ -55,9 +88,10 @@ case_few a = rw a.sizes a.sound.entries_most
 pub few : {d : Desk} {z : Sizes} {w : List ℕ} → HeldDesk d z w → z.states1 * z.states2 ≤ 4096
 few h = case_few h.case
 
--- a table's bytes are tested from place 0 on
-pub table_obeys_lem : (table : List ℕ) (m count n : ℕ) (r : Bool) → r ≡ all_below m (λ i. ltb (get_or table (0 + i) 0) n) → m ≡ count → r ≡ table_obeys count n table
-table_obeys_lem table m count n r e q = e ∙ all_cong m _ _ (λ i l. ap (λ (j : ℕ). ltb (get_or table j 0) n) (zero-add i)) ∙ ap (λ (k : ℕ). table_obeys k n table) q
+-- the test of a table's first bytes
+pub table_obeys_lem : (table : List ℕ) (m n : ℕ) → m ≤ length table → list_all (λ x. ltb x n) (take m table) ≡ table_obeys m n table
+table_obeys_lem table m n l =
+    list_all_below (λ x. ltb x n) (take m table) ∙ rw (length-take-le m table l) (all_cong m _ _ (λ i k. rw (get_or-take m table i 0 k)))
 
 -- show and a question on a desk that is held: answered, or refused for the first of its conditions that is broken
 module _ {d : Desk} {z : Sizes} {w : List ℕ} (h : HeldDesk d z w) where

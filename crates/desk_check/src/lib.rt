@@ -1,15 +1,17 @@
 // The standing, and the examination that every call but open makes before its own arguments.
 #![tactic(auto)]
 
-ghost use Rattle.std.specs.Prelude.{◌≡◌, ◌*◌, ◌-◌, ◌≤◌, ◌<◌, cond, length, IfOk, IfErr};
+ghost use Rattle.std.specs.Prelude.{◌≡◌, ◌*◌, ◌-◌, ◌≤◌, ◌<◌, cond, length, take, IfOk, IfErr};
 ghost use Rattle.desk_check.specs.Read.{standing_of, desk_in};
 ghost use Rattle.desk_check.specs.Answer.{rules_of, examined_answer, DeskExamined};
-ghost use Rattle.desk_check.specs.Held.{HeldDesk, Refuses};
+ghost use Rattle.desk_check.specs.Held.{Stored, ModelsOf, HeldDesk, Refuses};
 ghost use Rattle.desk.specs.Desk.{Call};
-ghost use Rattle.desk.specs.Refused.{too_short, row_obeys, round_obeys, standing_obeys, examined};
+ghost use Rattle.desk.specs.Refused.{too_short, row_obeys, round_obeys, standing_obeys, table_obeys, examined};
 
-use casefile::{CaseCheck, Sizes};
+use casefile::{Case, Sizes};
 use elements::Codes;
+use entries::Models;
+use model::Model;
 use refusal::Refusal;
 
 // How many bytes a store and a table have at least.
@@ -50,6 +52,14 @@ pub fn table_size(z: Sizes) -> usize
     ensures { (result ≡ z.states1 * z.states2) × (result < 65536) }
 {
     usize::from(z.states1) * usize::from(z.states2)
+}
+
+// The first `count` bytes of a table are below n.
+pub fn table_obeys(table: &[u8], count: usize, n: u8) -> bool
+    requires { count ≤ length table.now }
+    ensures { result ≡ table_obeys count n table.now }
+{
+    elements::below(&table[..count], n)
 }
 
 // N1·N2·(n − 1).
@@ -110,20 +120,20 @@ impl<'s, 't> Desk<'s, 't> {
         let n = z.lattice.size;
         let count = table_size(z);
         self.standing.obeys(z.states1, z.states2, n)
-            && elements::below(self.first, 0, count, n)
-            && elements::below(self.second, 0, count, n)
+            && table_obeys(self.first, count, n)
+            && table_obeys(self.second, count, n)
     }
 
     // The examination that every call but open makes: 11, 12, or what the store holds. The codes of the lattice of a held desk are left in w.
     pub fn examine(self, w: &mut Codes) -> Result<Sizes, Refusal>
-        ensures examined { DeskExamined (desk_in self.entry) result w.new }
-        ensures held { IfOk result (λ z. HeldDesk (desk_in self.entry) z w.new) }
+        ensures examined { DeskExamined (desk_in self.entry) result w.new.words }
+        ensures held { IfOk result (λ z. HeldDesk (desk_in self.entry) z w.new.words) }
         ensures refused { IfErr result (λ f. Refuses (desk_in self.entry) f) }
     {
         if self.too_short() {
             return Err(Refusal::ShortDesk);
         }
-        let CaseCheck::Accepted(z) = casefile::check(&self.store[..STORE_LENGTH], w) else {
+        let Ok(z) = casefile::check(&self.store[..STORE_LENGTH], w) else {
             return Err(Refusal::SpoiledDesk);
         };
         if self.obeys(z) {
@@ -137,8 +147,33 @@ impl<'s, 't> Desk<'s, 't> {
     pub fn sizes(self) -> Result<Sizes, Refusal>
         ensures { result ≡ examined_answer (examined Call.Show (desk_in self.entry)) }
     {
-        let mut w = [0u64; 128];
+        let mut w = Codes::new();
         self.examine(&mut w)
+    }
+
+    // The case in the store of a held desk.
+    pub fn case(self) -> Case<'s>
+        requires { Stored self.store.now }
+        ensures { result.bytes.now ≡ take 24576 self.entry.store.now }
+    {
+        Case {
+            bytes: &self.store[..STORE_LENGTH],
+        }
+    }
+
+    // Its two models.
+    pub fn models(self) -> Models<'s>
+        requires { Stored self.store.now }
+        ensures { ModelsOf self.entry.store.now result.first.bytes.now result.second.bytes.now }
+    {
+        let case = self.case();
+        let first = Model {
+            bytes: case.part(1),
+        };
+        let second = Model {
+            bytes: case.part(2),
+        };
+        Models { first, second }
     }
 
     // The table that is shown: the whole one.

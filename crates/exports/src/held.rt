@@ -36,8 +36,8 @@ pub extern "C" fn koelchair_sizes(
     };
     match d.sizes() {
         Err(f) => DeskSizes {
-            number: refusal::number(f),
-            part: refusal::part(f),
+            number: f.number(),
+            part: f.part(),
             ..UNUSED
         },
         Ok(z) => DeskSizes {

@@ -27,8 +27,8 @@ fn refused(f: Refusal) -> Answer
     ensures { result ≡ numbers (number_reply f) }
 {
     Answer {
-        number: refusal::number(f),
-        part: refusal::part(f),
+        number: f.number(),
+        part: f.part(),
         ..UNUSED
     }
 }

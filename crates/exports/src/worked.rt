@@ -20,8 +20,8 @@ fn refused_entry(f: Refusal) -> WorkedEntry
     ensures { result ≡ refused_entry f }
 {
     WorkedEntry {
-        number: refusal::number(f),
-        part: refusal::part(f),
+        number: f.number(),
+        part: f.part(),
         value: 0,
         pairs: 0,
     }

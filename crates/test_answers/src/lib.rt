@@ -39,7 +39,7 @@ pub fn valued(rt: &impl Print, a: Result<Valued, Refusal>) -> io::Result<()> {
         Err(r) => refused(rt, r),
         Ok(v) => {
             print!(rt; " {}", v.value.0)?;
-            test_printing::facts(rt, v.facts.nesting, v.facts.fixpoint, v.facts.ex)
+            test_printing::facts(rt, v.facts)
         }
     }
 }

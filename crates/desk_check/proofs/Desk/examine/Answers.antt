@@ -29,7 +29,7 @@ slice_bounds-check-end c = omega (arith, length-take-le 24576 c.args.self.store.
 pub obeys-requires : goal.obeys-requires
 obeys-requires c =
     let e = lengths (goal.at.obeys-requires c).Else-too_short in
-    let f = case_few (when_accepted _ _ _ _ c.check.ensures c.in-Accepted.is) in
+    let f = case_few (when_accepted _ _ _ _ c.check.ensures c.in-Ok.is) in
     (omega (arith, f, e.first_long), omega (arith, f, e.second_long))
 
 pub returns-in_default : goal.returns-in_default
@@ -40,11 +40,11 @@ returns-in_default c =
 pub returns-then-obeys : goal.returns-then-obeys
 unfolding rules_obeyed
 returns-then-obeys c =
-    let e = held-examined _ _ _ (not_short (goal.at.returns-then-obeys c).Else-too_short) (when_accepted _ _ _ _ c.check.ensures c.in-Accepted.is) _ c.obeys.ensures c.if-obeys.true in
+    let e = held-examined _ _ _ (not_short (goal.at.returns-then-obeys c).Else-too_short) (when_accepted _ _ _ _ c.check.ensures c.in-Ok.is) _ c.obeys.ensures c.if-obeys.true in
     record { examined = e; held = when_held e; refused = tt }
 
 pub returns-else-obeys : goal.returns-else-obeys
 unfolding rules_obeyed
 returns-else-obeys c =
-    let e = spoiled-examined _ _ _ (not_short (goal.at.returns-else-obeys c).Else-too_short) (when_accepted _ _ _ _ c.check.ensures c.in-Accepted.is) _ c.obeys.ensures c.if-obeys.false in
+    let e = spoiled-examined _ _ _ (not_short (goal.at.returns-else-obeys c).Else-too_short) (when_accepted _ _ _ _ c.check.ensures c.in-Ok.is) _ c.obeys.ensures c.if-obeys.false in
     record { examined = e; held = tt; refused = refused_call e }
