@@ -2,7 +2,7 @@
 -- Rests on Answer, casefile's Caller, and desk's RefusedLaws.
 --   Stored, ModelsOf, HeldDesk, when_held: what is known of a desk that is held, of its store and of the models in it
 --   held_shown, held_question, held_outside, Refuses, refused_call: what a call does that is answered, refused for its conditions, or by the examination
---   case_few, few: N1·N2 is at most 4,096; table_obeys_lem: the test of a table's bytes, from that of the code
+--   case_few, few: N1·N2 is at most 4,096; entries_held: a table has room for the entries of the models; table_obeys_lem: the test of a table's bytes, from that of the code
 --   short-examined, unread_examined, spoiled-examined, held-examined: the four answers of the examination
 --   show-examined: the examination of show is that of step
 use Rattle.std.specs.Prelude.{ℕ, ◌+◌, ◌*◌, ◌≤◌, ◌≡◌, Bool, true, false, cond, List, ltb, length, take, get_or, Ok, Err}
@@ -95,6 +95,10 @@ table_obeys_lem table m n l =
 
 -- show and a question on a desk that is held: answered, or refused for the first of its conditions that is broken
 module _ {d : Desk} {z : Sizes} {w : List ℕ} (h : HeldDesk d z w) where
+  -- a table has room for the entries of the models
+  pub entries_held : {m1 m2 : List ℕ} (table : List ℕ) → ModelsOf d.store m1 m2 → z.states1 * z.states2 ≤ length table → get_or m1 0 0 * get_or m2 0 0 ≤ length table
+  entries_held table m p = rw (m.first, m.second, h.case.parts.model1, h.case.parts.model2) (rw h.case.sizes at p)
+
   abbrev pub held_view : View
   held_view = view_of h.case.holds d
 

@@ -5,8 +5,9 @@ ghost use Rattle.desk_check.specs.Answer.{Does};
 ghost use Rattle.desk_moves.specs.Answer.{open_reply};
 
 use crate::Opened;
-use casefile::CaseCheck;
+use casefile::Case;
 use desk_check::{Desk, Standing, table_size};
+use elements::Codes;
 use refusal::Refusal;
 
 // Takes a case, and makes the desk anew: unsettled, at round 0 and next row 0, both tables top.
@@ -32,16 +33,17 @@ pub fn open(
             answer: Err(Refusal::ShortDesk),
         };
     }
-    let mut w = [0u64; 128];
+    let mut w = Codes::new();
     match casefile::check(case, &mut w) {
-        CaseCheck::Refused(f) => Opened {
+        Err(f) => Opened {
             standing: s,
             answer: Err(f),
         },
-        CaseCheck::Accepted(z) => {
+        Ok(z) => {
             let n = table_size(z);
             let top = z.lattice.top.0;
-            casefile::write(case, store);
+            let taken = Case { bytes: case };
+            taken.write(store);
             first[..n].fill(top);
             second[..n].fill(top);
             Opened {

@@ -5,23 +5,13 @@ ghost use Rattle.desk.specs.Moved.{next_round, step_answer};
 ghost use Rattle.desk_check.specs.Read.{standing_of, desk_of};
 ghost use Rattle.desk_check.specs.Answer.{Does};
 ghost use Rattle.desk_moves.specs.Answer.{progress_reply, step_reply, Leaves};
-ghost use Rattle.desk_moves.specs.Stepped.{case_row, case_row_differs, Workable, Movable, differing_for, moved_by};
+ghost use Rattle.desk_moves.specs.Stepped.{Movable, differing_for, moved_by};
 
 use crate::{Progress, Stepped};
-use desk_check::{Desk, STORE_LENGTH, Standing};
-use elements::{Codes, Lattice};
+use desk_check::{Desk, Standing};
+use elements::{Algebra, Codes};
+use entries::Table;
 use model::State;
-
-// Works a row of F of the whole table into the other; says whether it differs from the whole table's.
-fn work_row(w: &Codes, l: Lattice, bytes: &[u8], whole: &[u8], other: &mut [u8], row: State) -> bool
-    requires { Workable w.now l bytes.now whole.now other.old row.0 }
-    ensures { (other.new ≡ case_row w.now l bytes.now whole.now row.0 other.old)
-        × (result ≡ case_row_differs w.now l bytes.now whole.now row.0) }
-{
-    let m1 = casefile::part(bytes, 1);
-    let m2 = casefile::part(bytes, 2);
-    rounds::row(w, l, m1, m2, whole, other, row)
-}
 
 // The standing after the last row of a round that has changed something, or has not: the entries in which the two tables differ are counted.
 pub fn next_round(s: Standing, changed: bool, whole: &[u8], other: &[u8]) -> Standing
@@ -86,7 +76,7 @@ pub fn step(s: Standing, store: &[u8], first: &mut [u8], second: &mut [u8]) -> S
     ensures { Does Call.Step (desk_of s store.now first.old second.old)
         (step_reply result.answer) (desk_of result.standing store.now first.new second.new) }
 {
-    let mut w = [0u64; 128];
+    let mut w = Codes::new();
     let d = Desk {
         standing: s,
         store,
@@ -102,13 +92,25 @@ pub fn step(s: Standing, store: &[u8], first: &mut [u8], second: &mut [u8]) -> S
             if s.settled {
                 return answered(s);
             }
-            let l = z.lattice;
-            let bytes = &store[..STORE_LENGTH];
+            let algebra = Algebra {
+                codes: &w,
+                lattice: z.lattice,
+            };
+            let models = d.models();
+            let row = State(s.row);
             if s.second_whole {
-                let differs = work_row(&w, l, bytes, second, first, State(s.row));
+                let whole = Table {
+                    models,
+                    bytes: second,
+                };
+                let differs = rounds::row(&algebra, &whole, first, row);
                 return answered(moved_on(s, differs, second, first));
             }
-            let differs = work_row(&w, l, bytes, first, second, State(s.row));
+            let whole = Table {
+                models,
+                bytes: first,
+            };
+            let differs = rounds::row(&algebra, &whole, second, row);
             answered(moved_on(s, differs, first, second))
         }
     }

@@ -6,8 +6,9 @@ ghost use Rattle.desk_questions.specs.Answer.{Asks, value_reply};
 ghost use Rattle.desk_questions.specs.Questions.{range_test};
 
 use crate::Valued;
-use desk_check::{Desk, STORE_LENGTH};
-use model::State;
+use desk_check::Desk;
+use elements::{Algebra, Codes};
+use model::{Model, State};
 use refusal::Refusal;
 
 // There is a formula f, and m is 1 or 2.
@@ -21,17 +22,23 @@ fn in_range(f: u8, m: u8, formulas: u8) -> bool
 pub fn whole(d: Desk, f: u8, m: u8) -> Result<Valued, Refusal>
     ensures { Asks (Question.Whole f m) (desk_in d.entry) (value_reply result) }
 {
-    let mut w = [0u64; 128];
+    let mut w = Codes::new();
     let z = d.examine(&mut w)?;
     if !in_range(f, m, z.formulas) {
         return Err(Refusal::OutOfRange);
     }
-    let bytes = &d.store[..STORE_LENGTH];
-    let model = casefile::part(bytes, m);
-    let formula = casefile::part(bytes, 3 + f);
+    let case = d.case();
+    let model = Model {
+        bytes: case.part(m),
+    };
+    let formula = case.part(3 + f);
+    let algebra = Algebra {
+        codes: &w,
+        lattice: z.lattice,
+    };
     Ok(Valued {
-        value: valuer::whole(&w, z.lattice, model, formula),
-        facts: formula_reader::facts(formula, model[1]),
+        value: valuer::whole(&algebra, &model, formula),
+        facts: formula_reader::facts(formula, z.propositions),
     })
 }
 
@@ -39,19 +46,25 @@ pub fn whole(d: Desk, f: u8, m: u8) -> Result<Valued, Refusal>
 pub fn value(d: Desk, f: u8, m: u8, q: State) -> Result<Valued, Refusal>
     ensures { Asks (Question.Value f m q.0) (desk_in d.entry) (value_reply result) }
 {
-    let mut w = [0u64; 128];
+    let mut w = Codes::new();
     let z = d.examine(&mut w)?;
     if !in_range(f, m, z.formulas) {
         return Err(Refusal::OutOfRange);
     }
-    let bytes = &d.store[..STORE_LENGTH];
-    let model = casefile::part(bytes, m);
-    if model[0] <= q.0 {
+    let case = d.case();
+    let model = Model {
+        bytes: case.part(m),
+    };
+    if model.states() <= usize::from(q.0) {
         return Err(Refusal::OutOfRange);
     }
-    let formula = casefile::part(bytes, 3 + f);
+    let formula = case.part(3 + f);
+    let algebra = Algebra {
+        codes: &w,
+        lattice: z.lattice,
+    };
     Ok(Valued {
-        value: valuer::value(&w, z.lattice, model, formula, q),
-        facts: formula_reader::facts(formula, model[1]),
+        value: valuer::value(&algebra, &model, formula, q),
+        facts: formula_reader::facts(formula, z.propositions),
     })
 }

@@ -4,20 +4,21 @@ ghost use Rattle.desk.specs.Desk.{Question};
 ghost use Rattle.desk_check.specs.Read.{desk_in};
 ghost use Rattle.desk_questions.specs.Answer.{AsksWith, length_reply};
 
-use desk_check::{Desk, STORE_LENGTH};
+use desk_check::Desk;
+use elements::Codes;
 use refusal::Refusal;
 
 // Writes the case without gaps at the front of a buffer, and says how many bytes it has. The bytes after it are unchanged.
 pub fn write(d: Desk, out: &mut [u8]) -> Result<u32, Refusal>
     ensures { AsksWith (out.new ∷ []) (Question.Write out.old) (desk_in d.entry) (length_reply result) }
 {
-    let mut w = [0u64; 128];
+    let mut w = Codes::new();
     d.examine(&mut w)?;
-    let bytes = &d.store[..STORE_LENGTH];
-    let n = casefile::gapless_length(bytes);
+    let case = d.case();
+    let n = case.gapless_length();
     if out.len() < n {
         return Err(Refusal::ShortBuffer);
     }
-    casefile::write(bytes, out);
+    case.write(out);
     Ok(n as u32)
 }

@@ -16,7 +16,7 @@ next_round-requires c =
 
 pub returns-then-s-2 : goal.returns-then-s-2
 returns-then-s-2 c =
-    rest-into-first c.in-Ok.ensures.held _ _ _ c.if-s.false c.if-s-2.true c.work_rest-differs.ensures (leaves c.next_round.ensures c.answered-then-s-2.ensures)
+    rest-into-first c.in-Ok.ensures.held _ _ _ c.if-s.false c.if-s-2.true c.models-models.ensures c.work_rest-differs.ensures (leaves c.next_round.ensures c.answered-then-s-2.ensures)
 
 pub next_round-requires-in-Ok : goal.next_round-requires-in-Ok
 next_round-requires-in-Ok c =
@@ -25,4 +25,4 @@ next_round-requires-in-Ok c =
 
 pub returns-else-s-2 : goal.returns-else-s-2
 returns-else-s-2 c =
-    rest-into-second c.in-Ok.ensures.held _ _ _ c.if-s.false c.if-s-2.false c.work_rest-differs-in-Ok.ensures (leaves c.next_round-in-Ok.ensures c.answered-in-Ok.ensures)
+    rest-into-second c.in-Ok.ensures.held _ _ _ c.if-s.false c.if-s-2.false c.models-models.ensures c.work_rest-differs-in-Ok.ensures (leaves c.next_round-in-Ok.ensures c.answered-in-Ok.ensures)

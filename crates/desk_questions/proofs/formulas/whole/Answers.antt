@@ -1,41 +1,28 @@
 -- `desk_questions::whole` meets its contract: by the range, then by the value and the facts on a held desk.
-use Rattle.std.proofs.Common.{sym, length-take-le, arith}
-use Rattle.desk_questions.specs.Questions.{model_over, formula_on_model, held_whole, whole_outside}
+use Rattle.std.proofs.Common.{sym}
+use Rattle.desk_questions.specs.Questions.{model_over, formula_on_model, formula_reads, held_whole, whole_outside}
 use Rattle.desk_questions.proofs.formulas.whole.Goals as goal
 
 pub returns-then-not-in_range : goal.returns-then-not-in_range
 returns-then-not-in_range c = whole_outside c.in_ok-z.ensures.held _ _ (sym c.if-not-in_range.ensures)
 
-pub slice_bounds-bytes-end : goal.slice_bounds-bytes-end
-slice_bounds-bytes-end c = sym (length-take-le 24576 c.args.d.store.now c.in_ok-z.ensures.held.lengths.store_long)
-
-pub part-model-requires : goal.part-model-requires
-part-model-requires c = let p = formula_on_model c.in_ok-z.ensures.held c.args.f c.args.m (sym c.if-not-in_range.ensures) in (p.placed, p.model_below)
-
-pub overflow_add-f : goal.overflow_add-f
-overflow_add-f c = let p = formula_on_model c.in_ok-z.ensures.held c.args.f c.args.m (sym c.if-not-in_range.ensures) in omega (arith, p.formula_in_lem, p.few)
-
-pub part-formula-requires : goal.part-formula-requires
-part-formula-requires c = let p = formula_on_model c.in_ok-z.ensures.held c.args.f c.args.m (sym c.if-not-in_range.ensures) in (p.placed, p.formula_in_lem)
+pub invariant_of-model : goal.invariant_of-model
+invariant_of-model c =
+    let p = formula_on_model c.in_ok-z.ensures.held c.args.f c.args.m (sym c.if-not-in_range.ensures) in
+    record { shape = rw (c.part.ensures, c.case-case.ensures) p.shape }
 
 pub whole-requires : goal.whole-requires
 whole-requires c =
     let h = c.in_ok-z.ensures.held in
     let r = sym c.if-not-in_range.ensures in
-    rw (c.part-model.ensures, c.part-formula.ensures) (model_over h _ _ r, (formula_on_model h _ _ r).reads)
-
-pub bounds-model-1 : goal.bounds-model-1
-bounds-model-1 c =
-    let p = formula_on_model c.in_ok-z.ensures.held c.args.f c.args.m (sym c.if-not-in_range.ensures) in
-    rw c.part-model.ensures (omega (arith, p.shape.exact))
+    rw (c.part.ensures, c.part-formula.ensures, c.case-case.ensures) (model_over h c.args.f c.args.m r, (formula_on_model h c.args.f c.args.m r).reads)
 
 pub facts-requires : goal.facts-requires
 facts-requires c =
-    let p = formula_on_model c.in_ok-z.ensures.held c.args.f c.args.m (sym c.if-not-in_range.ensures) in
-    rw (c.part-model.ensures, c.part-formula.ensures) p.reads
+    rw (c.part-formula.ensures, c.case-case.ensures) (formula_reads c.in_ok-z.ensures.held c.args.f c.args.m (sym c.if-not-in_range.ensures))
 
 pub returns : goal.returns
 returns c =
-    held_whole c.in_ok-z.ensures.held _ _ _ _ (sym c.if-not-in_range.ensures)
-    (rw (c.part-model.ensures, c.part-formula.ensures) at c.whole.ensures)
-    (rw (c.part-model.ensures, c.part-formula.ensures) at c.facts.ensures)
+    held_whole c.in_ok-z.ensures.held c.args.f c.args.m _ _ (sym c.if-not-in_range.ensures)
+    (rw (c.part.ensures, c.part-formula.ensures, c.case-case.ensures) at c.whole.ensures)
+    (rw (c.part-formula.ensures, c.case-case.ensures) at c.facts.ensures)
