@@ -1,7 +1,8 @@
 -- `exports::koelchair_entry` meets its contract: by the range of the states, then by the entry on a held desk.
 use Rattle.std.proofs.Common.{◌∙◌, arith, lt-ltb, le-ltb}
 use Rattle.theory.specs.TestLaws.{and_in, and_false}
-use Rattle.desk_questions.specs.Questions.{readable, whole_fits}
+use Rattle.desk_check.specs.Held.{entries_held}
+use Rattle.desk_questions.specs.Questions.{whole_fits}
 use Rattle.exports.specs.WorkedLaws.{worked_refused, worked_outside, state_below, worked_entry_lem, pairs_fit}
 use Rattle.exports.proofs.worked.koelchair_entry.Goals as goal
 use Rattle.exports.proofs.worked.koelchair_entry.Goals.{then-z-q1-via-then-z-q1, then-z-q1-via-else-z-q1+then-z-q2}
@@ -18,15 +19,18 @@ returns-then-z-q1 c =
     | then-z-q1-via-else-z-q1+then-z-q2 w ↦ rw (le-ltb _ _ w.if-z-q2.true) (and_false _)
     ])
 
-pub entry_in-e-requires : goal.entry_in-e-requires
-entry_in-e-requires c =
+pub invariant_of-shown : goal.invariant_of-shown
+invariant_of-shown c =
     let held = c.in-Ok.ensures.held in
-    let s = state_below held _ _ (and_in _ _ (lt-ltb _ _ c.if-z-q1.false) (lt-ltb _ _ c.if-z-q2.false)) in
-    (readable held _ (whole_fits held _ c.whole_table.ensures), s.0, s.1)
+    record { held = entries_held held _ c.models.ensures (whole_fits held _ c.whole_table.ensures) }
+
+pub entry_of-e-requires : goal.entry_of-e-requires
+entry_of-e-requires c =
+    state_below c.in-Ok.ensures.held _ _ c.models.ensures (and_in _ _ (lt-ltb _ _ c.if-z-q1.false) (lt-ltb _ _ c.if-z-q2.false))
 
 pub overflow_cast-result : goal.overflow_cast-result
-overflow_cast-result c = omega (arith, pairs_fit c.in-Ok.ensures.held _ _ c.entry_in-e.ensures)
+overflow_cast-result c = omega (arith, pairs_fit c.in-Ok.ensures.held _ _ c.models.ensures c.entry_of-e.ensures)
 
 pub returns-else-z-q2 : goal.returns-else-z-q2
 returns-else-z-q2 c =
-    worked_entry_lem c.in-Ok.ensures.held _ _ (and_in _ _ (lt-ltb _ _ c.if-z-q1.false) (lt-ltb _ _ c.if-z-q2.false)) c.whole_table.ensures c.entry_in-e.ensures
+    worked_entry_lem c.in-Ok.ensures.held _ _ c.models.ensures (and_in _ _ (lt-ltb _ _ c.if-z-q1.false) (lt-ltb _ _ c.if-z-q2.false)) c.whole_table.ensures c.entry_of-e.ensures
