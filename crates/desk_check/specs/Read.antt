@@ -1,7 +1,8 @@
--- The code's standing, read as the desk's. Rests on desk's Desk.
+-- The code's standing and desk, read as the desk's. Rests on desk's Desk.
 use Rattle.std.specs.Prelude.{ℕ, List}
 use Rattle.desk.specs.Desk.{Desk, Standing as DeskStanding}
 use Rattle.desk_check.specs.declared.Standing.{Standing}
+use Rattle.desk_check.specs.declared.Desk.{Desk as CodeDesk}
 
 abbrev pub standing_of : Standing → DeskStanding
 standing_of s =
@@ -18,3 +19,6 @@ standing_of s =
 
 abbrev pub desk_of : Standing → List ℕ → List ℕ → List ℕ → Desk
 desk_of s store first second = record { standing = standing_of s; store = store; first = first; second = second }
+
+abbrev pub desk_in : CodeDesk → Desk
+desk_in d = desk_of d.standing d.store.now d.first.now d.second.now

@@ -1,4 +1,5 @@
-// The calls, with the standing lent.
+// The calls, with the standing lent. It is a parameter of its own: a struct that held the `&mut` would have its calls say what the standing is after them
+// through the struct that is given up, and no call would be shorter.
 #![tactic(auto)]
 
 ghost use Rattle.std.specs.Prelude.{[], ◌∷◌};
@@ -9,11 +10,12 @@ ghost use Rattle.desk_moves.specs.Answer.{step_reply, open_reply};
 ghost use Rattle.desk_questions.specs.Answer.{element_reply, value_reply, share_reply, judge_reply, length_reply};
 ghost use Rattle.desk_lent.specs.Asked.{ReadsOnly, AsksOnly, AsksOnlyWith};
 
-use desk_check::Standing;
-use desk_moves::{OpenAnswer, StepAnswer};
-use desk_questions::{ElementAnswer, JudgeAnswer, LengthAnswer, ShareAnswer, ValueAnswer};
+use desk_check::{Desk, Standing};
+use desk_moves::Progress;
+use desk_questions::Valued;
 use elements::Element;
 use model::State;
+use refusal::Refusal;
 
 // ---- the calls that move the standing on
 
@@ -24,7 +26,7 @@ pub fn open(
     store: &mut [u8],
     first: &mut [u8],
     second: &mut [u8],
-) -> OpenAnswer
+) -> Result<(), Refusal>
     ensures { Does (Call.Open case.now) (desk_of s.old store.old first.old second.old)
         (open_reply result) (desk_of s.new store.new first.new second.new) }
 {
@@ -34,7 +36,7 @@ pub fn open(
 }
 
 // Works the next row.
-pub fn step(s: &mut Standing, store: &[u8], first: &mut [u8], second: &mut [u8]) -> StepAnswer
+pub fn step(s: &mut Standing, store: &[u8], first: &mut [u8], second: &mut [u8]) -> Result<Progress, Refusal>
     ensures { Does Call.Step (desk_of s.old store.now first.old second.old)
         (step_reply result) (desk_of s.new store.now first.new second.new) }
 {
@@ -50,29 +52,47 @@ pub fn show<'a>(s: &mut Standing, store: &[u8], first: &'a [u8], second: &'a [u8
     ensures { ReadsOnly Call.Show
         s.old store.now first.now second.now (Reply.Shown result.now) s.new }
 {
-    desk_questions::show(*s, store, first, second)
+    let d = Desk {
+        standing: *s,
+        store,
+        first,
+        second,
+    };
+    desk_questions::show(d)
 }
 
 // The score of the shown table.
-pub fn score<'a>(s: &mut Standing, store: &[u8], first: &'a [u8], second: &'a [u8]) -> ElementAnswer
+pub fn score(s: &mut Standing, store: &[u8], first: &[u8], second: &[u8]) -> Result<Element, Refusal>
     ensures { AsksOnly Question.Score
         s.old store.now first.now second.now (element_reply result) s.new }
 {
-    desk_questions::score(*s, store, first, second)
+    let d = Desk {
+        standing: *s,
+        store,
+        first,
+        second,
+    };
+    desk_questions::score(d)
 }
 
 // The per cent of shown entries at or above e.
-pub fn share<'a>(
+pub fn share(
     s: &mut Standing,
     store: &[u8],
-    first: &'a [u8],
-    second: &'a [u8],
+    first: &[u8],
+    second: &[u8],
     e: Element,
-) -> ShareAnswer
+) -> Result<u8, Refusal>
     ensures { AsksOnly (Question.Share e.0)
         s.old store.now first.now second.now (share_reply result) s.new }
 {
-    desk_questions::share(*s, store, first, second, e)
+    let d = Desk {
+        standing: *s,
+        store,
+        first,
+        second,
+    };
+    desk_questions::share(d, e)
 }
 
 // Whether each entry of a table is at or below that of F of the table.
@@ -82,11 +102,17 @@ pub fn judge(
     first: &[u8],
     second: &[u8],
     table: &[u8],
-) -> JudgeAnswer
+) -> Result<bool, Refusal>
     ensures { AsksOnly (Question.Judge table.now)
         s.old store.now first.now second.now (judge_reply result) s.new }
 {
-    desk_questions::judge(*s, store, first, second, table)
+    let d = Desk {
+        standing: *s,
+        store,
+        first,
+        second,
+    };
+    desk_questions::judge(d, table)
 }
 
 // A formula's value on model 1 or 2, with its facts.
@@ -97,11 +123,17 @@ pub fn whole(
     second: &[u8],
     f: u8,
     m: u8,
-) -> ValueAnswer
+) -> Result<Valued, Refusal>
     ensures { AsksOnly (Question.Whole f m)
         s.old store.now first.now second.now (value_reply result) s.new }
 {
-    desk_questions::whole(*s, store, first, second, f, m)
+    let d = Desk {
+        standing: *s,
+        store,
+        first,
+        second,
+    };
+    desk_questions::whole(d, f, m)
 }
 
 // A formula's element at a state of model 1 or 2, with its facts.
@@ -113,11 +145,17 @@ pub fn value(
     f: u8,
     m: u8,
     q: State,
-) -> ValueAnswer
+) -> Result<Valued, Refusal>
     ensures { AsksOnly (Question.Value f m q.0)
         s.old store.now first.now second.now (value_reply result) s.new }
 {
-    desk_questions::value(*s, store, first, second, f, m, q)
+    let d = Desk {
+        standing: *s,
+        store,
+        first,
+        second,
+    };
+    desk_questions::value(d, f, m, q)
 }
 
 // Writes the case without gaps at the front of a buffer, and says how many bytes it has. The bytes after it are unchanged.
@@ -127,9 +165,15 @@ pub fn write(
     first: &[u8],
     second: &[u8],
     out: &mut [u8],
-) -> LengthAnswer
+) -> Result<u32, Refusal>
     ensures { AsksOnlyWith (out.new ∷ []) (Question.Write out.old)
         s.old store.now first.now second.now (length_reply result) s.new }
 {
-    desk_questions::write(*s, store, first, second, out)
+    let d = Desk {
+        standing: *s,
+        store,
+        first,
+        second,
+    };
+    desk_questions::write(d, out)
 }

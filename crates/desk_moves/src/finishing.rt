@@ -1,79 +1,44 @@
 // The call that works the rows of the round that are left.
-ghost use Rattle.std.specs.Prelude.{◌≡◌, ◌<◌, get_or};
-ghost use Rattle.elements.specs.Words.{Coded};
-ghost use Rattle.casefile.specs.Directory.{part_at};
-ghost use Rattle.entries.specs.Table.{Shaped};
+ghost use Rattle.std.specs.Prelude.{◌<◌, get_or};
 ghost use Rattle.rounds.specs.Table.{Room};
 ghost use Rattle.rounds.specs.Rest.{RestIn};
-ghost use Rattle.desk.specs.Moved.{step_answer};
 ghost use Rattle.desk.specs.RoundLeft.{Finishes};
-ghost use Rattle.desk_check.specs.Read.{standing_of, desk_of};
+ghost use Rattle.desk_check.specs.Read.{desk_of};
 ghost use Rattle.desk_moves.specs.Answer.{step_reply};
-ghost use Rattle.desk_moves.specs.Stepped.{Workable, Movable};
-ghost use Rattle.desk_moves.specs.Finished.{round_by};
 
-use crate::stepping::{answer_of, either, lowered, next_round};
-use crate::{StepAnswer, Stepped};
-use desk_check::{Examined, STORE_LENGTH, Standing, examine};
-use elements::{Codes, Lattice};
+use crate::Stepped;
+use crate::stepping::{answered, next_round};
+use desk_check::{Desk, Standing};
+use elements::{Algebra, Codes};
+use entries::Table;
 use model::State;
 
 // Works the rows of F of the whole table from row `from` to the last into the other; says whether one of them differs from the whole table's.
-fn work_rows(
-    w: &Codes,
-    l: Lattice,
-    m1: &[u8],
-    m2: &[u8],
-    whole: &[u8],
-    other: &mut [u8],
-    from: State,
-) -> bool
-    requires { Coded w.now l × Shaped m1.now m2.now whole.now × Room m1.now m2.now other.old × (from.0 < get_or m1.now 0 0) }
-    ensures { RestIn w.now l m1.now m2.now whole.now
+fn work_rows(a: &Algebra, whole: &Table, other: &mut [u8], from: State) -> bool
+    requires { Room whole.now.models.first.bytes.now whole.now.models.second.bytes.now other.old
+        × (from.0 < get_or whole.now.models.first.bytes.now 0 0) }
+    ensures { RestIn a.now.codes.now.words a.now.lattice whole.now.models.first.bytes.now whole.now.models.second.bytes.now whole.now.bytes.now
         from.0 other.old other.new result }
 {
-    let n1 = model::states(m1);
-    let start = elements::index(from.0);
+    let start = usize::from(from.0);
     let mut changed = false;
-    for q in start..n1 {
-        let c = rounds::row(w, l, m1, m2, whole, other, State(q as u8));
-        changed = changed | c;
+    for q in start..whole.models.first.states() {
+        changed |= rounds::row(a, whole, other, State(q as u8));
     }
     changed
 }
 
-// The same of the models in a case. Where no row is worked yet it is a whole round, which finds codes once for all rows.
-fn work_rest(
-    w: &Codes,
-    l: Lattice,
-    bytes: &[u8],
-    whole: &[u8],
-    other: &mut [u8],
-    from: State,
-) -> bool
-    requires { Workable w.now l bytes.now whole.now other.old from.0 }
-    ensures { RestIn w.now l (part_at bytes.now 1) (part_at bytes.now 2) whole.now
+// The same. Where no row is worked yet it is a whole round, which finds codes once for all rows.
+fn work_rest(a: &Algebra, whole: &Table, other: &mut [u8], from: State) -> bool
+    requires { Room whole.now.models.first.bytes.now whole.now.models.second.bytes.now other.old
+        × (from.0 < get_or whole.now.models.first.bytes.now 0 0) }
+    ensures { RestIn a.now.codes.now.words a.now.lattice whole.now.models.first.bytes.now whole.now.models.second.bytes.now whole.now.bytes.now
         from.0 other.old other.new result }
 {
-    let m1 = casefile::part(bytes, 1);
-    let m2 = casefile::part(bytes, 2);
     if from.0 == 0 {
-        return rounds::round(w, l, m1, m2, whole, other);
-    }
-    work_rows(w, l, m1, m2, whole, other, from)
-}
-
-// What is given after the last row, where the rows that were left differed, or did not, and stand in the other table.
-fn round_done(s: Standing, differs: bool, whole: &[u8], other: &[u8]) -> Stepped
-    requires { Movable (standing_of s) whole.now other.now }
-    ensures { (standing_of result.standing ≡ round_by differs whole.now other.now (standing_of s))
-        × (step_reply result.answer ≡ step_answer (round_by differs whole.now other.now (standing_of s))) }
-{
-    let changed = either(s.changed, differs);
-    let next = next_round(s, changed, s.lowerings + lowered(true, s, whole, other));
-    Stepped {
-        standing: next,
-        answer: answer_of(next),
+        rounds::round(a, whole, other)
+    } else {
+        work_rows(a, whole, other, from)
     }
 }
 
@@ -82,27 +47,42 @@ pub fn finish_round(s: Standing, store: &[u8], first: &mut [u8], second: &mut [u
     ensures { Finishes (desk_of s store.now first.old second.old)
         (step_reply result.answer) (desk_of result.standing store.now first.new second.new) }
 {
-    let mut w = [0u64; 128];
-    match examine(s, store, first, second, &mut w) {
-        Examined::Refused(f) => Stepped {
+    let mut w = Codes::new();
+    let d = Desk {
+        standing: s,
+        store,
+        first,
+        second,
+    };
+    match d.examine(&mut w) {
+        Err(f) => Stepped {
             standing: s,
-            answer: StepAnswer::Refused(f),
+            answer: Err(f),
         },
-        Examined::Held(z) => {
+        Ok(z) => {
             if s.settled {
-                return Stepped {
-                    standing: s,
-                    answer: StepAnswer::Settled(s.round, s.lowerings),
-                };
+                return answered(s);
             }
-            let l = z.lattice;
-            let bytes = &store[..STORE_LENGTH];
+            let algebra = Algebra {
+                codes: &w,
+                lattice: z.lattice,
+            };
+            let models = d.models();
+            let row = State(s.row);
             if s.second_whole {
-                let differs = work_rest(&w, l, bytes, second, first, State(s.row));
-                return round_done(s, differs, second, first);
+                let whole = Table {
+                    models,
+                    bytes: second,
+                };
+                let differs = work_rest(&algebra, &whole, first, row);
+                return answered(next_round(s, s.changed | differs, second, first));
             }
-            let differs = work_rest(&w, l, bytes, first, second, State(s.row));
-            round_done(s, differs, first, second)
+            let whole = Table {
+                models,
+                bytes: first,
+            };
+            let differs = work_rest(&algebra, &whole, second, row);
+            answered(next_round(s, s.changed | differs, first, second))
         }
     }
 }

@@ -15,24 +15,16 @@ pub use opening::open;
 use refusal::Refusal;
 pub use stepping::step;
 
-// What open answers.
-#[derive(Clone, Copy)]
-pub enum OpenAnswer {
-    Refused(Refusal),
-    Opened,
-}
-
 // What open gives: the standing after it, and its answer.
 #[derive(Clone, Copy)]
 pub struct Opened {
     pub standing: Standing,
-    pub answer: OpenAnswer,
+    pub answer: Result<(), Refusal>,
 }
 
-// What step answers, and the last step of a round that is finished; Row, Round and Settled with the count of lowerings after it.
+// How far a step brings the desk, and the last step of a round that is finished; each with the count of lowerings after it.
 #[derive(Clone, Copy)]
-pub enum StepAnswer {
-    Refused(Refusal),
+pub enum Progress {
     // The lowerings.
     Row(u32),
     // The round or T, and the lowerings.
@@ -44,5 +36,5 @@ pub enum StepAnswer {
 #[derive(Clone, Copy)]
 pub struct Stepped {
     pub standing: Standing,
-    pub answer: StepAnswer,
+    pub answer: Result<Progress, Refusal>,
 }

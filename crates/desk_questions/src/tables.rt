@@ -1,120 +1,71 @@
 // The calls that read the shown table, or judge one.
-ghost use Rattle.std.specs.Prelude.{◌≡◌, cond};
 ghost use Rattle.desk.specs.Desk.{Call, Question, Reply};
+ghost use Rattle.desk_check.specs.Read.{desk_in};
 ghost use Rattle.desk_questions.specs.Answer.{Reads, Asks, element_reply, share_reply, judge_reply};
-ghost use Rattle.desk_questions.specs.Questions.{Readable, case_score, case_post_fixed};
 
-use crate::{ElementAnswer, JudgeAnswer, ShareAnswer};
-use desk_check::{Examined, STORE_LENGTH, Standing, examine, table_size};
-use elements::{Codes, Element, Lattice};
+use desk_check::{Desk, table_obeys, table_size};
+use elements::{Algebra, Codes, Element};
+use entries::Table;
 use refusal::Refusal;
 
-// ---- show
-
-// The whole table.
-pub fn whole_table<'a>(second_whole: bool, first: &'a [u8], second: &'a [u8]) -> &'a [u8]
-    ensures { result.now ≡ cond second_whole second.now first.now }
-{
-    if second_whole {
-        return second;
-    }
-    first
-}
-
 // The first N1·N2 bytes of the whole table; an empty part where the desk is refused.
-pub fn show<'a>(s: Standing, store: &[u8], first: &'a [u8], second: &'a [u8]) -> &'a [u8]
-    ensures { Reads Call.Show s store.now first.now second.now (Reply.Shown result.now) }
+pub fn show<'s, 't>(d: Desk<'s, 't>) -> &'t [u8]
+    ensures { Reads Call.Show (desk_in d.entry) (Reply.Shown result.now) }
 {
-    let whole = whole_table(s.second_whole, first, second);
-    let mut w = [0u64; 128];
-    match examine(s, store, first, second, &mut w) {
-        Examined::Refused(_) => &whole[..0],
-        Examined::Held(z) => {
-            let n = table_size(z);
-            &whole[..n]
-        }
+    let mut w = Codes::new();
+    match d.examine(&mut w) {
+        Err(_) => &[],
+        Ok(z) => &d.whole_table()[..table_size(z)],
     }
-}
-
-// ---- score, share, judge
-
-fn score_of(w: &Codes, l: Lattice, bytes: &[u8], whole: &[u8]) -> Element
-    requires { Readable w.now l bytes.now whole.now }
-    ensures { result.0 ≡ case_score w.now l bytes.now whole.now }
-{
-    let m1 = casefile::part(bytes, 1);
-    let m2 = casefile::part(bytes, 2);
-    rounds::score(w, l, m1, m2, whole)
 }
 
 // The score of the shown table.
-pub fn score<'a>(s: Standing, store: &[u8], first: &'a [u8], second: &'a [u8]) -> ElementAnswer
-    ensures { Asks Question.Score s store.now first.now second.now (element_reply result) }
+pub fn score(d: Desk) -> Result<Element, Refusal>
+    ensures { Asks Question.Score (desk_in d.entry) (element_reply result) }
 {
-    let mut w = [0u64; 128];
-    match examine(s, store, first, second, &mut w) {
-        Examined::Refused(f) => ElementAnswer::Refused(f),
-        Examined::Held(z) => {
-            let l = z.lattice;
-            let bytes = &store[..STORE_LENGTH];
-            let whole = whole_table(s.second_whole, first, second);
-            ElementAnswer::Is(score_of(&w, l, bytes, whole))
-        }
-    }
+    let mut w = Codes::new();
+    let z = d.examine(&mut w)?;
+    let algebra = Algebra {
+        codes: &w,
+        lattice: z.lattice,
+    };
+    let shown = Table {
+        models: d.models(),
+        bytes: d.whole_table(),
+    };
+    Ok(rounds::score(&algebra, &shown))
 }
 
 // The per cent of shown entries at or above e.
-pub fn share<'a>(
-    s: Standing,
-    store: &[u8],
-    first: &'a [u8],
-    second: &'a [u8],
-    e: Element,
-) -> ShareAnswer
-    ensures { Asks (Question.Share e.0) s store.now first.now second.now (share_reply result) }
+pub fn share(d: Desk, e: Element) -> Result<u8, Refusal>
+    ensures { Asks (Question.Share e.0) (desk_in d.entry) (share_reply result) }
 {
-    let mut w = [0u64; 128];
-    match examine(s, store, first, second, &mut w) {
-        Examined::Refused(f) => ShareAnswer::Refused(f),
-        Examined::Held(z) => {
-            let l = z.lattice;
-            if l.size <= e.0 {
-                return ShareAnswer::Refused(Refusal::OutOfRange);
-            }
-            let n = table_size(z);
-            let whole = whole_table(s.second_whole, first, second);
-            ShareAnswer::PerCent(share::share(&w, e, whole, n))
-        }
+    let mut w = Codes::new();
+    let z = d.examine(&mut w)?;
+    if z.lattice.size <= e.0 {
+        return Err(Refusal::OutOfRange);
     }
-}
-
-fn post_fixed_of(w: &Codes, l: Lattice, bytes: &[u8], table: &[u8]) -> bool
-    requires { Readable w.now l bytes.now table.now }
-    ensures { result ≡ case_post_fixed w.now l bytes.now table.now }
-{
-    let m1 = casefile::part(bytes, 1);
-    let m2 = casefile::part(bytes, 2);
-    rounds::is_post_fixed(w, l, m1, m2, table)
+    let shown = &d.whole_table()[..table_size(z)];
+    Ok(share::share(&w, e, shown))
 }
 
 // Whether each entry of a table is at or below that of F of the table.
-pub fn judge(s: Standing, store: &[u8], first: &[u8], second: &[u8], table: &[u8]) -> JudgeAnswer
-    ensures { Asks (Question.Judge table.now) s store.now first.now second.now (judge_reply result) }
+pub fn judge(d: Desk, table: &[u8]) -> Result<bool, Refusal>
+    ensures { Asks (Question.Judge table.now) (desk_in d.entry) (judge_reply result) }
 {
-    let mut w = [0u64; 128];
-    match examine(s, store, first, second, &mut w) {
-        Examined::Refused(f) => JudgeAnswer::Refused(f),
-        Examined::Held(z) => {
-            let l = z.lattice;
-            let n = table_size(z);
-            if table.len() != n {
-                return JudgeAnswer::Refused(Refusal::OutOfRange);
-            }
-            if !elements::below(table, 0, n, l.size) {
-                return JudgeAnswer::Refused(Refusal::OutOfRange);
-            }
-            let bytes = &store[..STORE_LENGTH];
-            JudgeAnswer::Says(post_fixed_of(&w, l, bytes, table))
-        }
+    let mut w = Codes::new();
+    let z = d.examine(&mut w)?;
+    let n = table_size(z);
+    if table.len() != n || !table_obeys(table, n, z.lattice.size) {
+        return Err(Refusal::OutOfRange);
     }
+    let algebra = Algebra {
+        codes: &w,
+        lattice: z.lattice,
+    };
+    let judged = Table {
+        models: d.models(),
+        bytes: table,
+    };
+    Ok(rounds::is_post_fixed(&algebra, &judged))
 }

@@ -2,15 +2,14 @@
 --   is_shown, reply_of: whether a reply is show's; the reply that numbers tell
 --   numbers-back: the numbers lose nothing of a reply that is not show's
 --   refused_zero, accepted_some: what show's export names on a refused desk, and on any other
---   by_case, done_in_numbers: for the exports of the other calls, from the call's answer and from what it does
+--   done_in_numbers: for the exports of the other calls, from the call's answer and from what it does
 --   empty_named, whole_named: for show's export, from the length of what show answered
 --   refused_sized, held-sized, with sizes_in_numbers: for the export of a desk's sizes, from what the examination answered
-use Rattle.std.specs.Prelude.{ℕ, ◌≤◌, ◌<◌, ◌≡◌, refl, Bool, true, false, cond, List, [], eqb, length, take}
+use Rattle.std.specs.Prelude.{ℕ, ◌≤◌, ◌<◌, ◌≡◌, refl, Bool, true, false, cond, List, [], eqb, length, take, Ok, Err}
 use Rattle.std.proofs.Common.{sym, ap, ◌∙◌, arith, length-take-le}
 use Rattle.refusal.specs.declared.Refusal.{Refusal}
 use Rattle.casefile.specs.declared.Sizes.{Sizes}
 use Rattle.casefile.specs.Answer.{sizes_of}
-use Rattle.desk_check.specs.declared.Examined.TheVariants.{Refused, Held}
 use Rattle.desk_check.specs.Answer.{examined_answer, Does, DoesWith}
 use Rattle.casefile.specs.Reading.{Content, CaseReading, refused, content}
 use Rattle.casefile.specs.Content.{ContentSound}
@@ -73,10 +72,6 @@ numbers-back (Reply.Says b) e = go b
     go false = refl
 
 -- ---- what a call does, in numbers
-
--- an answer that is matched: a is the case b
-pub by_case : {A : Type 0} (reply : A → Reply) (a b : A) (x : Answer) → a ≡ b → x ≡ numbers (reply b) → x ≡ numbers (reply a)
-by_case {A} reply a b x e p = p ∙ ap (λ (y : A). numbers (reply y)) (sym e)
 
 pub done_in_numbers : {lent : List (List ℕ)} (k : Call) (d : Desk) (x : Reply) (e : Desk) (a : Answer) → DoesWith lent k d x e → a ≡ numbers x → DoneInNumbersWith lent k d a e
 done_in_numbers k d x e a p q =
@@ -149,10 +144,10 @@ accepted_some d x n t =
 
 -- ---- what a desk holds
 
-pub refused_sized : (d : Desk) (f : Refusal) → Refused f ≡ examined_answer (examined show d) → sized (refused f) ≡ sized (examined show d)
+pub refused_sized : (d : Desk) (f : Refusal) → Err f ≡ examined_answer (examined show d) → sized (refused f) ≡ sized (examined show d)
 refused_sized d f e = go (examined show d) e
   where
-    go : (x : CaseReading) → Refused f ≡ examined_answer x → sized (refused f) ≡ sized x
+    go : (x : CaseReading) → Err f ≡ examined_answer x → sized (refused f) ≡ sized x
     go (refused r) e = let q : f ≡ r = cc in rw q
     go (content c) e = absurd (let z : ◌≡◌ {A = ℕ} 0 1 = cc in omega arith)
 
@@ -168,9 +163,9 @@ sizes_in_numbers z =
       formulas = z.formulas;
     }
 
-pub held-sized : (d : Desk) (z : Sizes) → Held z ≡ examined_answer (examined show d) → sizes_in_numbers z ≡ sized (examined show d)
+pub held-sized : (d : Desk) (z : Sizes) → Ok z ≡ examined_answer (examined show d) → sizes_in_numbers z ≡ sized (examined show d)
 held-sized d z e = go (examined show d) e
   where
-    go : (x : CaseReading) → Held z ≡ examined_answer x → sizes_in_numbers z ≡ sized x
+    go : (x : CaseReading) → Ok z ≡ examined_answer x → sizes_in_numbers z ≡ sized x
     go (refused r) e = absurd (let z : ◌≡◌ {A = ℕ} 0 1 = cc in omega arith)
     go (content c) e = let q : z ≡ sizes_of c = cc in rw q

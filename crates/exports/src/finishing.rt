@@ -18,10 +18,8 @@ pub extern "C" fn koelchair_finish_round(
         result.answer (desk_of result.standing store.now first.new second.new) }
 {
     let o = desk_moves::finish_round(s, store, first, second);
-    let next = o.standing;
-    let a = o.answer;
     Moved {
-        standing: next,
-        answer: stepped(a),
+        standing: o.standing,
+        answer: stepped(o.answer),
     }
 }

@@ -6,7 +6,17 @@ ghost use Rattle.desk_check.specs.Read.{desk_of};
 ghost use Rattle.exports.specs.Numbers.{sized};
 
 use crate::DeskSizes;
-use desk_check::{Examined, Standing};
+use desk_check::{Desk, Standing};
+
+const UNUSED: DeskSizes = DeskSizes {
+    number: 0,
+    part: 0,
+    elements: 0,
+    propositions: 0,
+    states1: 0,
+    states2: 0,
+    formulas: 0,
+};
 
 // The sizes of what a desk holds, or the refusal that it gets.
 #[unsafe(no_mangle)]
@@ -18,27 +28,25 @@ pub extern "C" fn koelchair_sizes(
 ) -> DeskSizes
     ensures { result ≡ sized (examined Call.Show (desk_of s store.now first.now second.now)) }
 {
-    match desk_check::sizes(s, store, first, second) {
-        Examined::Refused(f) => DeskSizes {
-            number: refusal::number(f),
-            part: refusal::part(f),
-            elements: 0,
-            propositions: 0,
-            states1: 0,
-            states2: 0,
-            formulas: 0,
+    let d = Desk {
+        standing: s,
+        store,
+        first,
+        second,
+    };
+    match d.sizes() {
+        Err(f) => DeskSizes {
+            number: f.number(),
+            part: f.part(),
+            ..UNUSED
         },
-        Examined::Held(z) => {
-            let l = z.lattice;
-            DeskSizes {
-                number: 0,
-                part: 0,
-                elements: l.size,
-                propositions: z.propositions,
-                states1: z.states1,
-                states2: z.states2,
-                formulas: z.formulas,
-            }
-        }
+        Ok(z) => DeskSizes {
+            elements: z.lattice.size,
+            propositions: z.propositions,
+            states1: z.states1,
+            states2: z.states2,
+            formulas: z.formulas,
+            ..UNUSED
+        },
     }
 }

@@ -20,11 +20,9 @@ pub extern "C" fn koelchair_open(
         result.answer (desk_of result.standing store.new first.new second.new) }
 {
     let o = desk_moves::open(s, case, store, first, second);
-    let after = o.standing;
-    let a = o.answer;
     Moved {
-        standing: after,
-        answer: opened(a),
+        standing: o.standing,
+        answer: opened(o.answer),
     }
 }
 
@@ -40,10 +38,8 @@ pub extern "C" fn koelchair_step(
         result.answer (desk_of result.standing store.now first.new second.new) }
 {
     let o = desk_moves::step(s, store, first, second);
-    let next = o.standing;
-    let a = o.answer;
     Moved {
-        standing: next,
-        answer: stepped(a),
+        standing: o.standing,
+        answer: stepped(o.answer),
     }
 }

@@ -3,140 +3,134 @@ ghost use Rattle.std.specs.Prelude.{◌≡◌};
 ghost use Rattle.desk.specs.Refused.{number_reply};
 ghost use Rattle.desk_moves.specs.Answer.{step_reply, open_reply};
 ghost use Rattle.desk_questions.specs.Answer.{element_reply, value_reply, share_reply, judge_reply, length_reply};
-ghost use Rattle.exports.specs.Numbers.{given, carrying, numbers};
+ghost use Rattle.exports.specs.Numbers.{numbers};
 
 use crate::Answer;
-use desk_moves::{OpenAnswer, StepAnswer};
-use desk_questions::{ElementAnswer, JudgeAnswer, LengthAnswer, ShareAnswer, ValueAnswer};
+use desk_moves::Progress;
+use desk_questions::Valued;
+use elements::Element;
 use refusal::Refusal;
 
-pub fn refused(f: Refusal) -> Answer
+// The fields that a kind does not use.
+const UNUSED: Answer = Answer {
+    kind: 0,
+    number: 0,
+    part: 0,
+    byte: 0,
+    value: 0,
+    second: 0,
+    flag1: false,
+    flag2: false,
+};
+
+fn refused(f: Refusal) -> Answer
     ensures { result ≡ numbers (number_reply f) }
 {
     Answer {
-        kind: 0,
-        number: refusal::number(f),
-        part: refusal::part(f),
-        byte: 0,
-        value: 0,
-        second: 0,
-        flag1: false,
-        flag2: false,
+        number: f.number(),
+        part: f.part(),
+        ..UNUSED
     }
 }
 
-pub fn plain(kind: u8, value: u32) -> Answer
-    ensures { result ≡ given kind value }
-{
-    Answer {
-        kind: kind,
-        number: 0,
-        part: 0,
-        byte: 0,
-        value: value,
-        second: 0,
-        flag1: false,
-        flag2: false,
-    }
-}
-
-// An answer of step, with the count of lowerings.
-fn counted(kind: u8, value: u32, lowerings: u32) -> Answer
-    ensures { result ≡ carrying kind value lowerings }
-{
-    Answer {
-        kind: kind,
-        number: 0,
-        part: 0,
-        byte: 0,
-        value: value,
-        second: lowerings,
-        flag1: false,
-        flag2: false,
-    }
-}
-
-fn wide(x: u8) -> u32
-    ensures { result ≡ x }
-{
-    x as u32
-}
-
-pub fn opened(a: OpenAnswer) -> Answer
+pub fn opened(a: Result<(), Refusal>) -> Answer
     ensures { result ≡ numbers (open_reply a) }
 {
     match a {
-        OpenAnswer::Refused(f) => refused(f),
-        OpenAnswer::Opened => plain(1, 0),
+        Err(f) => refused(f),
+        Ok(()) => Answer { kind: 1, ..UNUSED },
     }
 }
 
-pub fn stepped(a: StepAnswer) -> Answer
+pub fn stepped(a: Result<Progress, Refusal>) -> Answer
     ensures { result ≡ numbers (step_reply a) }
 {
     match a {
-        StepAnswer::Refused(f) => refused(f),
-        StepAnswer::Row(n) => counted(2, 0, n),
-        StepAnswer::Round(r, n) => counted(3, r, n),
-        StepAnswer::Settled(t, n) => counted(4, t, n),
-    }
-}
-
-pub fn element(a: ElementAnswer) -> Answer
-    ensures { result ≡ numbers (element_reply a) }
-{
-    match a {
-        ElementAnswer::Refused(f) => refused(f),
-        ElementAnswer::Is(e) => plain(5, wide(e.0)),
-    }
-}
-
-pub fn formula_value(a: ValueAnswer) -> Answer
-    ensures { result ≡ numbers (value_reply a) }
-{
-    match a {
-        ValueAnswer::Refused(f) => refused(f),
-        ValueAnswer::Is(e, facts) => Answer {
-            kind: 9,
-            number: 0,
-            part: 0,
-            byte: facts.nesting,
-            value: wide(e.0),
-            second: 0,
-            flag1: facts.fixpoint,
-            flag2: facts.ex,
+        Err(f) => refused(f),
+        Ok(Progress::Row(n)) => Answer {
+            kind: 2,
+            second: n,
+            ..UNUSED
+        },
+        Ok(Progress::Round(r, n)) => Answer {
+            kind: 3,
+            value: r,
+            second: n,
+            ..UNUSED
+        },
+        Ok(Progress::Settled(t, n)) => Answer {
+            kind: 4,
+            value: t,
+            second: n,
+            ..UNUSED
         },
     }
 }
 
-pub fn per_cent(a: ShareAnswer) -> Answer
+pub fn element(a: Result<Element, Refusal>) -> Answer
+    ensures { result ≡ numbers (element_reply a) }
+{
+    match a {
+        Err(f) => refused(f),
+        Ok(e) => Answer {
+            kind: 5,
+            value: u32::from(e.0),
+            ..UNUSED
+        },
+    }
+}
+
+pub fn formula_value(a: Result<Valued, Refusal>) -> Answer
+    ensures { result ≡ numbers (value_reply a) }
+{
+    match a {
+        Err(f) => refused(f),
+        Ok(v) => Answer {
+            kind: 9,
+            byte: v.facts.nesting,
+            value: u32::from(v.value.0),
+            flag1: v.facts.fixpoint,
+            flag2: v.facts.ex,
+            ..UNUSED
+        },
+    }
+}
+
+pub fn per_cent(a: Result<u8, Refusal>) -> Answer
     ensures { result ≡ numbers (share_reply a) }
 {
     match a {
-        ShareAnswer::Refused(f) => refused(f),
-        ShareAnswer::PerCent(p) => plain(6, wide(p)),
+        Err(f) => refused(f),
+        Ok(p) => Answer {
+            kind: 6,
+            value: u32::from(p),
+            ..UNUSED
+        },
     }
 }
 
-pub fn judged(a: JudgeAnswer) -> Answer
+pub fn judged(a: Result<bool, Refusal>) -> Answer
     ensures { result ≡ numbers (judge_reply a) }
 {
     match a {
-        JudgeAnswer::Refused(f) => refused(f),
-        JudgeAnswer::Says(yes) => {
-            if yes {
-                return plain(7, 1);
-            }
-            plain(7, 0)
-        }
+        Err(f) => refused(f),
+        Ok(yes) => Answer {
+            kind: 7,
+            value: u32::from(yes),
+            ..UNUSED
+        },
     }
 }
 
-pub fn length(a: LengthAnswer) -> Answer
+pub fn length(a: Result<u32, Refusal>) -> Answer
     ensures { result ≡ numbers (length_reply a) }
 {
     match a {
-        LengthAnswer::Refused(f) => refused(f),
-        LengthAnswer::Length(n) => plain(10, n),
+        Err(f) => refused(f),
+        Ok(n) => Answer {
+            kind: 10,
+            value: n,
+            ..UNUSED
+        },
     }
 }

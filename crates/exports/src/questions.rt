@@ -5,7 +5,7 @@ ghost use Rattle.exports.specs.Numbers.{AskedInNumbers, ShownInNumbers};
 
 use crate::numbers::{element, formula_value, judged, per_cent};
 use crate::{Answer, Shown};
-use desk_check::Standing;
+use desk_check::{Desk, Standing};
 use elements::Element;
 use model::State;
 
@@ -19,23 +19,22 @@ pub extern "C" fn koelchair_show<'a>(
 ) -> Shown
     ensures { ShownInNumbers (desk_of s store.now first.now second.now) result }
 {
-    let shown = desk_questions::show(s, store, first, second);
-    let n = shown.len();
-    if n == 0 {
+    let d = Desk {
+        standing: s,
+        store,
+        first,
+        second,
+    };
+    let length = desk_questions::show(d).len();
+    if length == 0 {
         return Shown {
             table: 0,
             length: 0,
         };
     }
-    if s.second_whole {
-        return Shown {
-            table: 2,
-            length: n,
-        };
-    }
     Shown {
-        table: 1,
-        length: n,
+        table: if s.second_whole { 2 } else { 1 },
+        length,
     }
 }
 
@@ -52,7 +51,13 @@ pub extern "C" fn koelchair_value(
 ) -> Answer
     ensures { AskedInNumbers (Question.Value formula model state) s store.now first.now second.now result }
 {
-    formula_value(desk_questions::value(s, store, first, second, formula, model, State(state)))
+    let d = Desk {
+        standing: s,
+        store,
+        first,
+        second,
+    };
+    formula_value(desk_questions::value(d, formula, model, State(state)))
 }
 
 // A formula's value on model 1 or 2, with its facts.
@@ -67,7 +72,13 @@ pub extern "C" fn koelchair_whole(
 ) -> Answer
     ensures { AskedInNumbers (Question.Whole formula model) s store.now first.now second.now result }
 {
-    formula_value(desk_questions::whole(s, store, first, second, formula, model))
+    let d = Desk {
+        standing: s,
+        store,
+        first,
+        second,
+    };
+    formula_value(desk_questions::whole(d, formula, model))
 }
 
 // The score of the shown table.
@@ -80,7 +91,13 @@ pub extern "C" fn koelchair_score<'a>(
 ) -> Answer
     ensures { AskedInNumbers Question.Score s store.now first.now second.now result }
 {
-    element(desk_questions::score(s, store, first, second))
+    let d = Desk {
+        standing: s,
+        store,
+        first,
+        second,
+    };
+    element(desk_questions::score(d))
 }
 
 // The per cent of shown entries at or above an element.
@@ -94,7 +111,13 @@ pub extern "C" fn koelchair_share<'a>(
 ) -> Answer
     ensures { AskedInNumbers (Question.Share e) s store.now first.now second.now result }
 {
-    per_cent(desk_questions::share(s, store, first, second, Element(e)))
+    let d = Desk {
+        standing: s,
+        store,
+        first,
+        second,
+    };
+    per_cent(desk_questions::share(d, Element(e)))
 }
 
 // Whether each entry of a table is at or below that of F of the table.
@@ -108,5 +131,11 @@ pub extern "C" fn koelchair_judge(
 ) -> Answer
     ensures { AskedInNumbers (Question.Judge table.now) s store.now first.now second.now result }
 {
-    judged(desk_questions::judge(s, store, first, second, table))
+    let d = Desk {
+        standing: s,
+        store,
+        first,
+        second,
+    };
+    judged(desk_questions::judge(d, table))
 }

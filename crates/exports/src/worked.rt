@@ -1,17 +1,14 @@
 // One entry of the next round, with the pairs that working it looks at. It is no call of document 01.
-ghost use Rattle.std.specs.Prelude.{◌≡◌, ◌&&◌, ◌<◌, ltb, get_or};
-ghost use Rattle.casefile.specs.Directory.{part_at};
-ghost use Rattle.entries.specs.Table.{EntryIs};
+ghost use Rattle.std.specs.Prelude.{◌≡◌};
 ghost use Rattle.desk.specs.Desk.{Call};
 ghost use Rattle.desk.specs.Refused.{examined};
 ghost use Rattle.desk_check.specs.Read.{desk_of};
-ghost use Rattle.desk_questions.specs.Questions.{Readable};
 ghost use Rattle.exports.specs.Worked.{refused_entry, worked_entry};
 
 use crate::WorkedEntry;
-use desk_check::{Examined, STORE_LENGTH, Standing};
-use elements::{Codes, Lattice};
-use entries::Entry;
+use desk_check::{Desk, Standing};
+use elements::{Algebra, Codes};
+use entries::Table;
 use model::State;
 use refusal::Refusal;
 
@@ -20,32 +17,11 @@ fn refused_entry(f: Refusal) -> WorkedEntry
     ensures { result ≡ refused_entry f }
 {
     WorkedEntry {
-        number: refusal::number(f),
-        part: refusal::part(f),
+        number: f.number(),
+        part: f.part(),
         value: 0,
         pairs: 0,
     }
-}
-
-// q1 is below n1 and q2 below n2.
-fn is_below(q1: u8, n1: u8, q2: u8, n2: u8) -> bool
-    ensures { result ≡ (ltb q1 n1 && ltb q2 n2) }
-{
-    if n1 <= q1 {
-        return false;
-    }
-    q2 < n2
-}
-
-// The entry of the table `whole`, for the models of the case in `bytes`.
-fn entry_in(w: &Codes, l: Lattice, bytes: &[u8], whole: &[u8], q1: u8, q2: u8) -> Entry
-    requires { Readable w.now l bytes.now whole.now × (q1 < get_or (part_at bytes.now 1) 0 0) × (q2 < get_or (part_at bytes.now 2) 0 0) }
-    ensures { EntryIs w.now l (part_at bytes.now 1) (part_at bytes.now 2) whole.now q1 q2
-        result.value.0 result.pairs }
-{
-    let m1 = casefile::part(bytes, 1);
-    let m2 = casefile::part(bytes, 2);
-    entries::entry_of(w, l, m1, m2, whole, State(q1), State(q2))
 }
 
 // Entry (q1, q2) of F of the shown table, and how many pairs (q1', q2') working it looks at.
@@ -61,22 +37,32 @@ pub extern "C" fn koelchair_entry<'a>(
     ensures { result ≡ worked_entry q1 q2 (desk_of s store.now first.now second.now)
         (examined Call.Show (desk_of s store.now first.now second.now)) }
 {
-    let mut w = [0u64; 128];
-    match desk_check::examine(s, store, first, second, &mut w) {
-        Examined::Refused(f) => refused_entry(f),
-        Examined::Held(z) => {
-            let l = z.lattice;
-            if !is_below(q1, z.states1, q2, z.states2) {
+    let mut w = Codes::new();
+    let d = Desk {
+        standing: s,
+        store,
+        first,
+        second,
+    };
+    match d.examine(&mut w) {
+        Err(f) => refused_entry(f),
+        Ok(z) => {
+            if z.states1 <= q1 || z.states2 <= q2 {
                 return refused_entry(Refusal::OutOfRange);
             }
-            let bytes = &store[..STORE_LENGTH];
-            let whole = desk_questions::whole_table(s.second_whole, first, second);
-            let e = entry_in(&w, l, bytes, whole, q1, q2);
-            let value = e.value;
+            let algebra = Algebra {
+                codes: &w,
+                lattice: z.lattice,
+            };
+            let shown = Table {
+                models: d.models(),
+                bytes: d.whole_table(),
+            };
+            let e = entries::entry_of(&algebra, &shown, State(q1), State(q2));
             WorkedEntry {
                 number: 0,
                 part: 0,
-                value: value.0,
+                value: e.value.0,
                 pairs: e.pairs as u32,
             }
         }

@@ -5,7 +5,7 @@ ghost use Rattle.exports.specs.Numbers.{AskedInNumbersWith};
 
 use crate::Answer;
 use crate::numbers::length;
-use desk_check::Standing;
+use desk_check::{Desk, Standing};
 
 // Writes the desk's case without gaps at the front of a buffer, and says how many bytes it has. The bytes after it are unchanged.
 #[unsafe(no_mangle)]
@@ -19,5 +19,11 @@ pub extern "C" fn koelchair_write(
     ensures { AskedInNumbersWith (out.new ∷ []) (Question.Write out.old)
         s store.now first.now second.now result }
 {
-    length(desk_questions::write(s, store, first, second, out))
+    let d = Desk {
+        standing: s,
+        store,
+        first,
+        second,
+    };
+    length(desk_questions::write(d, out))
 }

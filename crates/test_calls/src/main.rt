@@ -5,68 +5,11 @@
 
 ghost use Rattle.std.specs.Prelude.{◌≤◌, length, IfOk, OnErr, ◌≡◌};
 
-use desk_check::Standing;
-use desk_moves::{OpenAnswer, StepAnswer};
-use desk_questions::{ElementAnswer, JudgeAnswer, LengthAnswer, ShareAnswer, ValueAnswer};
+use desk_check::{Desk, Standing};
 use elements::Element;
 use model::State;
 use std::io;
 use test_printing::{at, say};
-
-// ---- the answers
-
-fn say_step(rt: &impl Print, a: StepAnswer) -> io::Result<()> {
-    match a {
-        StepAnswer::Refused(r) => test_printing::refused(rt, r),
-        StepAnswer::Row(n) => test_printing::item(rt, b" Row ", n as u64),
-        StepAnswer::Round(r, n) => test_printing::two(rt, b" Round ", r as u64, n as u64),
-        StepAnswer::Settled(t, n) => test_printing::two(rt, b" Settled ", t as u64, n as u64),
-    }
-}
-
-fn say_element(rt: &impl Print, a: ElementAnswer) -> io::Result<()> {
-    match a {
-        ElementAnswer::Refused(r) => test_printing::refused(rt, r),
-        ElementAnswer::Is(e) => test_printing::byte(rt, e.0),
-    }
-}
-
-fn say_value(rt: &impl Print, a: ValueAnswer) -> io::Result<()> {
-    match a {
-        ValueAnswer::Refused(r) => test_printing::refused(rt, r),
-        ValueAnswer::Is(e, x) => {
-            test_printing::byte(rt, e.0)?;
-            test_printing::facts(rt, x.nesting, x.fixpoint, x.ex)
-        }
-    }
-}
-
-fn say_share(rt: &impl Print, a: ShareAnswer) -> io::Result<()> {
-    match a {
-        ShareAnswer::Refused(r) => test_printing::refused(rt, r),
-        ShareAnswer::PerCent(p) => test_printing::byte(rt, p),
-    }
-}
-
-fn say_judge(rt: &impl Print, a: JudgeAnswer) -> io::Result<()> {
-    match a {
-        JudgeAnswer::Refused(r) => test_printing::refused(rt, r),
-        JudgeAnswer::Says(yes) => {
-            if yes {
-                say(rt, b" yes")
-            } else {
-                say(rt, b" no")
-            }
-        }
-    }
-}
-
-fn say_length(rt: &impl Print, a: LengthAnswer) -> io::Result<()> {
-    match a {
-        LengthAnswer::Refused(r) => test_printing::refused(rt, r),
-        LengthAnswer::Length(n) => test_printing::item(rt, b" Length ", n as u64),
-    }
-}
 
 // ---- the calls
 
@@ -79,23 +22,8 @@ fn open(
     second: &mut [u8],
 ) -> io::Result<Standing> {
     let o = desk_moves::open(s, case, store, first, second);
-    let a = o.answer;
-    match a {
-        OpenAnswer::Refused(r) => test_printing::refused(rt, r)?,
-        OpenAnswer::Opened => say(rt, b" Opened")?,
-    }
+    test_answers::opened(rt, o.answer)?;
     Ok(o.standing)
-}
-
-fn show<'a>(
-    rt: &impl Print,
-    s: Standing,
-    store: &[u8],
-    first: &'a [u8],
-    second: &'a [u8],
-) -> io::Result<()> {
-    say(rt, b", shown")?;
-    test_printing::bytes(rt, desk_questions::show(s, store, first, second))
 }
 
 fn step(
@@ -106,82 +34,43 @@ fn step(
     second: &mut [u8],
 ) -> io::Result<Standing> {
     let o = desk_moves::step(s, store, first, second);
-    let a = o.answer;
-    say_step(rt, a)?;
-    show(rt, o.standing, store, first, second)?;
+    test_answers::stepped(rt, o.answer)?;
+    let d = Desk {
+        standing: o.standing,
+        store,
+        first,
+        second,
+    };
+    print!(rt; ", shown")?;
+    test_printing::bytes(rt, desk_questions::show(d))?;
     Ok(o.standing)
 }
 
-// The value of formula f at state q of model m.
-fn value(
-    rt: &impl Print,
-    s: Standing,
-    f: u8,
-    m: u8,
-    q: u8,
-    store: &[u8],
-    first: &[u8],
-    second: &[u8],
-) -> io::Result<()> {
-    say_value(
-        rt,
-        desk_questions::value(s, store, first, second, f, m, State(q)),
-    )
-}
-
-// The case written into a buffer, and the buffer after it.
-fn write_into(
-    rt: &impl Print,
-    s: Standing,
-    store: &[u8],
-    first: &[u8],
-    second: &[u8],
-    out: &mut [u8],
-) -> io::Result<()> {
-    say_length(rt, desk_questions::write(s, store, first, second, out))?;
-    say(rt, b", buffer")?;
+// The case written into a buffer of 21, 22 or 24 bytes of 170, else of 42, and the buffer after it.
+fn write(rt: &impl Print, d: Desk, n: u8) -> io::Result<()> {
+    let n = match n {
+        21 | 22 | 24 => usize::from(n),
+        _ => 42,
+    };
+    let mut room = [170u8; 42];
+    let out = &mut room[..n];
+    test_answers::length(rt, desk_questions::write(d, out))?;
+    print!(rt; ", buffer")?;
     test_printing::bytes(rt, out)
 }
 
-// The same with a buffer of 21, 22 or 24 bytes of 170, else of 42.
-fn write(
-    rt: &impl Print,
-    s: Standing,
-    n: u8,
-    store: &[u8],
-    first: &[u8],
-    second: &[u8],
-) -> io::Result<()> {
-    match n {
-        21 => write_into(rt, s, store, first, second, &mut [170u8; 21]),
-        22 => write_into(rt, s, store, first, second, &mut [170u8; 22]),
-        24 => write_into(rt, s, store, first, second, &mut [170u8; 24]),
-        _ => write_into(rt, s, store, first, second, &mut [170u8; 42]),
-    }
-}
-
 // The calls that only read the desk, by the word's letter.
-fn ask<'a>(
-    rt: &impl Print,
-    s: Standing,
-    letter: u8,
-    bytes: &[u8],
-    store: &[u8],
-    first: &'a [u8],
-    second: &'a [u8],
-) -> io::Result<()> {
+fn ask(rt: &impl Print, d: Desk, letter: u8, bytes: &[u8]) -> io::Result<()> {
     let a = at(bytes, 0);
     let b = at(bytes, 1);
+    let q = State(at(bytes, 2));
     match letter {
-        b'c' => say_element(rt, desk_questions::score(s, store, first, second)),
-        b'h' => say_share(
-            rt,
-            desk_questions::share(s, store, first, second, Element(a)),
-        ),
-        b'j' => say_judge(rt, desk_questions::judge(s, store, first, second, bytes)),
-        b'w' => say_value(rt, desk_questions::whole(s, store, first, second, a, b)),
-        b'r' => write(rt, s, a, store, first, second),
-        b'v' => value(rt, s, a, b, at(bytes, 2), store, first, second),
+        b'c' => test_answers::number(rt, desk_questions::score(d).map(|e| e.0)),
+        b'h' => test_answers::number(rt, desk_questions::share(d, Element(a))),
+        b'j' => test_answers::judged(rt, desk_questions::judge(d, bytes)),
+        b'w' => test_answers::valued(rt, desk_questions::whole(d, a, b)),
+        b'v' => test_answers::valued(rt, desk_questions::value(d, a, b, q)),
+        b'r' => write(rt, d, a),
         _ => Ok(()),
     }
 }
@@ -200,7 +89,13 @@ fn call(
         b'o' => open(rt, s, bytes, store, first, second),
         b't' => step(rt, s, store, first, second),
         _ => {
-            ask(rt, s, letter, bytes, store, first, second)?;
+            let d = Desk {
+                standing: s,
+                store,
+                first,
+                second,
+            };
+            ask(rt, d, letter, bytes)?;
             Ok(s)
         }
     }
@@ -242,7 +137,7 @@ fn run(
     let mut bytes = [0u8; 256];
     let count = word(rt, line, &mut bytes)?;
     let t = call(rt, s, letter(line), &bytes[..count], store, first, second)?;
-    say(rt, b"\n")?;
+    println!(rt)?;
     Ok(t)
 }
 
@@ -255,33 +150,20 @@ fn run_all(
     second: &mut [u8],
 ) -> io::Result<()> {
     let mut t = s;
-    let mut at = 0;
-    while at < text.len() {
-        let end = test_printing::line(text, at);
-        t = run(rt, t, &text[at..end], store, first, second)?;
-        at = end;
+    for line in text.split_inclusive(|&b| b == b'\n') {
+        t = run(rt, t, line, store, first, second)?;
     }
     Ok(())
 }
 
 fn main(rt: HostRuntime) -> io::Result<()> {
-    let s = Standing {
-        states1: 0,
-        states2: 0,
-        round: 0,
-        row: 0,
-        changed: false,
-        settled: false,
-        second_whole: false,
-        lowerings: 0,
-    };
     let mut store = [0u8; 24576];
     let mut first = [0u8; 4096];
     let mut second = [0u8; 4096];
     let mut short = [0u8; 4095];
-    say(&rt, b"# a desk with a table too short\nstep")?;
-    let t = step(&rt, s, &store, &mut first, &mut short)?;
-    say(&rt, b"\n")?;
+    print!(&rt; "# a desk with a table too short\nstep")?;
+    let t = step(&rt, Standing::default(), &store, &mut first, &mut short)?;
+    println!(&rt)?;
     let mut text = [0u8; 4096];
     let count = test_printing::read_full(&mut rt.stdin(), &mut text)?;
     run_all(&rt, t, &text[..count], &mut store, &mut first, &mut second)

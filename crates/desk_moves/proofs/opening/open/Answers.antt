@@ -1,59 +1,54 @@
 -- `desk_moves::open` meets its contract: too short, the case refused, or the desk made anew.
-use mathlib.Core.Path.{◌≡◌, sym, ◌∙◌}
-use mathlib.Core.Bool.{false}
-use native.Mathlib.Omega.{arith}
+use Rattle.std.proofs.Common.{◌≡◌, refl, sym, false, arith, length-take-le}
 use Rattle.casefile.proofs.Caller.{when_accepted, when_refused}
-use Rattle.desk.specs.Desk.{Desk}
 use Rattle.desk.specs.Refused.{short}
-use Rattle.desk.specs.RulesLaws.{Long}
 use Rattle.desk.proofs.RulesLaws.{long-enough}
 use Rattle.desk_check.specs.Read.{desk_of}
-use Rattle.desk_check.specs.Held.{case_few}
-use Rattle.desk_moves.specs.Opened.{short_open, refused_open, accepted_open}
-use borrow.Author.Rules.{rules}
+use Rattle.desk_moves.specs.Opened.{short_open, refused_open, accepted_open, room, filled}
 use Rattle.desk_moves.proofs.opening.open.Goals as goal
 use Rattle.desk_moves.proofs.opening.open.Goals.{Else-too_short}
 
 -- the desk is long enough
-
 not_short : (c : Else-too_short) → short (let a = c.args in desk_of a.s a.store.now a.first.now a.second.now) ≡ false
 unfolding short
-not_short c = sym c.too_short.ensures ∙ c.if-too_short.false
+not_short c = sym c.if-too_short.ensures
 
 pub returns-then-too_short : goal.returns-then-too_short
 unfolding short
-returns-then-too_short c =
-    let desk = let a = c.args in desk_of a.s a.store.now a.first.now a.second.now in
-    short_open _ desk (sym c.too_short.ensures ∙ c.if-too_short.true)
+returns-then-too_short c = short_open _ _ (sym c.if-too_short.ensures)
+
+pub invariant_of-taken : goal.invariant_of-taken
+invariant_of-taken c = record { placed = (when_accepted _ _ _ _ c.check.ensures c.in-Ok.is).placed }
 
 pub write-requires : goal.write-requires
 write-requires c =
-    let desk = let a = c.args in desk_of a.s a.store.now a.first.now a.second.now in
-    let lengths = long-enough desk (not_short (goal.at.write-requires c).Else-too_short) in
-    let a = when_accepted _ _ _ _ c.check.ensures c.in-Accepted.is in
-    (a.placed, omega (arith, a.short, lengths.store_long))
+    let lengths = long-enough _ (not_short (goal.at.write-requires c).Else-too_short) in
+    let a = when_accepted _ _ _ _ c.check.ensures c.in-Ok.is in
+    omega (arith, a.short, lengths.store_long)
 
-pub fill-requires : goal.fill-requires
-fill-requires c =
-    let desk = let a = c.args in desk_of a.s a.store.now a.first.now a.second.now in
-    let lengths = long-enough desk (not_short (goal.at.fill-requires c).Else-too_short) in
-    let a = when_accepted _ _ _ _ c.check.ensures c.in-Accepted.is in
-    omega (arith, c.table_size-n.ensures.0, case_few a, lengths.first_long)
+pub slice_bounds-fill-end : goal.slice_bounds-fill-end
+slice_bounds-fill-end c = (room _ (not_short (goal.at.slice_bounds-fill-end c).Else-too_short) (when_accepted _ _ _ _ c.check.ensures c.in-Ok.is) c.table_size-n.ensures.0).0
 
-pub fill-requires-in-Accepted : goal.fill-requires-in-Accepted
-fill-requires-in-Accepted c =
-    let desk = let a = c.args in desk_of a.s a.store.now a.first.now a.second.now in
-    let lengths = long-enough desk (not_short (goal.at.fill-requires-in-Accepted c).Else-too_short) in
-    let a = when_accepted _ _ _ _ c.check.ensures c.in-Accepted.is in
-    omega (arith, c.table_size-n.ensures.0, case_few a, lengths.second_long)
+pub slice_bounds-fill-end-in-Ok : goal.slice_bounds-fill-end-in-Ok
+slice_bounds-fill-end-in-Ok c = sym (length-take-le _ c.args.first.now (room _ (not_short (goal.at.slice_bounds-fill-end-in-Ok c).Else-too_short) (when_accepted _ _ _ _ c.check.ensures c.in-Ok.is) c.table_size-n.ensures.0).0)
 
-pub returns-in-Refused : goal.returns-in-Refused
-returns-in-Refused c =
-    let desk = let a = c.args in desk_of a.s a.store.now a.first.now a.second.now in
-    refused_open _ desk _ (not_short (goal.at.returns-in-Refused c).Else-too_short) (when_refused _ _ _ _ c.check.ensures c.in-Refused.is)
+pub slice_bounds-fill-end-in-Ok-2 : goal.slice_bounds-fill-end-in-Ok-2
+slice_bounds-fill-end-in-Ok-2 c = (room _ (not_short (goal.at.slice_bounds-fill-end-in-Ok-2 c).Else-too_short) (when_accepted _ _ _ _ c.check.ensures c.in-Ok.is) c.table_size-n.ensures.0).1
 
-pub returns-in-Accepted : goal.returns-in-Accepted
-returns-in-Accepted c =
-    let desk = let a = c.args in desk_of a.s a.store.now a.first.now a.second.now in
-    let a = when_accepted _ _ _ _ c.check.ensures c.in-Accepted.is in
-    accepted_open _ desk _ _ (not_short (goal.at.returns-in-Accepted c).Else-too_short) a c.table_size-n.result _ _ _ c.table_size-n.ensures.0 c.write.ensures c.fill.ensures c.fill-in-Accepted.ensures
+pub slice_bounds-fill-end-in-Ok-3 : goal.slice_bounds-fill-end-in-Ok-3
+slice_bounds-fill-end-in-Ok-3 c = sym (length-take-le _ c.args.second.now (room _ (not_short (goal.at.slice_bounds-fill-end-in-Ok-3 c).Else-too_short) (when_accepted _ _ _ _ c.check.ensures c.in-Ok.is) c.table_size-n.ensures.0).1)
+
+pub returns-in-Err : goal.returns-in-Err
+returns-in-Err c =
+    refused_open _ _ _ (not_short (goal.at.returns-in-Err c).Else-too_short) (when_refused _ _ _ _ c.check.ensures c.in-Err.is)
+
+pub returns-in-Ok : goal.returns-in-Ok
+returns-in-Ok c =
+    let s = not_short (goal.at.returns-in-Ok c).Else-too_short in
+    let a = when_accepted _ _ _ _ c.check.ensures c.in-Ok.is in
+    let n = c.table_size-n.ensures.0 in
+    let r = room _ s a n in
+    let t = c.default.ensures.1.1 in
+    accepted_open _ _ _ _ s a c.table_size-n.result _ _ _ _ n (rw (t.0, t.1.0, t.1.1.0, t.1.1.1.0, t.1.1.1.1.0, t.1.1.1.1.1) refl) c.write.ensures
+    (filled _ _ _ _ r.0 (c.fill.ensures.after (λ y e. e)))
+    (filled _ _ _ _ r.1 (c.fill-in-Ok.ensures.after (λ y e. e)))

@@ -1,52 +1,36 @@
--- `desk_questions::value` meets its contract: by the examination, the range, then by the value and the facts.
-use mathlib.Core.Path.{refl, sym, ◌∙◌}
-use Rattle.desk.specs.Desk.{Desk, Call, Question}
-use Rattle.desk_check.specs.Read.{desk_of}
-use Rattle.desk_check.specs.Held.{HeldDesk, when_held, refused_call}
-use borrow.Author.Tests.{not-true, not-false, ltb-true}
-use lib.Seq.{length-take-le}
-use Rattle.desk_questions.specs.Questions.{model_over, formula_on_model, held_value, value_outside, value_state}
-use borrow.Author.Rules.{rules}
+-- `desk_questions::value` meets its contract: by the ranges, then by the value and the facts on a held desk.
+use Rattle.std.proofs.Common.{sym, lt-ltb, le-ltb}
+use Rattle.desk_questions.specs.Questions.{model_over, formula_on_model, formula_reads, held_value, value_outside, value_state}
 use Rattle.desk_questions.proofs.formulas.value.Goals as goal
 
 pub returns-then-not-in_range : goal.returns-then-not-in_range
-returns-then-not-in_range c =
-    let held = when_held _ _ _ _ c.examine.ensures c.in-Held.is in
-    value_outside held _ _ _ (sym c.in_range.ensures ∙ c.if-not-in_range.true)
+returns-then-not-in_range c = value_outside c.in_ok-z.ensures.held _ _ _ (sym c.if-not-in_range.ensures)
 
-pub slice_bounds-bytes-end : goal.slice_bounds-bytes-end
-slice_bounds-bytes-end c =
-    let desk = let a = c.args in desk_of a.s a.store.now a.first.now a.second.now in
-    let held = when_held _ _ _ _ c.examine.ensures c.in-Held.is in
-    sym (length-take-le 24576 desk.store held.lengths.store_long)
+pub invariant_of-model : goal.invariant_of-model
+invariant_of-model c =
+    let p = formula_on_model c.in_ok-z.ensures.held c.args.f c.args.m (sym c.if-not-in_range.ensures) in
+    record { shape = rw (c.part.ensures, c.case-case.ensures) p.shape }
 
-pub has_state-requires : goal.has_state-requires
-has_state-requires c =
-    let held = when_held _ _ _ _ c.examine.ensures c.in-Held.is in
-    formula_on_model held _ _ (sym c.in_range.ensures ∙ c.if-not-in_range.false)
+pub returns-then-states-from : goal.returns-then-states-from
+returns-then-states-from c =
+    value_state c.in_ok-z.ensures.held c.args.f c.args.m _ (sym c.if-not-in_range.ensures)
+    (le-ltb _ _ (rw (c.states.ensures, c.from.ensures, c.part.ensures, c.case-case.ensures) at c.if-states-from.true))
 
-pub returns-then-not-has_state : goal.returns-then-not-has_state
-returns-then-not-has_state c =
-    let held = when_held _ _ _ _ c.examine.ensures c.in-Held.is in
-    value_state held _ _ _ (sym c.in_range.ensures ∙ c.if-not-in_range.false) (sym c.has_state.ensures ∙ c.if-not-has_state.true)
+pub value-requires : goal.value-requires
+value-requires c =
+    let h = c.in_ok-z.ensures.held in
+    let r = sym c.if-not-in_range.ensures in
+    let q = rw (c.states.ensures, c.from.ensures) at c.if-states-from.false in
+    rw (c.part.ensures, c.part-formula.ensures, c.case-case.ensures)
+    (model_over h c.args.f c.args.m r, (formula_on_model h c.args.f c.args.m r).reads, rw (c.part.ensures, c.case-case.ensures) at q)
 
-pub value_of-e-requires : goal.value_of-e-requires
-value_of-e-requires c =
-    let held = when_held _ _ _ _ c.examine.ensures c.in-Held.is in
-    let r = sym c.in_range.ensures ∙ c.if-not-in_range.false in
-    (model_over held _ _ r, formula_on_model held _ _ r, ltb-true _ _ (sym c.has_state.ensures ∙ c.if-not-has_state.false))
+pub facts-requires : goal.facts-requires
+facts-requires c =
+    rw (c.part-formula.ensures, c.case-case.ensures) (formula_reads c.in_ok-z.ensures.held c.args.f c.args.m (sym c.if-not-in_range.ensures))
 
-pub returns-in-Refused : goal.returns-in-Refused
-returns-in-Refused c =
-    let desk = let a = c.args in desk_of a.s a.store.now a.first.now a.second.now in
-    refused_call (Call.Ask (Question.Value c.args.f c.args.m c.args.q.0)) desk _ _ _ refl c.examine.ensures c.in-Refused.is
-
-pub facts_of-facts-requires : goal.facts_of-facts-requires
-facts_of-facts-requires c =
-    let held = when_held _ _ _ _ c.examine.ensures c.in-Held.is in
-    formula_on_model held _ _ (sym c.in_range.ensures ∙ c.if-not-in_range.false)
-
-pub returns-else-not-has_state : goal.returns-else-not-has_state
-returns-else-not-has_state c =
-    let held = when_held _ _ _ _ c.examine.ensures c.in-Held.is in
-    held_value held _ _ _ _ _ (sym c.in_range.ensures ∙ c.if-not-in_range.false) (sym c.has_state.ensures ∙ c.if-not-has_state.false) c.value_of-e.ensures c.facts_of-facts.ensures
+pub returns : goal.returns
+returns c =
+    held_value c.in_ok-z.ensures.held c.args.f c.args.m _ _ _ (sym c.if-not-in_range.ensures)
+    (lt-ltb _ _ (rw (c.states.ensures, c.from.ensures, c.part.ensures, c.case-case.ensures) at c.if-states-from.false))
+    (rw (c.part.ensures, c.part-formula.ensures, c.case-case.ensures) at c.value.ensures)
+    (rw (c.part-formula.ensures, c.case-case.ensures) at c.facts.ensures)
