@@ -4,137 +4,90 @@
 
 ghost use Rattle.std.specs.Prelude.{◌≡◌, ◌+◌, ◌*◌, ◌≤◌, ◌<◌, length, get_or};
 ghost use Rattle.theory.specs.Part.{ModelShape};
-ghost use Rattle.elements.specs.Words.{Coded};
-ghost use Rattle.entries.specs.Table.{Shaped};
 
-use elements::{Codes, Element, Lattice};
-use lattice::LatticeCheck;
-use model::State;
+use elements::{Algebra, Codes, Element};
+use entries::{Models, Table};
+use model::{Model, State};
 use std::io;
 
 // ---- printing
 
-// A label and a number on a line.
-fn say(rt: &impl Print, text: &[u8], n: usize) -> io::Result<()> {
-    test_printing::item(rt, text, n as u64)?;
-    test_printing::say(rt, b"\n")
-}
-
 // A row by its number and its entries, on a line.
-fn show_row(rt: &impl Print, s: &[u8], q1: usize, at: usize, n: usize) -> io::Result<()>
-    requires { at + n ≤ length s.now }
-{
-    let end = at + n;
-    test_printing::item(rt, b"row ", q1 as u64)?;
-    test_printing::say(rt, b":")?;
-    test_printing::bytes(rt, &s[at..end])?;
-    test_printing::say(rt, b"\n")
+fn show_row(rt: &impl Print, q1: usize, entries: &[u8]) -> io::Result<()> {
+    print!(rt; "row {q1}:")?;
+    test_printing::bytes(rt, entries)?;
+    println!(rt; "")
 }
 
-fn show_round(rt: &impl Print, r: usize, s: &[u8], n1: usize, n2: usize) -> io::Result<()>
-    requires { n1 * n2 ≤ length s.now }
-{
-    say(rt, b"round ", r)?;
-    for q1 in 0..n1 {
-        show_row(rt, s, q1, q1 * n2, n2)?;
+fn show_round(rt: &impl Print, r: usize, t: &Table) -> io::Result<()> {
+    println!(rt; "round {r}")?;
+    for q in 0..t.models.first.states() {
+        show_row(rt, q, t.row(State(q as u8)))?;
     }
     Ok(())
 }
 
-// How many pairs working each entry of row q1 of F of the table s looks at, on a line.
-fn show_pairs(
-    rt: &impl Print,
-    w: &Codes,
-    l: Lattice,
-    m1: &[u8],
-    m2: &[u8],
-    s: &[u8],
-    q1: State,
-) -> io::Result<()>
-    requires { Coded w.now l × Shaped m1.now m2.now s.now × (q1.0 < get_or m1.now 0 0) }
+// How many pairs working each entry of row q1 of F of a table looks at, on a line.
+fn show_pairs(rt: &impl Print, a: &Algebra, t: &Table, q1: State) -> io::Result<()>
+    requires { q1.0 < get_or t.now.models.first.bytes.now 0 0 }
 {
-    let n2 = model::states(m2);
-    test_printing::item(rt, b"pairs of row ", q1.0 as u64)?;
-    test_printing::say(rt, b":")?;
-    for q2 in 0..n2 {
-        let e = entries::entry_of(w, l, m1, m2, s, q1, State(q2 as u8));
-        test_printing::item(rt, b" ", e.pairs as u64)?;
+    let q = q1.0;
+    print!(rt; "pairs of row {q}:")?;
+    for q2 in 0..t.models.second.states() {
+        let n = entries::entry_of(a, t, q1, State(q2 as u8)).pairs;
+        print!(rt; " {n}")?;
     }
-    test_printing::say(rt, b"\n")
+    println!(rt; "")
 }
 
 // The same of every row.
-fn show_all_pairs(
-    rt: &impl Print,
-    w: &Codes,
-    l: Lattice,
-    m1: &[u8],
-    m2: &[u8],
-    s: &[u8],
-) -> io::Result<()>
-    requires { Coded w.now l × Shaped m1.now m2.now s.now }
-{
-    let n1 = model::states(m1);
-    for q1 in 0..n1 {
-        show_pairs(rt, w, l, m1, m2, s, State(q1 as u8))?;
+fn show_all_pairs(rt: &impl Print, a: &Algebra, t: &Table) -> io::Result<()> {
+    for q1 in 0..t.models.first.states() {
+        show_pairs(rt, a, t, State(q1 as u8))?;
     }
     Ok(())
 }
 
 // Whether each entry of a table is at or below that of F of the table.
-fn show_sound(
-    rt: &impl Print,
-    w: &Codes,
-    l: Lattice,
-    m1: &[u8],
-    m2: &[u8],
-    s: &[u8],
-) -> io::Result<()>
-    requires { Coded w.now l × Shaped m1.now m2.now s.now }
-{
-    if rounds::is_post_fixed(w, l, m1, m2, s) {
-        test_printing::say(rt, b"sound\n")
+fn show_sound(rt: &impl Print, a: &Algebra, t: &Table) -> io::Result<()> {
+    if rounds::is_post_fixed(a, t) {
+        println!(rt; "sound")
     } else {
-        test_printing::say(rt, b"not sound\n")
+        println!(rt; "not sound")
     }
 }
 
 // What is said of the round that changed nothing.
-fn show_settled(
-    rt: &impl Print,
-    w: &Codes,
-    l: Lattice,
-    m1: &[u8],
-    m2: &[u8],
-    s: &[u8],
-    r: usize,
-) -> io::Result<()>
-    requires { Coded w.now l × Shaped m1.now m2.now s.now }
-{
-    say(rt, b"settled ", r)?;
-    let e = rounds::score(w, l, m1, m2, s);
-    say(rt, b"score ", e.0 as usize)
+fn show_settled(rt: &impl Print, a: &Algebra, t: &Table, r: usize) -> io::Result<()> {
+    println!(rt; "settled {r}")?;
+    let e = rounds::score(a, t).0;
+    println!(rt; "score {e}")
 }
 
 // ---- an example
 
 // Works rounds, from all top, up to the first that changes nothing.
-fn settle(rt: &impl Print, w: &Codes, l: Lattice, m1: &[u8], m2: &[u8]) -> io::Result<()>
-    requires { Coded w.now l × ModelShape m1.now × ModelShape m2.now × (get_or m1.now 1 0 ≡ get_or m2.now 1 0)
-        × (get_or m1.now 0 0 * get_or m2.now 0 0 ≤ 64) }
+fn settle(rt: &impl Print, a: &Algebra, m: &Models) -> io::Result<()>
+    requires { get_or m.now.first.bytes.now 0 0 * get_or m.now.second.bytes.now 0 0 ≤ 64 }
 {
-    let n1 = model::states(m1);
-    let n2 = model::states(m2);
-    let top = l.top.0;
+    let top = a.lattice.top.0;
     let mut s = [top; 64];
     let mut out = [top; 64];
     for r in 1..17 {
-        let changed = rounds::round(w, l, m1, m2, &s, &mut out);
-        show_round(rt, r, &out, n1, n2)?;
-        show_all_pairs(rt, w, l, m1, m2, &s)?;
-        show_sound(rt, w, l, m1, m2, &out)?;
+        let shown = Table {
+            models: *m,
+            bytes: &s,
+        };
+        let changed = rounds::round(a, &shown, &mut out);
+        let next = Table {
+            models: *m,
+            bytes: &out,
+        };
+        show_round(rt, r, &next)?;
+        show_all_pairs(rt, a, &shown)?;
+        show_sound(rt, a, &next)?;
         if !changed {
-            return show_settled(rt, w, l, m1, m2, &out, r);
+            return show_settled(rt, a, &next, r);
         }
         s = out;
     }
@@ -142,14 +95,30 @@ fn settle(rt: &impl Print, w: &Codes, l: Lattice, m1: &[u8], m2: &[u8]) -> io::R
 }
 
 // One example, over the lattice of a lattice part.
-fn example(rt: &impl Print, number: usize, part: &[u8], m1: &[u8], m2: &[u8]) -> io::Result<()>
+fn example<'x>(
+    rt: &impl Print,
+    number: usize,
+    part: &[u8],
+    m1: &'x [u8],
+    m2: &'x [u8],
+) -> io::Result<()>
     requires { ModelShape m1.now × ModelShape m2.now × (get_or m1.now 1 0 ≡ get_or m2.now 1 0) × (get_or m1.now 0 0 * get_or m2.now 0 0 ≤ 64) }
 {
-    let mut w = [0u64; 128];
-    say(rt, b"example ", number)?;
+    println!(rt; "example {number}")?;
+    let mut w = Codes::new();
     match lattice::check(part, &mut w) {
-        LatticeCheck::Refused(f) => test_printing::refused(rt, f),
-        LatticeCheck::Accepted(l) => settle(rt, &w, l, m1, m2),
+        Err(r) => test_printing::refused(rt, r),
+        Ok(l) => {
+            let a = Algebra {
+                codes: &w,
+                lattice: l,
+            };
+            let m = Models {
+                first: Model { bytes: m1 },
+                second: Model { bytes: m2 },
+            };
+            settle(rt, &a, &m)
+        }
     }
 }
 
@@ -193,15 +162,12 @@ fn early_ends(rt: &impl Print) -> io::Result<()> {
 fn share(rt: &impl Print, c: usize, n: usize) -> io::Result<()>
     requires { (c ≤ n) × (0 < n) × (n ≤ 200) }
 {
-    let mut w = [0u64; 128];
-    lattice::check(&L2, &mut w);
+    let mut w = Codes::new();
+    let _ = lattice::check(&L2, &mut w);
     let mut s = [0u8; 200];
-    for i in 0..c {
-        s[i] = 1;
-    }
-    test_printing::item(rt, b"share of ", c as u64)?;
-    test_printing::item(rt, b" in ", n as u64)?;
-    say(rt, b": ", share::share(&w, Element(1), &s, n) as usize)
+    s[..c].fill(1);
+    let share = share::share(&w, Element(1), &s[..n]);
+    println!(rt; "share of {c} in {n}: {share}")
 }
 
 fn main(rt: HostRuntime) -> io::Result<()> {
