@@ -2,16 +2,17 @@
 -- Rests on Answer, casefile's Caller, and desk's RefusedLaws.
 --   Stored, ModelsOf, HeldDesk, when_held: what is known of a desk that is held, of its store and of the models in it
 --   held_shown, held_question, held_outside, Refuses, refused_call: what a call does that is answered, refused for its conditions, or by the examination
---   case_few, few: N1·N2 is at most 4,096; entries_held: a table has room for the entries of the models; table_obeys_lem: the test of a table's bytes, from that of the code
+--   case_few, few: N1·N2 is at most 4,096; entries_held: a table has room for the entries of the models; table_obeys_lem, first_obey: the test of a table's first bytes, place by place and as a part
 --   short-examined, unread_examined, spoiled-examined, held-examined: the four answers of the examination
 --   show-examined: the examination of show is that of step
-use Rattle.std.specs.Prelude.{ℕ, ◌+◌, ◌*◌, ◌≤◌, ◌≡◌, Bool, true, false, cond, List, ltb, length, take, get_or, Ok, Err}
+use Rattle.std.specs.Prelude.{ℕ, ◌+◌, ◌*◌, ◌≤◌, ◌≡◌, Bool, true, false, cond, List, ltb, length, take, get_or, Result, Ok, Err}
 use Rattle.std.proofs.Math.Path.{refl, ap}
-use Rattle.std.proofs.Common.{sym, ◌∙◌, length-take-le, arith}
+use Rattle.std.proofs.Common.{sym, ◌∙◌, zero-add, length-take-le, arith}
 use Rattle.std.proofs.Math.Option.{none, some}
 use Rattle.std.specs.List.{list_all}
 use Rattle.std.proofs.lemmas.List.{get_or-take}
 use Rattle.theory.proofs.Parts.{list_all_below}
+use Rattle.theory.specs.Test.{all_below}
 use Rattle.theory.specs.TestLaws.{all_cong}
 use Rattle.theory.specs.Part.{ModelShape}
 use Rattle.casefile.specs.Directory.{part_count, part_at}
@@ -68,9 +69,9 @@ pub record HeldDesk (d : Desk) (z : Sizes) (w : List ℕ) : Type 0 where
   pub lengths : Long d
   pub store : Stored d.store
 
-pub when_held : {d : Desk} {z : Sizes} {w : List ℕ} → DeskExamined d (Ok z) w → HeldDesk d z w
+pub when_held : (d : Desk) (r : Result Sizes Refusal) (z : Sizes) (w : List ℕ) → DeskExamined d r w → r ≡ Ok z → HeldDesk d z w
 unfolding accepted_as
-when_held {d} {z} {w} a = go (examined Call.Step d) refl a.answer
+when_held d r z w a k = go (examined Call.Step d) refl (sym k ∙ a.answer)
   where
     go : (x : CaseReading) → examined Call.Step d ≡ x → Ok z ≡ examined_answer x → HeldDesk d z w
     go (refused f) e h = absurd (let z : ◌≡◌ {A = ℕ} 0 1 = cc in omega arith)
@@ -88,9 +89,13 @@ case_few a = rw a.sizes a.sound.entries_most
 pub few : {d : Desk} {z : Sizes} {w : List ℕ} → HeldDesk d z w → z.states1 * z.states2 ≤ 4096
 few h = case_few h.case
 
+-- a table's bytes are tested from place 0 on
+pub table_obeys_lem : (table : List ℕ) (m count n : ℕ) (r : Bool) → r ≡ all_below m (λ i. ltb (get_or table (0 + i) 0) n) → m ≡ count → r ≡ table_obeys count n table
+table_obeys_lem table m count n r e q = e ∙ all_cong m _ _ (λ i l. ap (λ (j : ℕ). ltb (get_or table j 0) n) (zero-add i)) ∙ ap (λ (k : ℕ). table_obeys k n table) q
+
 -- the test of a table's first bytes
-pub table_obeys_lem : (table : List ℕ) (m n : ℕ) → m ≤ length table → list_all (λ x. ltb x n) (take m table) ≡ table_obeys m n table
-table_obeys_lem table m n l =
+pub first_obey : (table : List ℕ) (m n : ℕ) → m ≤ length table → list_all (λ x. ltb x n) (take m table) ≡ table_obeys m n table
+first_obey table m n l =
     list_all_below (λ x. ltb x n) (take m table) ∙ rw (length-take-le m table l) (all_cong m _ _ (λ i k. rw (get_or-take m table i 0 k)))
 
 -- show and a question on a desk that is held: answered, or refused for the first of its conditions that is broken
@@ -118,11 +123,11 @@ module _ {d : Desk} {z : Sizes} {w : List ℕ} (h : HeldDesk d z w) where
 abbrev pub Refuses : Desk → Refusal → Type 0
 Refuses d f = (k : Call) → is_open k ≡ false → DoesWith (call_lent_buffers k) k d (refused_reply k f) d
 
-pub refused_call : {d : Desk} {f : Refusal} {w : List ℕ} → DeskExamined d (Err f) w → Refuses d f
-refused_call {d} {f} {w} a k o = perform_refused k d f (go (outcome Call.Step d refl))
+pub refused_call : (k : Call) (d : Desk) (r : Result Sizes Refusal) (f : Refusal) (w : List ℕ) → is_open k ≡ false → DeskExamined d r w → r ≡ Err f → DoesWith (call_lent_buffers k) k d (refused_reply k f) d
+refused_call k d r f w o a q = perform_refused k d f (go (outcome Call.Step d refl))
   where
     is : examined_answer (examined Call.Step d) ≡ Err f
-    is = sym a.answer
+    is = sym a.answer ∙ q
 
     same : (g : Refusal) → examined Call.Step d ≡ refused g → refused g ≡ refused f
     same g e = let u : Err g ≡ Err f = sym (ap examined_answer e) ∙ is in let v : g ≡ f = cc in ap refused v

@@ -2,10 +2,11 @@
 --   fresh_standing: the standing of a desk that is made anew
 --   short_open, refused_open, accepted_open: an open of a desk that is too short, of a refused case, of an accepted one
 --   room, filled: the tables have room for the entries; a table whose first n bytes were filled
-use Rattle.std.specs.Prelude.{ℕ, ◌*◌, ◌≤◌, ◌≡◌, true, false, List, [], length, replicate, take, drop, ◌++◌}
-use Rattle.std.proofs.Common.{sym, ◌∙◌, zero-add, refl, arith, length-take-le}
+--   fill_none, fill_more, fill_done: a loop that fills a table, where it begins, after one turn more, at its end
+use Rattle.std.specs.Prelude.{ℕ, ◌+◌, ◌*◌, ◌≤◌, ◌<◌, ◌≡◌, true, false, List, [], length, set, replicate, take, drop, ◌++◌}
+use Rattle.std.proofs.Common.{refl, sym, ap₂, ◌∙◌, zero-add, arith, length-take-le}
 use Rattle.std.proofs.Math.Path.{ap}
-use Rattle.std.proofs.lemmas.List.{length-replicate}
+use Rattle.std.proofs.lemmas.List.{length-replicate, replicate-append-replicate}
 use Rattle.refusal.specs.declared.Refusal.{Refusal}
 use Rattle.refusal.specs.declared.Refusal.TheVariants.{ShortDesk}
 use Rattle.casefile.specs.declared.Sizes.{Sizes}
@@ -14,6 +15,7 @@ use Rattle.casefile.specs.Reading.{refused, case_reading}
 use Rattle.casefile.specs.Gapless.{gapless}
 use Rattle.casefile.proofs.Accepted.{accepted_case}
 use Rattle.casefile.specs.Caller.{AcceptedCase}
+use Rattle.theory.specs.Written.{written_none, written_byte}
 use Rattle.theory.specs.Lists.{written}
 use Rattle.desk.specs.Desk.{Desk, Standing, Call, Reply}
 use Rattle.desk.specs.Refused.{short, number_reply}
@@ -25,6 +27,20 @@ use Rattle.desk_check.specs.Answer.{Does}
 use Rattle.desk_check.specs.Held.{case_few}
 
 -- ---- filling a table
+
+pub fill_none : (e : ℕ) (out : List ℕ) → out ≡ written 0 (replicate 0 e) out
+fill_none e out = sym (written_none 0 out)
+
+pub fill_more : (i e : ℕ) (out now : List ℕ) → now ≡ written 0 (replicate i e) out → i < length out → set now i e ≡ written 0 (replicate (i + 1) e) out
+fill_more i e out now p l =
+    let n = length-replicate i e in
+    let z : 0 + length (replicate i e) ≡ i = omega (arith, n) in
+    ap₂ (λ (o : List ℕ) (k : ℕ). set o k e) p (sym z)
+    ∙ written_byte 0 (replicate i e) out e (omega arith)
+    ∙ ap (λ (s : List ℕ). written 0 s out) (replicate-append-replicate i 1 e)
+
+pub fill_done : (i n e : ℕ) (out now : List ℕ) → now ≡ written 0 (replicate i e) out → i ≤ n → n ≤ i → now ≡ written 0 (replicate n e) out
+fill_done i n e out now p l m = let q : i ≡ n = omega arith in rw q at p
 
 pub filled : (n e : ℕ) (s out : List ℕ) → n ≤ length out → s ≡ replicate (length (take n out)) e → (s ++ drop n out) ≡ written 0 (replicate n e) out
 filled n e s out p q = rw (q, length-take-le n out p, length-replicate n e, zero-add) refl
@@ -51,8 +67,8 @@ abbrev opened_to : Desk → After
 opened_to e = record { reply = Reply.Opened; desk = e; lent = [] }
 
 module _ (b : List ℕ) (d : Desk) (z : Sizes) (w : List ℕ) (s : short d ≡ false) (a : AcceptedCase b z w) where
-  pub accepted_open : (n : ℕ) (next : Standing) (store first second : List ℕ) → n ≡ z.states1 * z.states2 → next ≡ fresh_standing z.states1 z.states2 → store ≡ written 0 (gapless (parts_of b)) d.store → first ≡ written 0 (replicate n z.lattice.top.0) d.first → second ≡ written 0 (replicate n z.lattice.top.0) d.second → Does (Call.Open b) d Reply.Opened (record { standing = next; store = store; first = first; second = second })
+  pub accepted_open : (n : ℕ) (store first second : List ℕ) → n ≡ z.states1 * z.states2 → store ≡ written 0 (gapless (parts_of b)) d.store → first ≡ written 0 (replicate n z.lattice.top.0) d.first → second ≡ written 0 (replicate n z.lattice.top.0) d.second → Does (Call.Open b) d Reply.Opened (record { standing = fresh_standing z.states1 z.states2; store = store; first = first; second = second })
   unfolding answer moved lent_after opened
-  accepted_open n next store first second m et es e1 e2 =
+  accepted_open n store first second m es e1 e2 =
       perform_accepted (Call.Open b) d a.holds (open_long b d s ∙ a.reads)
-      ∙ ap opened_to (sym (rw (et, es, e1, e2, m, (accepted_case b a.holds a.reads).parts, a.sizes)))
+      ∙ ap opened_to (sym (rw (es, e1, e2, m, (accepted_case b a.holds a.reads).parts, a.sizes)))

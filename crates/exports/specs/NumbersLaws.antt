@@ -2,7 +2,7 @@
 --   is_shown, reply_of: whether a reply is show's; the reply that numbers tell
 --   numbers-back: the numbers lose nothing of a reply that is not show's
 --   refused_zero, accepted_some: what show's export names on a refused desk, and on any other
---   done_in_numbers: for the exports of the other calls, from the call's answer and from what it does
+--   by_case, done_in_numbers: for the exports of the other calls, from the call's answer and from what it does
 --   empty_named, whole_named: for show's export, from the length of what show answered
 --   refused_sized, held-sized, with sizes_in_numbers: for the export of a desk's sizes, from what the examination answered
 use Rattle.std.specs.Prelude.{ℕ, ◌≤◌, ◌<◌, ◌≡◌, refl, Bool, true, false, cond, List, [], eqb, length, take, Ok, Err}
@@ -72,6 +72,10 @@ numbers-back (Reply.Says b) e = go b
     go false = refl
 
 -- ---- what a call does, in numbers
+
+-- an answer that is matched: a is the case b
+pub by_case : {A : Type 0} (reply : A → Reply) (a b : A) (x : Answer) → a ≡ b → x ≡ numbers (reply b) → x ≡ numbers (reply a)
+by_case {A} reply a b x e p = p ∙ ap (λ (y : A). numbers (reply y)) (sym e)
 
 pub done_in_numbers : {lent : List (List ℕ)} (k : Call) (d : Desk) (x : Reply) (e : Desk) (a : Answer) → DoesWith lent k d x e → a ≡ numbers x → DoneInNumbersWith lent k d a e
 done_in_numbers k d x e a p q =

@@ -1,5 +1,5 @@
 -- `desk_check::Desk::examine` meets its contract: too short, not to be read, a rule broken, or held.
-use Rattle.std.proofs.Common.{◌≡◌, sym, false, arith, length-take-le}
+use Rattle.std.proofs.Common.{◌≡◌, refl, sym, false, arith, length-take-le}
 use Rattle.casefile.proofs.Caller.{when_accepted, when_refused}
 use Rattle.desk.specs.Refused.{short, rules_obeyed}
 use Rattle.desk.specs.RulesLaws.{Long}
@@ -21,7 +21,7 @@ pub returns-then-too_short : goal.returns-then-too_short
 unfolding short
 returns-then-too_short c =
     let e = short-examined _ _ (sym c.if-too_short.ensures) in
-    record { examined = e; held = tt; refused = refused_call e }
+    record { examined = e; held = tt; refused = λ k o. refused_call k _ _ _ _ o e refl }
 
 pub slice_bounds-check-end : goal.slice_bounds-check-end
 slice_bounds-check-end c = omega (arith, length-take-le 24576 c.args.self.store.now (lengths (goal.at.slice_bounds-check-end c).Else-too_short).store_long)
@@ -35,16 +35,16 @@ obeys-requires c =
 pub returns-in_default : goal.returns-in_default
 returns-in_default c =
     let e = unread_examined _ _ _ (not_short (goal.at.returns-in_default c).Else-too_short) (when_refused _ _ _ _ c.check.ensures c.in_default.is) in
-    record { examined = e; held = tt; refused = refused_call e }
+    record { examined = e; held = tt; refused = λ k o. refused_call k _ _ _ _ o e refl }
 
 pub returns-then-obeys : goal.returns-then-obeys
 unfolding rules_obeyed
 returns-then-obeys c =
     let e = held-examined _ _ _ (not_short (goal.at.returns-then-obeys c).Else-too_short) (when_accepted _ _ _ _ c.check.ensures c.in-Ok.is) _ c.obeys.ensures c.if-obeys.true in
-    record { examined = e; held = when_held e; refused = tt }
+    record { examined = e; held = when_held _ _ _ _ e refl; refused = tt }
 
 pub returns-else-obeys : goal.returns-else-obeys
 unfolding rules_obeyed
 returns-else-obeys c =
     let e = spoiled-examined _ _ _ (not_short (goal.at.returns-else-obeys c).Else-too_short) (when_accepted _ _ _ _ c.check.ensures c.in-Ok.is) _ c.obeys.ensures c.if-obeys.false in
-    record { examined = e; held = tt; refused = refused_call e }
+    record { examined = e; held = tt; refused = λ k o. refused_call k _ _ _ _ o e refl }

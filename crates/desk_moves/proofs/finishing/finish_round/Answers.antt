@@ -1,10 +1,11 @@
 -- `desk_moves::finish_round` meets its contract: by the rows that are worked on a held desk.
+use Rattle.std.proofs.Common.{refl}
 use Rattle.desk_moves.specs.Stepped.{leaves, movable}
 use Rattle.desk_moves.specs.Finished.{refused_rest, settled_rest, rest-into-first, rest-into-second}
 use Rattle.desk_moves.proofs.finishing.finish_round.Goals as goal
 
 pub returns-in-Err : goal.returns-in-Err
-returns-in-Err c = refused_rest c.in-Err.ensures.examined
+returns-in-Err c = refused_rest _ _ _ _ c.in-Err.ensures.examined refl
 
 pub returns-then-s : goal.returns-then-s
 returns-then-s c = settled_rest c.in-Ok.ensures.held c.if-s.true c.answered.ensures
@@ -16,7 +17,9 @@ next_round-requires c =
 
 pub returns-then-s-2 : goal.returns-then-s-2
 returns-then-s-2 c =
-    rest-into-first c.in-Ok.ensures.held _ _ _ c.if-s.false c.if-s-2.true c.models-models.ensures c.work_rest-differs.ensures (leaves c.next_round.ensures c.answered-then-s-2.ensures)
+    let m = leaves c.next_round.ensures c.answered-then-s-2.ensures in
+    rest-into-first c.in-Ok.ensures.held _ _ _ _ c.if-s.false c.if-s-2.true
+    (rw (c.models-models.ensures.first, c.models-models.ensures.second) at c.work_rest-differs.ensures) (m.standing, m.answer)
 
 pub next_round-requires-in-Ok : goal.next_round-requires-in-Ok
 next_round-requires-in-Ok c =
@@ -25,4 +28,6 @@ next_round-requires-in-Ok c =
 
 pub returns-else-s-2 : goal.returns-else-s-2
 returns-else-s-2 c =
-    rest-into-second c.in-Ok.ensures.held _ _ _ c.if-s.false c.if-s-2.false c.models-models.ensures c.work_rest-differs-in-Ok.ensures (leaves c.next_round-in-Ok.ensures c.answered-in-Ok.ensures)
+    let m = leaves c.next_round-in-Ok.ensures c.answered-in-Ok.ensures in
+    rest-into-second c.in-Ok.ensures.held _ _ _ _ c.if-s.false c.if-s-2.false
+    (rw (c.models-models.ensures.first, c.models-models.ensures.second) at c.work_rest-differs-in-Ok.ensures) (m.standing, m.answer)

@@ -49,6 +49,7 @@ returns-in-Ok c =
     let n = c.table_size-n.ensures.0 in
     let r = room _ s a n in
     let t = c.default.ensures.1.1 in
-    accepted_open _ _ _ _ s a c.table_size-n.result _ _ _ _ n (rw (t.0, t.1.0, t.1.1.0, t.1.1.1.0, t.1.1.1.1.0, t.1.1.1.1.1) refl) c.write.ensures
+    rw (t.0, t.1.0, t.1.1.0, t.1.1.1.0, t.1.1.1.1.0, t.1.1.1.1.1)
+    (accepted_open _ _ _ _ s a c.table_size-n.result _ _ _ n c.write.ensures
     (filled _ _ _ _ r.0 (c.fill.ensures.after (λ y e. e)))
-    (filled _ _ _ _ r.1 (c.fill-in-Ok.ensures.after (λ y e. e)))
+    (filled _ _ _ _ r.1 (c.fill-in-Ok.ensures.after (λ y e. e))))

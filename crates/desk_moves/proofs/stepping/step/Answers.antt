@@ -1,9 +1,9 @@
 -- `desk_moves::step` meets its contract: by the row that is worked on a held desk.
-use Rattle.desk_moves.specs.Stepped.{leaves, movable, settled_step, into-first, into-second}
+use Rattle.desk_moves.specs.Stepped.{leaves, movable, settled_left, into-first, into-second}
 use Rattle.desk_moves.proofs.stepping.step.Goals as goal
 
 pub returns-then-s : goal.returns-then-s
-returns-then-s c = settled_step c.in-Ok.ensures.held c.if-s.true c.answered.ensures
+returns-then-s c = settled_left c.in-Ok.ensures.held c.if-s.true c.answered.ensures
 
 pub moved_on-requires : goal.moved_on-requires
 moved_on-requires c =
@@ -12,7 +12,9 @@ moved_on-requires c =
 
 pub returns-then-s-2 : goal.returns-then-s-2
 returns-then-s-2 c =
-    into-first c.in-Ok.ensures.held _ _ _ c.if-s.false c.if-s-2.true c.models-models.ensures c.row-differs.ensures (leaves c.moved_on.ensures c.answered-then-s-2.ensures)
+    let m = leaves c.moved_on.ensures c.answered-then-s-2.ensures in
+    into-first c.in-Ok.ensures.held _ _ _ _ c.if-s.false c.if-s-2.true
+    (rw (c.models-models.ensures.first, c.models-models.ensures.second) at c.row-differs.ensures) (m.standing, m.answer)
 
 pub moved_on-requires-in-Ok : goal.moved_on-requires-in-Ok
 moved_on-requires-in-Ok c =
@@ -21,4 +23,6 @@ moved_on-requires-in-Ok c =
 
 pub returns-else-s-2 : goal.returns-else-s-2
 returns-else-s-2 c =
-    into-second c.in-Ok.ensures.held _ _ _ c.if-s.false c.if-s-2.false c.models-models.ensures c.row-differs-in-Ok.ensures (leaves c.moved_on-in-Ok.ensures c.answered-in-Ok.ensures)
+    let m = leaves c.moved_on-in-Ok.ensures c.answered-in-Ok.ensures in
+    into-second c.in-Ok.ensures.held _ _ _ _ c.if-s.false c.if-s-2.false
+    (rw (c.models-models.ensures.first, c.models-models.ensures.second) at c.row-differs-in-Ok.ensures) (m.standing, m.answer)

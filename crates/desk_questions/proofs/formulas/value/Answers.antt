@@ -1,6 +1,6 @@
 -- `desk_questions::value` meets its contract: by the ranges, then by the value and the facts on a held desk.
 use Rattle.std.proofs.Common.{sym, lt-ltb, le-ltb}
-use Rattle.desk_questions.specs.Questions.{model_over, formula_on_model, formula_reads, held_value, value_outside, value_state}
+use Rattle.desk_questions.specs.Questions.{model_over, formula_on_model, propositions_are, formula_reads, held_value, value_outside, value_state}
 use Rattle.desk_questions.proofs.formulas.value.Goals as goal
 
 pub returns-then-not-in_range : goal.returns-then-not-in_range
@@ -33,4 +33,4 @@ returns c =
     held_value c.in_ok-z.ensures.held c.args.f c.args.m _ _ _ (sym c.if-not-in_range.ensures)
     (lt-ltb _ _ (rw (c.states.ensures, c.from.ensures, c.part.ensures, c.case-case.ensures) at c.if-states-from.false))
     (rw (c.part.ensures, c.part-formula.ensures, c.case-case.ensures) at c.value.ensures)
-    (rw (c.part-formula.ensures, c.case-case.ensures) at c.facts.ensures)
+    (rw (propositions_are c.in_ok-z.ensures.held c.args.f c.args.m (sym c.if-not-in_range.ensures)) (rw (c.part-formula.ensures, c.case-case.ensures) at c.facts.ensures))

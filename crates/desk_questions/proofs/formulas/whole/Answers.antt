@@ -1,6 +1,6 @@
 -- `desk_questions::whole` meets its contract: by the range, then by the value and the facts on a held desk.
 use Rattle.std.proofs.Common.{sym}
-use Rattle.desk_questions.specs.Questions.{model_over, formula_on_model, formula_reads, held_whole, whole_outside}
+use Rattle.desk_questions.specs.Questions.{model_over, formula_on_model, propositions_are, formula_reads, held_whole, whole_outside}
 use Rattle.desk_questions.proofs.formulas.whole.Goals as goal
 
 pub returns-then-not-in_range : goal.returns-then-not-in_range
@@ -25,4 +25,4 @@ pub returns : goal.returns
 returns c =
     held_whole c.in_ok-z.ensures.held c.args.f c.args.m _ _ (sym c.if-not-in_range.ensures)
     (rw (c.part.ensures, c.part-formula.ensures, c.case-case.ensures) at c.whole.ensures)
-    (rw (c.part-formula.ensures, c.case-case.ensures) at c.facts.ensures)
+    (rw (propositions_are c.in_ok-z.ensures.held c.args.f c.args.m (sym c.if-not-in_range.ensures)) (rw (c.part-formula.ensures, c.case-case.ensures) at c.facts.ensures))

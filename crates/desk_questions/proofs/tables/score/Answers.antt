@@ -9,4 +9,4 @@ invariant_of-shown c =
     record { held = entries_held held _ c.models.ensures (whole_fits held _ c.whole_table.ensures) }
 
 pub returns : goal.returns
-returns c = held_score c.in_ok-z.ensures.held _ _ c.models.ensures c.whole_table.ensures c.score.ensures
+returns c = held_score c.in_ok-z.ensures.held _ _ c.whole_table.ensures (rw (c.models.ensures.first, c.models.ensures.second) at c.score.ensures)
