@@ -2,8 +2,8 @@
 -- nothing. Rests on Codes, theory's Loop, Simulation, PairLaws and TestLaws, and elements' Folds and Laws.
 --   join_code: the join of the first words of a row, each met with that of a table at its place; join_none, join_turn: its begin, and one word more
 --   words_join: the join of words of a row alone; words_met: of a row's words, each met with that of a table; lt_or_le: two numbers in order
---   fold_items: the fold of a list's items; fold_on: a fold that goes on
---   block_joined, words_joined, all_words_joined: one block more of a join, and the joins of a block's words and of all
+--   fold_on: a fold that goes on
+--   block_joined, words_joined: one block more of a join, and the join of a block's words
 --   Gap, gap_late, join_gap: words that are 0 add nothing
 --   block_from, block_next, Listed, listed_none, listed-passed, listed_turn: the blocks that are not all 0
 --   open_pairs, Joined: how many pairs a join looks at, and what it gives; FirstTop, first_top, BeforeTop: where it is top first, and before the block with which it is
@@ -16,7 +16,6 @@ use Rattle.std.proofs.Math.Path.{ap}
 use Rattle.std.proofs.lemmas.Bool.{not-false}
 use Rattle.std.specs.Int.Bits.{bit_and, bit_or, or_comm}
 use Rattle.std.proofs.lemmas.Nat.{and_comm}
-use Rattle.std.specs.List.{fold as list_fold}
 use mir.Val.{bool_byte}
 use Rattle.theory.specs.Loop.{fold, fold_cong}
 use Rattle.theory.specs.Simulation.{indicator, count}
@@ -35,25 +34,11 @@ join_code row table at n = fold bit_or 0 (λ i. bit_and (get_or row i 0) (get_or
 abbrev pub words_join : List ℕ → ℕ → ℕ → ℕ
 words_join row i n = fold bit_or 0 (λ j. get_or row (i + j) 0) n
 
--- the join of the words of a list; and of x and the words of `row`, each met with the word of `codes` at its place
-abbrev pub all_joined : List ℕ → ℕ
-all_joined row = list_fold bit_or 0 row
-
+-- the join of x and the words of `row`, each met with the word of `codes` at its place
 abbrev pub words_met : ℕ → List ℕ → List ℕ → ℕ
 words_met x row codes = fold bit_or x (λ i. bit_and (get_or row i 0) (get_or codes i 0)) (length row)
 
--- ---- the folds of lists are these
-
-fold_first : (g : ℕ → ℕ → ℕ) (x : ℕ) (f : ℕ → ℕ) (n : ℕ) → fold g (g x (f 0)) (λ i. f (suc i)) n ≡ fold g x f (suc n)
-unfolding fold
-fold_first g x f zero = refl
-fold_first g x f (suc n) = ap (λ (y : ℕ). g y (f (suc n))) (fold_first g x f n)
-
-pub fold_items : (g : ℕ → ℕ → ℕ) (x : ℕ) (xs : List ℕ) → list_fold g x xs ≡ fold g x (λ i. get_or xs i 0) (length xs)
-unfolding fold
-fold_items g x [] = refl
-fold_items g x (y ∷ ys) = fold_items g (g x y) ys ∙ fold_first g x (λ i. get_or (y ∷ ys) i 0) (length ys)
-
+-- a fold that goes on
 pub fold_on : (g : ℕ → ℕ → ℕ) (x : ℕ) (f : ℕ → ℕ) (i n : ℕ) → fold g (fold g x f i) (λ j. f (i + j)) n ≡ fold g x f (i + n)
 unfolding fold
 fold_on g x f i zero = ap (fold g x f) (sym (add-zero i))
@@ -115,16 +100,14 @@ block_joined row codes i n {x} {y} s l d e =
     ∙ fold_on bit_or 0 (λ k. bit_and (get_or row k 0) (get_or codes (0 + k) 0)) i n
     ∙ ap (λ (m : ℕ). join_code row codes 0 (i + m)) s
 
--- the join of n words from i on, and that of all
-pub words_joined : (row : List ℕ) (i n : ℕ) {y : ℕ} → i + n ≤ length row → y ≡ all_joined (take n (drop i row)) → y ≡ words_join row i n
+-- the join of n words from i on
+pub words_joined : (row : List ℕ) (i n : ℕ) {y : ℕ} → i + n ≤ length row → y ≡ words_join (take n (drop i row)) 0 (length (take n (drop i row))) → y ≡ words_join row i n
 words_joined row i n l e =
     let m : length (take n (drop i row)) ≡ n = length-take-le n (drop i row) (omega (arith, length-drop i row)) in
-    e ∙ fold_items bit_or 0 (take n (drop i row)) ∙ ap (fold bit_or 0 (λ j. get_or (take n (drop i row)) j 0)) m
-    ∙ fold_cong bit_or 0 _ _ n (λ j k. slice_word row i n j k)
+    e ∙ ap (words_join (take n (drop i row)) 0) m
+    ∙ fold_cong bit_or 0 _ _ n (λ j k. ap (λ (z : ℕ). get_or (take n (drop i row)) z 0) (zero-add j) ∙ slice_word row i n j k)
 
-pub all_words_joined : (row : List ℕ) {y : ℕ} → y ≡ all_joined row → y ≡ words_join row 0 (length row)
-all_words_joined row e = e ∙ fold_items bit_or 0 row ∙ fold_cong bit_or 0 _ _ (length row) (λ j k. ap (λ (m : ℕ). get_or row m 0) (sym (zero-add j)))
-
+-- one word more
 pub join_more : (row codes : List ℕ) (i : ℕ) {x : ℕ} → x ≡ join_code row codes 0 i → bit_or x (bit_and (get_or row i 0) (get_or codes i 0)) ≡ join_code row codes 0 (i + 1)
 unfolding fold
 join_more row codes i {x} e = ap (λ (y : ℕ). bit_or y (bit_and (get_or row i 0) (get_or codes i 0))) e ∙ ap (λ (k : ℕ). bit_or (join_code row codes 0 i) (bit_and (get_or row i 0) (get_or codes k 0))) (sym (zero-add i)) ∙ rw add-one

@@ -1,19 +1,23 @@
 // The share of a table's entries that are at or above an element, in whole per cent: `share`, by a count and its rounding.
 #![tactic(auto)]
 
-ghost use Rattle.std.specs.Prelude.{◌≡◌, ◌≤◌, ◌<◌, length, count_by};
+ghost use Rattle.std.specs.Prelude.{◌≡◌, ◌≤◌, ◌<◌, length, get_or};
+ghost use Rattle.theory.specs.Loop.{Counted};
 ghost use Rattle.theory.specs.Simulation.{per_cent};
 ghost use Rattle.elements.specs.Words.{at_most_in};
 ghost use Rattle.share.specs.ShareIn.{share_in};
 
 use elements::{Codes, Element};
 
-// How many of the entries s are at or above e.
+// How many of the entries s are at or above e. A loop: a chain of `filter` and `count` takes half as long again.
 fn count(w: &Codes, e: Element, s: &[u8]) -> usize
-    requires { length s.now ≤ 4096 }
-    ensures { (result ≡ count_by (λ x. at_most_in w.now.words e.0 x) s.now) × (result ≤ length s.now) }
+    ensures { Counted (λ i. at_most_in w.now.words e.0 (get_or s.now i 0)) (length s.now) result }
 {
-    s.iter().filter(|x| w.at_most(e, Element(**x))).count()
+    let mut c: usize = 0;
+    for x in s {
+        c += usize::from(w.at_most(e, Element(*x)));
+    }
+    c
 }
 
 // c of n in whole per cent: the quotient q of 100 c by n, and one more where the rest is over half of n, or is half of n and q is odd.

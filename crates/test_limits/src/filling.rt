@@ -23,8 +23,7 @@ fn lattice_byte(chain: bool, i: usize) -> u8 {
     }
     let a = (i - 65) / 64;
     let b = (i - 65) % 64;
-    let below = if chain { a <= b } else { (a & b) == a };
-    if below { 1 } else { 0 }
+    u8::from(if chain { a <= b } else { (a & b) == a })
 }
 
 // A number as one of n elements.
@@ -78,8 +77,8 @@ fn byte(what: Filling, i: usize, n: usize) -> u8
 pub(crate) fn fill(out: &mut [u8], what: Filling, n: usize)
     requires { (length out.old ≤ 5186) × (9 ≤ n) × (n ≤ 64) }
 {
-    for i in 0..out.len() {
-        out[i] = byte(what, i, n);
+    for (i, x) in out.iter_mut().enumerate() {
+        *x = byte(what, i, n);
     }
 }
 

@@ -6,178 +6,182 @@
 mod filling;
 
 ghost use Rattle.std.specs.Prelude.{◌≡◌, ◌+◌, ◌≤◌, length};
-ghost use Rattle.elements.specs.Words.{Coded};
 ghost use Rattle.valuer.specs.Values.{ModelOver, Reads};
 ghost use Rattle.test_limits.specs.Full.{Full};
 
-use elements::{Codes, Lattice};
+use elements::{Algebra, Codes};
+use entries::{Models, Table};
 use filling::Filling;
-use formula::FormulaCheck;
-use lattice::LatticeCheck;
-use model::{ModelCheck, State};
+use model::{Model, State};
 use std::io;
 
-fn show_one(rt: &impl Print, x: u8, after: u8) -> io::Result<()> {
-    rt.print(x)?;
-    rt.write_all(&[after])
-}
-
-// The 64 values from a place on.
-fn show_values(rt: &impl Print, x: &[u8], from: usize) -> io::Result<()>
-    requires { from + 64 ≤ length x.now }
-{
-    for i in 0..64 {
-        show_one(rt, x[from + i], b' ')?;
+// Bytes as numbers, a blank after each.
+fn show_values(rt: &impl Print, x: &[u8]) -> io::Result<()> {
+    for &v in x {
+        print!(rt; "{v} ")?;
     }
     Ok(())
 }
 
-fn rows(w: &Codes, l: Lattice, m1: &[u8], m2: &[u8], s: &[u8], out: &mut [u8])
-    requires { Coded w.now l × Full m1.now × Full m2.now × (length s.now ≡ 4096) × (length out.old ≡ 4096) }
+fn rows(a: &Algebra, t: &Table, out: &mut [u8])
+    requires { Full t.now.models.first.bytes.now × Full t.now.models.second.bytes.now × (length out.old ≡ 4096) }
 {
     for q in 0..64u8 {
-        rounds::row(w, l, m1, m2, s, out, State(q));
+        rounds::row(a, t, out, State(q));
     }
 }
 
-// The last row of F of the table s, and the score of F of it.
-fn show_row(
-    rt: &impl Print,
-    w: &Codes,
-    l: Lattice,
-    m1: &[u8],
-    m2: &[u8],
-    s: &[u8],
-) -> io::Result<()>
-    requires { Coded w.now l × Full m1.now × Full m2.now × (length s.now ≡ 4096) }
+// The last row of F of a table, and the score of F of it.
+fn show_row(rt: &impl Print, a: &Algebra, t: &Table) -> io::Result<()>
+    requires { Full t.now.models.first.bytes.now × Full t.now.models.second.bytes.now }
 {
     let mut out = [0u8; 4096];
-    rows(w, l, m1, m2, s, &mut out);
-    rt.write_all(b"row 63 ")?;
-    show_values(rt, &out, 4032)?;
-    show_one(rt, rounds::score(w, l, m1, m2, &out).0, b'\n')
+    rows(a, t, &mut out);
+    print!(rt; "row 63 ")?;
+    show_values(rt, &out[4032..])?;
+    let next = Table {
+        models: t.models,
+        bytes: &out,
+    };
+    let score = rounds::score(a, &next).0;
+    println!(rt; "{score}")
 }
 
 // The values of a formula at the states, and that on the whole model.
-fn show_value(rt: &impl Print, w: &Codes, l: Lattice, m: &[u8], f: &[u8]) -> io::Result<()>
-    requires { ModelOver w.now l m.now × Full m.now × Reads m.now f.now }
+fn show_value(rt: &impl Print, a: &Algebra, m: &Model, f: &[u8]) -> io::Result<()>
+    requires { ModelOver a.now.codes.now.words a.now.lattice m.now.bytes.now × Full m.now.bytes.now × Reads m.now.bytes.now f.now }
 {
     for q in 0..64u8 {
-        show_one(rt, valuer::value(w, l, m, f, State(q)).0, b' ')?;
+        let value = valuer::value(a, m, f, State(q)).0;
+        print!(rt; "{value} ")?;
     }
-    show_one(rt, valuer::whole(w, l, m, f).0, b'\n')
+    let whole = valuer::whole(a, m, f).0;
+    println!(rt; "{whole}")
 }
 
-fn show(rt: &impl Print, name: &[u8], w: &Codes, l: Lattice, m: &[u8], f: &[u8]) -> io::Result<()>
-    requires { ModelOver w.now l m.now × Full m.now }
+fn show(rt: &impl Print, name: &str, a: &Algebra, m: &Model, f: &[u8]) -> io::Result<()>
+    requires { ModelOver a.now.codes.now.words a.now.lattice m.now.bytes.now × Full m.now.bytes.now }
 {
-    rt.write_all(name)?;
-    let answer = formula::check(f, 16);
-    match answer {
-        FormulaCheck::Accepted(_) => show_value(rt, w, l, m, f),
-        FormulaCheck::Refused => rt.write_all(b"refused\n"),
+    print!(rt; "{name}")?;
+    match formula::check(f, 16) {
+        Some(_) => show_value(rt, a, m, f),
+        None => println!(rt; "refused"),
     }
 }
 
 // Formulas of 255 bytes: AX 253 times, and p; 'AX p or' 63 times, and EX p.
-fn show_long(rt: &impl Print, w: &Codes, l: Lattice, m: &[u8]) -> io::Result<()>
-    requires { ModelOver w.now l m.now × Full m.now }
+fn show_long(rt: &impl Print, a: &Algebra, m: &Model) -> io::Result<()>
+    requires { ModelOver a.now.codes.now.words a.now.lattice m.now.bytes.now × Full m.now.bytes.now }
 {
     let mut f = [7u8; 255];
     f[253] = 2;
     f[254] = 0;
-    show(rt, b"253 AX ", w, l, m, &f)?;
+    show(rt, "253 AX ", a, m, &f)?;
     filling::fill(&mut f, Filling::Joined, 64);
     f[252] = 8;
     f[253] = 2;
     f[254] = 0;
-    show(rt, b"63 or ", w, l, m, &f)
+    show(rt, "63 or ", a, m, &f)
 }
 
-fn show_fixpoint(rt: &impl Print, w: &Codes, l: Lattice, m: &[u8]) -> io::Result<()>
-    requires { ModelOver w.now l m.now × Full m.now }
+fn show_fixpoint(rt: &impl Print, a: &Algebra, m: &Model) -> io::Result<()>
+    requires { ModelOver a.now.codes.now.words a.now.lattice m.now.bytes.now × Full m.now.bytes.now }
 {
     show(
         rt,
-        b"nu z. p and AX z ",
-        w,
-        l,
+        "nu z. p and AX z ",
+        a,
         m,
         b"\x0a\x06\x02\x00\x07\x04\x00",
     )
 }
 
-fn show_fixpoints(rt: &impl Print, w: &Codes, l: Lattice, m: &[u8]) -> io::Result<()>
-    requires { ModelOver w.now l m.now × Full m.now }
+fn show_fixpoints(rt: &impl Print, a: &Algebra, m: &Model) -> io::Result<()>
+    requires { ModelOver a.now.codes.now.words a.now.lattice m.now.bytes.now × Full m.now.bytes.now }
 {
     show(
         rt,
-        b"mu z. p or AX z ",
-        w,
-        l,
+        "mu z. p or AX z ",
+        a,
         m,
         b"\x09\x05\x02\x00\x07\x04\x00",
     )?;
     show(
         rt,
-        b"nu y. mu z. (p and AX y) or AX z ",
-        w,
-        l,
+        "nu y. mu z. (p and AX y) or AX z ",
+        a,
         m,
         b"\x0a\x09\x05\x06\x02\x00\x07\x04\x01\x07\x04\x00",
     )?;
     show(
         rt,
-        b"nu x. mu y. nu z. (p and EX x) or (AX y and EX z) ",
-        w,
-        l,
+        "nu x. mu y. nu z. (p and EX x) or (AX y and EX z) ",
+        a,
         m,
         b"\x0a\x09\x0a\x05\x06\x02\x00\x08\x04\x02\x06\x07\x04\x01\x08\x04\x00",
     )
 }
 
-fn show_all(rt: &impl Print, w: &Codes, l: Lattice, m: &[u8]) -> io::Result<()>
-    requires { ModelOver w.now l m.now × Full m.now }
+fn show_all(rt: &impl Print, a: &Algebra, m: &Model) -> io::Result<()>
+    requires { ModelOver a.now.codes.now.words a.now.lattice m.now.bytes.now × Full m.now.bytes.now }
 {
-    show_fixpoint(rt, w, l, m)?;
-    show_long(rt, w, l, m)?;
-    show_fixpoints(rt, w, l, m)
+    show_fixpoint(rt, a, m)?;
+    show_long(rt, a, m)?;
+    show_fixpoints(rt, a, m)
 }
 
-fn over(rt: &impl Print, w: &Codes, l: Lattice, m1: &[u8], m2: &[u8], s: &[u8]) -> io::Result<()>
-    requires { Coded w.now l × Full m1.now × Full m2.now × (length s.now ≡ 4096) }
+fn over(rt: &impl Print, a: &Algebra, t: &Table) -> io::Result<()>
+    requires { Full t.now.models.first.bytes.now × Full t.now.models.second.bytes.now }
 {
-    show_row(rt, w, l, m1, m2, s)?;
-    let answer = model::check(m1, l.size);
-    match answer {
-        ModelCheck::Refused => rt.write_all(b"refused\n"),
-        ModelCheck::Accepted(_, _) => show_all(rt, w, l, m1),
+    show_row(rt, a, t)?;
+    let m1 = &t.models.first;
+    match model::check(m1.bytes, a.lattice.size) {
+        None => println!(rt; "refused"),
+        Some(_) => show_all(rt, a, m1),
     }
 }
 
 // The lattice of a part, and the work over it.
-fn checked(rt: &impl Print, part: &[u8], m1: &[u8], m2: &[u8], s: &[u8]) -> io::Result<()>
+fn checked<'x>(
+    rt: &impl Print,
+    part: &[u8],
+    m1: &'x [u8],
+    m2: &'x [u8],
+    s: &'x [u8],
+) -> io::Result<()>
     requires { Full m1.now × Full m2.now × (length s.now ≡ 4096) }
 {
-    let mut w = [0u64; 128];
-    let r = lattice::check(part, &mut w);
-    match r {
-        LatticeCheck::Refused(f) => {
-            rt.write_all(b"refused ")?;
-            show_one(rt, refusal::number(f), b'\n')
+    let mut w = Codes::new();
+    match lattice::check(part, &mut w) {
+        Err(r) => {
+            let n = r.number();
+            println!(rt; "refused {n}")
         }
-        LatticeCheck::Accepted(l) => {
-            show_one(rt, l.size, b'\n')?;
-            over(rt, &w, l, m1, m2, s)
+        Ok(l) => {
+            let n = l.size;
+            println!(rt; "{n}")?;
+            let a = Algebra {
+                codes: &w,
+                lattice: l,
+            };
+            let m = Models {
+                first: Model { bytes: m1 },
+                second: Model { bytes: m2 },
+            };
+            let t = Table {
+                models: m,
+                bytes: s,
+            };
+            over(rt, &a, &t)
         }
     }
 }
 
 // The part of a lattice of n elements, with models and a table.
-fn work(rt: &impl Print, name: &[u8], part: &[u8], n: usize) -> io::Result<()>
+fn work(rt: &impl Print, name: &str, part: &[u8], n: usize) -> io::Result<()>
     requires { (9 ≤ n) × (n ≤ 64) }
 {
-    rt.write_all(name)?;
+    print!(rt; "{name}")?;
     let mut m1 = [0u8; 5186];
     filling::fill_model(&mut m1, Filling::First, n);
     let mut m2 = [0u8; 5186];
@@ -187,14 +191,14 @@ fn work(rt: &impl Print, name: &[u8], part: &[u8], n: usize) -> io::Result<()>
     checked(rt, part, &m1, &m2, &s)
 }
 
-fn work_large(rt: &impl Print, name: &[u8], what: Filling) -> io::Result<()> {
+fn work_large(rt: &impl Print, name: &str, what: Filling) -> io::Result<()> {
     let mut part = [0u8; 4161];
     filling::fill(&mut part, what, 64);
     work(rt, name, &part, 64)
 }
 
 fn main(rt: HostRuntime) -> io::Result<()> {
-    work_large(&rt, b"a chain ", Filling::Chain)?;
-    work_large(&rt, b"the subsets of six things ", Filling::Subsets)?;
-    work(&rt, b"the panel lattice ", &[0], 27)
+    work_large(&rt, "a chain ", Filling::Chain)?;
+    work_large(&rt, "the subsets of six things ", Filling::Subsets)?;
+    work(&rt, "the panel lattice ", &[0], 27)
 }

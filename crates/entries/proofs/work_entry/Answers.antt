@@ -2,7 +2,7 @@
 use Rattle.std.proofs.Common.{rules, ◌≡◌, ◌∙◌, sym, ap, eq-eqb, length, take, arith, length-take-le}
 use Rattle.theory.specs.TestLaws.{false_true}
 use Rattle.entries.specs.Prepared.{row_gap, row_within_lem, entry_met}
-use Rattle.entries.specs.Joins.{words_join, listed_front, all_words_joined}
+use Rattle.entries.specs.Joins.{words_join, listed_front}
 use Rattle.entries.specs.Codes.{propositions_within}
 use Rattle.entries.specs.Words.{low_at}
 use Rattle.elements.specs.Words.{code_in}
@@ -24,7 +24,7 @@ invariant_of-leaving c =
       gap = rw c.states-n2.ensures (row_gap _ _ e m);
       few = omega (arith, length-take-le b.result b.new.starts (omega (arith, b.ensures.0)), b.ensures.0);
       listed = listed_front b.result b.ensures.1 (omega (arith, b.ensures.0));
-      may_end = record { no = λ t e. false_true t (eq-eqb _ _ (all_words_joined c.transition_codes.new.out c.join_words.ensures ∙ ap (words_join c.transition_codes.new.out 0) n ∙ e)) };
+      may_end = record { no = λ t e. false_true t (eq-eqb _ _ (c.join_words.ensures ∙ ap (words_join c.transition_codes.new.out 0) n ∙ e)) };
     }
 
 pub meet-m-requires : goal.meet-m-requires
