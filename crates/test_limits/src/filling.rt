@@ -13,17 +13,17 @@ pub enum Filling {
     Joined,
 }
 
-// Byte i of the part of a lattice of 64 elements: a chain, or the subsets of six things, a number's bits being the things in it.
-fn lattice_byte(chain: bool, i: usize) -> u8 {
+// Byte i of the part of a lattice of 64 elements with the given order.
+fn lattice_byte<F: Fn(usize, usize) -> bool>(i: usize, below: F) -> u8
+    requires { F.IsAlwaysCallable below }
+{
     if i == 0 {
         return 64;
     }
     if i < 65 {
         return (64 - i) as u8;
     }
-    let a = (i - 65) / 64;
-    let b = (i - 65) % 64;
-    u8::from(if chain { a <= b } else { (a & b) == a })
+    u8::from(below((i - 65) / 64, (i - 65) % 64))
 }
 
 // A number as one of n elements.
@@ -59,8 +59,10 @@ fn byte(what: Filling, i: usize, n: usize) -> u8
     requires { (i < 5186) × (9 ≤ n) × (n ≤ 64) }
 {
     match what {
-        Filling::Chain => lattice_byte(true, i),
-        Filling::Subsets => lattice_byte(false, i),
+        Filling::Chain => lattice_byte(i, |a, b| a <= b),
+
+        // The subsets of six things, a number's bits being the things in it.
+        Filling::Subsets => lattice_byte(i, |a, b| a & b == a),
         Filling::First => model_byte(i, n, 0),
         Filling::Second => model_byte(i, n, 9),
         Filling::Table => element(37 * i, n),

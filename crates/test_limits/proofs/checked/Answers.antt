@@ -2,7 +2,5 @@
 use Rattle.lattice.specs.Caller.{when_accepted}
 use Rattle.test_limits.proofs.checked.Goals as goal
 
-pub over-requires : goal.over-requires
-over-requires g c =
-    let p = c.requires in
-    ((when_accepted _ _ _ (rw c.in-Accepted.is at c.check-r.ensures)).coded, p.0, p.1, p.2)
+pub invariant_of-a : goal.invariant_of-a
+invariant_of-a g c = record { coded = (when_accepted _ _ _ (rw c.in-Ok.is at c.check.ensures)).coded }
