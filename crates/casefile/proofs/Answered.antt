@@ -1,10 +1,11 @@
 -- The steps of the check give the answer of the reading. Rests on Answer, Placed, Accepted and Steps.
 --   size-read, directory-read, place_read: where the test of refusal 1, 2 or 3 fails, the case is read as that refusal
---   refused_answered: a case that is read as a refusal is answered that refusal
+--   refused_answered, size-answered, directory-answered, place_answered: a case that is read as a refusal is answered that refusal
+--   second_equal, second_differs: what is answered once model 2 has passed its own test
 --   parts_answered: what the parts of a placed case are answered, the case is answered
-use Rattle.std.specs.Prelude.{ℕ, ◌-◌, ◌<◌, ◌≡◌, Bool, cond, ◌&&◌, List, length, get_or, Some, None, Result, Err}
+use Rattle.std.specs.Prelude.{ℕ, ◌-◌, ◌<◌, ◌≡◌, Bool, cond, ◌&&◌, List, ltb, length, get_or, Some, None, Result, Err}
 use Rattle.std.proofs.Math.Path.{refl}
-use Rattle.std.proofs.Common.{sym, ap, ◌∙◌, lt-ltb}
+use Rattle.std.proofs.Common.{sym, ap, ◌∙◌, lt-ltb, eq-eqb, ne_eqb}
 use Rattle.std.proofs.Math.Bool.{true, false}
 use Rattle.std.proofs.Math.Dec.{eqb}
 use Rattle.theory.specs.Part.{LatticePart}
@@ -13,6 +14,7 @@ use Rattle.refusal.specs.declared.Refusal.TheVariants.{CaseSize, Directory, Part
 use Rattle.lattice.specs.Reading.{LatticeReading, lattice_reading}
 use Rattle.lattice.specs.Answer.{top_and_bottom, lattice_answer, CodesOf}
 use Rattle.model.specs.Reading.{model_test, model_answer, size_of}
+use Rattle.elements.specs.declared.Lattice.{Lattice}
 use Rattle.casefile.specs.declared.Sizes.{Sizes}
 use Rattle.casefile.specs.Directory.{part_count, size_test, directory_test, misplaced, part_at, parts_from}
 use Rattle.casefile.specs.Reading.{Content, CaseReading, FormulasReading, formulas_reading, after_formulas, models_reading, after_lattice, case_reading, refused, refused_at, read}
@@ -22,7 +24,14 @@ use Rattle.casefile.specs.Conditions.{HasDirectory, Placed}
 use Rattle.casefile.proofs.FormulaParts.{formulas_read}
 use Rattle.casefile.specs.Accepted.{ContentOf}
 use Rattle.casefile.proofs.Accepted.{refused_content, content_of, parts_length}
-use Rattle.casefile.specs.Steps.{formulas_answer, rest_of, after_second, second_answer, after_first, models_answer, after_checked, PartsAnswered}
+use Rattle.casefile.specs.Steps.{formulas_answer, rest_of, rest_answer, after_second, second_answer, after_first, models_answer, after_checked, PartsAnswered}
+
+-- model 2 with the same k, and with another
+pub second_equal : (b : List ℕ) (l : Lattice) (N1 k N2 k2 : ℕ) → k ≡ k2 → rest_answer b l N1 N2 k ≡ after_second b l N1 k (Some (record { states = N2; propositions = k2 }))
+second_equal b l N1 k N2 k2 e = rw (eq-eqb k k2 e) refl
+
+pub second_differs : (b : List ℕ) (l : Lattice) (N1 k N2 k2 : ℕ) → (k ≡ k2 → ⊥) → ◌≡◌ {A = Result Sizes Refusal} (Err (BadModel 2)) (after_second b l N1 k (Some (record { states = N2; propositions = k2 })))
+second_differs b l N1 k N2 k2 e = rw (ne_eqb k k2 e) refl
 
 module _ (b : List ℕ) where
   abbrev fs : List (List ℕ)
@@ -75,6 +84,16 @@ module _ (b : List ℕ) where
   pub place_read : (i : ℕ) → HasDirectory b → i ≡ misplaced b → i < part_count b → case_reading b ≡ refused (PartPlace i)
   unfolding case_reading
   place_read i h e m = let d = directory_in b h in simp (d.0, d.1, ← e, lt-ltb i (part_count b) m)
+
+  pub size-answered : (t : List ℕ) → size_test b ≡ false → CaseAnswered b (Err CaseSize) t
+  size-answered t e = refused_answered CaseSize t (size-read e)
+
+  pub directory-answered : (t : List ℕ) → size_test b ≡ true → directory_test b ≡ false → CaseAnswered b (Err Directory) t
+  directory-answered t s e = refused_answered Directory t (directory-read s e)
+
+  pub place_answered : (t : List ℕ) (i : ℕ) → size_test b ≡ true → directory_test b ≡ true → i ≡ misplaced b → ltb i (part_count b) ≡ true → CaseAnswered b (Err (PartPlace i)) t
+  unfolding case_reading
+  place_answered t i s d e m = refused_answered (PartPlace i) t (simp (s, d, ← e, m))
 
   pub parts_answered : (r : Result Sizes Refusal) (t : List ℕ) → Placed b → PartsAnswered b r t → CaseAnswered b r t
   parts_answered r t p h =

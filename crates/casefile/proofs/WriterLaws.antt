@@ -16,7 +16,7 @@ use Rattle.casefile.specs.Conditions.{Placed}
 use Rattle.casefile.specs.Laid.{pairs-length, gapless-length}
 use Rattle.casefile.proofs.Accepted.{part_length, parts_length}
 use Rattle.casefile.specs.Steps.{with_pair, with_pairs, with_parts}
-use Rattle.casefile.specs.Appended.{Appended, appended_start, appended_byte, appended_part, appended_done, appended_last, appended_u16}
+use Rattle.casefile.specs.Appended.{Appended, appended_start, appended_length, appended_byte, appended_part, appended_done, appended_last, appended_u16}
 use Rattle.casefile.specs.Writer.{parts_left, Measured, Writing, PairsWritten, PartsWritten, Room}
 
 -- ---- a placed case is at least as long as its gapless form
@@ -144,6 +144,12 @@ module _ {b d out : List ℕ} {i at : ℕ} where
         front = w.front;
         appended = appended_part (part_at b i) (rw (parts_next b i l) at w.appended);
       })
+
+  pub pairs_buffer_length : PairsWritten b d out i at → i ≤ part_count b → length out ≡ length d
+  pairs_buffer_length w l = appended_length w.appended (omega (arith, directory-fits b d w.fits))
+
+  pub parts_buffer_length : PartsWritten b d out i at → length out ≡ length d
+  parts_buffer_length w = appended_length w.appended (omega (arith, w.measured.offset, w.fits))
 
 -- ---- the whole case
 

@@ -1,8 +1,8 @@
 -- The steps of the check. Rests on lattice's Reading and Accepted, Tests, Accepting, Answer, Filling.
---   form_refused, form_answered: refusal 4, and the answer past it
+--   form_refused, form_answered: refusal 4, and the answer past it; size_most: an accepted form has at most 64 elements
 --   check_refused, check_words: what the test of a lattice gives, failed and passed
-use Rattle.std.specs.Prelude.{ℕ, ◌≡◌, true, false, List, length, Result, Err}
-use Rattle.std.proofs.Common.{sym, ap, ◌∙◌}
+use Rattle.std.specs.Prelude.{ℕ, ◌≡◌, ◌≤◌, true, false, List, length, Result, Err}
+use Rattle.std.proofs.Common.{sym, ap, ◌∙◌, arith}
 use Rattle.theory.specs.Lists.{Filled}
 use Rattle.theory.specs.Part.{LatticePart}
 use Rattle.refusal.specs.declared.Refusal.{Refusal}
@@ -23,6 +23,10 @@ form_refused b w e = answered_refused LatticeForm w (rw e)
 pub form_answered : (b : List ℕ) {r : Result Lattice Refusal} {w : List ℕ} → lattice_form b ≡ true → Answered (part_reading (lattice_of b)) r w → Answered (lattice_reading b) r w
 unfolding lattice_reading require
 form_answered b e h = rw e h
+
+-- n is the number of elements
+pub size_most : (b : List ℕ) {n m : ℕ} → lattice_form b ≡ true → n ≡ m → m ≡ (lattice_of b).size → n ≤ 64
+size_most b f e d = let w = formed b f in omega (arith, w.most)
 
 module _ (b : List ℕ) (form : lattice_form b ≡ true) {mask : ℕ} {down codes : List ℕ} (e : length down ≡ (lattice_of b).size) (k : length codes ≡ length down)
     (f : Filled (down_of (lattice_of b)) (length down) down) (m : mask ≡ irreducibles (length down) (words_in down)) (g : Filled (codes_by down mask) (length codes) codes) where
