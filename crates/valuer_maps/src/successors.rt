@@ -83,7 +83,8 @@ fn leads(w: &Codes, top: u64, e: Element) -> bool
     (w.code(e) != 0) | (w.negated_code(e) != top)
 }
 
-// Writes the row of q: each state is written, and stays where it is a successor.
+// Writes the row of q: each state is written, and stays where it is a successor. (By an index: what a loop over a zipped iter_mut writes is not known
+// to a proof.)
 fn list_row(w: &Codes, top: u64, m: &Model, q: State, row: &mut [u8])
     requires { (q.0 < get_or m.now.bytes.now 0 0) × (length row.old ≡ 65) }
     ensures { RowListed (leads_to w.now.words top m.now.bytes.now q.0) (get_or m.now.bytes.now 0 0) 0 row.new }
