@@ -1,5 +1,5 @@
 -- `desk_moves::open` meets its contract: too short, the case refused, or the desk made anew.
-use Rattle.std.proofs.Common.{◌≡◌, refl, sym, false, arith, length-take-le}
+use Rattle.std.proofs.Common.{◌≡◌, sym, false, arith, length-take-le}
 use Rattle.casefile.proofs.Caller.{when_accepted, when_refused}
 use Rattle.desk.specs.Refused.{short}
 use Rattle.desk.proofs.RulesLaws.{long-enough}

@@ -10,8 +10,8 @@ returns-then-table-n c =
     let held = c.in_ok-z.ensures.held in
     let n = c.table_size-n.ensures.0 in
     elim c.then-table-n.branch [
-      then-table-n-via-then-table-n w ↦ judge_long held _ _ n (ne_eqb _ _ w.if-table-n.true)
-    | then-table-n-via-else-table-n+then-not-table_obeys w ↦ judge_high held _ _ n (eq-eqb _ _ w.if-table-n.false) (sym w.table_obeys.ensures ∙ w.if-not-table_obeys.true)
+      | then-table-n-via-then-table-n w ↦ judge_long held _ _ n (ne_eqb _ _ w.if-table-n.true)
+      | then-table-n-via-else-table-n+then-not-table_obeys w ↦ judge_high held _ _ n (eq-eqb _ _ w.if-table-n.false) (sym w.table_obeys.ensures ∙ w.if-not-table_obeys.true)
     ]
 
 pub invariant_of-judged : goal.invariant_of-judged

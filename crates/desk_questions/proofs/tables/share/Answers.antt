@@ -15,7 +15,7 @@ share-requires c =
     rw (length-take-le c.table_size.result c.whole_table.result.now (rw n (whole_fits held _ c.whole_table.ensures)), n) (some_entries held, few held)
 
 pub returns : goal.returns
-returns c = 
+returns c =
     let held = c.in_ok-z.ensures.held in
     let n = c.table_size.ensures.0 in
     held_share held _ _ _ _ n (lt-ltb _ _ c.if-z-e.false) c.whole_table.ensures

@@ -15,8 +15,8 @@ returns-then-z-q1 c =
     c.refused_entry-then-z-q1.ensures
     ∙ worked_outside c.in-Ok.ensures.held _ _
     (elim c.then-z-q1.branch [
-      then-z-q1-via-then-z-q1 w ↦ rw (le-ltb _ _ w.if-z-q1.true)
-    | then-z-q1-via-else-z-q1+then-z-q2 w ↦ rw (le-ltb _ _ w.if-z-q2.true) (and_false _)
+      | then-z-q1-via-then-z-q1 w ↦ rw (le-ltb _ _ w.if-z-q1.true)
+      | then-z-q1-via-else-z-q1+then-z-q2 w ↦ rw (le-ltb _ _ w.if-z-q2.true) (and_false _)
     ])
 
 pub invariant_of-shown : goal.invariant_of-shown
