@@ -36,7 +36,12 @@ pub fn open(
 }
 
 // Works the next row.
-pub fn step(s: &mut Standing, store: &[u8], first: &mut [u8], second: &mut [u8]) -> Result<Progress, Refusal>
+pub fn step(
+    s: &mut Standing,
+    store: &[u8],
+    first: &mut [u8],
+    second: &mut [u8],
+) -> Result<Progress, Refusal>
     ensures { Does Call.Step (desk_of s.old store.now first.old second.old)
         (step_reply result) (desk_of s.new store.now first.new second.new) }
 {
@@ -62,7 +67,12 @@ pub fn show<'a>(s: &mut Standing, store: &[u8], first: &'a [u8], second: &'a [u8
 }
 
 // The score of the shown table.
-pub fn score(s: &mut Standing, store: &[u8], first: &[u8], second: &[u8]) -> Result<Element, Refusal>
+pub fn score(
+    s: &mut Standing,
+    store: &[u8],
+    first: &[u8],
+    second: &[u8],
+) -> Result<Element, Refusal>
     ensures { AsksOnly Question.Score
         s.old store.now first.now second.now (element_reply result) s.new }
 {

@@ -14,7 +14,8 @@ pub struct Algebra<'a> {
 }
 
 impl<'a> Algebra<'a> {
-    // The first number with the code x, 64 for none. The guess is tried first.
+    // The first number with the code x, 64 for none: what `decode_in` of specs/Words says, by which contracts above are equations, so that this is no
+    // Option. The guess is tried first.
     pub fn decode(&self, x: u64, guess: Element) -> Element
         ensures { result.0 ≡ decode_in self.now.codes.now.words x }
     {

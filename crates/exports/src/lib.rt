@@ -1,5 +1,6 @@
 // The calls, the rest of a round, what a desk holds, one entry of the next round and the listing for C and Rust: exported functions, the calls over
 // those by value, with their answers as numbers in structs of C's layout.
+// Each takes the standing, the store and the tables one by one, and gives numbers for kinds and refusals: the C interface.
 //   numbers: each call's answer as numbers
 //   moves: koelchair_open and koelchair_step
 //   finishing: koelchair_finish_round

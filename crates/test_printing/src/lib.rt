@@ -58,7 +58,7 @@ pub fn before(line: &[u8], stop: u8) -> usize
         .unwrap_or(line.len())
 }
 
-// The value of a hexadecimal digit.
+// The value of a hexadecimal digit; `to_digit(16)` takes capitals too.
 fn digit(c: u8) -> Option<u8> {
     match c {
         b'0'..=b'9' => Some(c - b'0'),
