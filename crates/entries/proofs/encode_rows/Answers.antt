@@ -1,5 +1,5 @@
 -- `entries::encode_rows` meets its contract: the rows below q are written.
-use Rattle.std.proofs.Common.{◌+◌, ◌*◌, refl, ap, ◌∙◌, get_or, length, take, drop, arith}
+use Rattle.std.proofs.Common.{◌*◌, ap, get_or, take, drop, arith}
 use Rattle.elements.specs.Words.{code_in}
 use Rattle.entries.specs.Words.{slice_word, rows_part}
 use Rattle.entries.proofs.encode_rows.Goals as goal

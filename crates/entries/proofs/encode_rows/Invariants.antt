@@ -1,4 +1,4 @@
-use Rattle.std.proofs.Common.{◌≡◌, get_or, length}
+use Rattle.std.proofs.Common.{get_or}
 use Rattle.entries.specs.Words.{Rows}
 use Rattle.entries.specs.Codes.{table_code}
 use Rattle.entries.proofs.encode_rows.Given as goal

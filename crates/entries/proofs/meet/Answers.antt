@@ -1,5 +1,5 @@
 -- `entries::meet` meets its contract: the meet over the states below q, and the pairs that it looked at.
-use Rattle.std.proofs.Common.{◌+◌, ◌*◌, ◌-◌, ◌≤◌, length, take, drop, arith, length-take-le, length-drop}
+use Rattle.std.proofs.Common.{◌+◌, ◌*◌, ◌-◌, drop, arith, length-take-le, length-drop}
 use Rattle.entries.specs.Prepared.{met_none, met_more, met_stop, met_all, met_within, top_some, state_at}
 use Rattle.entries.proofs.meet.Goals as goal
 

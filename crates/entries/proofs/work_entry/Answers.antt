@@ -1,5 +1,5 @@
 -- `entries::work_entry` meets its contract: the transitions of model 2, then the meet.
-use Rattle.std.proofs.Common.{rules, ◌≡◌, ◌∙◌, sym, ap, eq-eqb, length, take, arith, length-take-le}
+use Rattle.std.proofs.Common.{rules, ◌≡◌, ◌∙◌, ap, eq-eqb, length, arith, length-take-le}
 use Rattle.theory.specs.TestLaws.{false_true}
 use Rattle.entries.specs.Prepared.{row_gap, row_within_lem, entry_met}
 use Rattle.entries.specs.Joins.{words_join, listed_front}

@@ -1,5 +1,5 @@
 -- `rounds::differing` meets its contract: the bytes compared so far.
-use Rattle.std.proofs.Common.{refl, ◌∙◌, not, eqb, get_or, arith}
+use Rattle.std.proofs.Common.{refl, ◌∙◌, arith}
 use Rattle.theory.specs.Loop.{counted_none, counted_more}
 use Rattle.entries.specs.Joins.{byte_indicator}
 use Rattle.rounds.specs.Compared.{compared_all}

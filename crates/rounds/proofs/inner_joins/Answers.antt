@@ -1,5 +1,5 @@
 -- `rounds::inner_joins` meets its contract: the codes of the table, then the inner joins.
-use Rattle.std.proofs.Common.{refl, sym}
+use Rattle.std.proofs.Common.{refl}
 use Rattle.rounds.specs.Codes.{joins_from}
 use Rattle.rounds.proofs.inner_joins.Goals as goal
 

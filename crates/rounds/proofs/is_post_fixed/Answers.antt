@@ -1,7 +1,6 @@
 -- `rounds::is_post_fixed` meets its contract: the rows below q are at or below those of F.
-use Rattle.std.proofs.Common.{ℕ, ◌≡◌, ◌*◌, ◌<◌, ◌≤◌, ◌+◌, refl, sym, ◌∙◌, false, true, get_or, length, arith, length-take-le}
+use Rattle.std.proofs.Common.{ℕ, ◌≡◌, ◌*◌, ◌<◌, refl, sym, ◌∙◌, get_or, arith, length-take-le}
 use Rattle.std.proofs.Math.ListN.{replicate}
-use Rattle.std.proofs.lemmas.Bool.{not-true, not-false}
 use Rattle.theory.specs.Loop.{passed_none, passed_more, passed_stop, passed_all}
 use Rattle.theory.specs.Test.{all_below}
 use Rattle.entries.specs.Shaped.{shaped}

@@ -1,5 +1,5 @@
 -- `rounds::score` meets its contract: the meet so far.
-use Rattle.std.proofs.Common.{ℕ, ◌≡◌, ◌≤◌, refl, ap, ap₂, ◌∙◌, length, get_or, bit_or, arith, length-take-le}
+use Rattle.std.proofs.Common.{ℕ, refl, ap, ap₂, ◌∙◌, get_or, bit_or, arith, length-take-le}
 use Rattle.std.proofs.Math.ListN.{replicate}
 use Rattle.theory.specs.Loop.{folded_none, folded_more, folded_all}
 use Rattle.elements.specs.Words.{negated_code_in, decode_in}

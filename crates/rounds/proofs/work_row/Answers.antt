@@ -1,6 +1,5 @@
 -- `rounds::work_row` meets its contract: the row that the closure gives, in its part of the table.
 use Rattle.std.proofs.Common.{◌*◌, ◌+◌, ◌≤◌, rules, refl, length, get_or, arith}
-use Rattle.model.specs.Places.{row_le}
 use Rattle.entries.specs.Table.{entry_in}
 use Rattle.entries.specs.Shaped.{shaped}
 use Rattle.rounds.specs.Table.{row_same}

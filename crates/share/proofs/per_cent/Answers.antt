@@ -4,7 +4,6 @@ use native.Mathlib.Nat.{mod-lt}
 use native.Mathlib.Omega.{arith}
 use Rattle.theory.proofs.Share.{per_cent_up, per_cent_down}
 use Rattle.share.specs.ShareIn.{per_cent-fits}
-use borrow.Author.Rules.{rules}
 use Rattle.share.proofs.per_cent.Goals as goal
 
 pub overflow_mul-rest-2 : goal.overflow_mul-rest-2

@@ -1,5 +1,5 @@
 -- `entries::before_top` meets its contract: the join of the blocks before a block, which is not top.
-use Rattle.std.proofs.Common.{refl, sym, ap, ◌∙◌, length, arith}
+use Rattle.std.proofs.Common.{refl, sym, ap, ◌∙◌, arith}
 use Rattle.theory.specs.Loop.{reached}
 use Rattle.entries.specs.Joins.{join_code, block_from, block_next, block_joined, join_none, join_gap}
 use Rattle.entries.proofs.joins.before_top.Goals as goal

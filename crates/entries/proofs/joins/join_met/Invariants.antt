@@ -1,4 +1,4 @@
-use Rattle.std.proofs.Common.{◌≡◌, get_or, bit_and, bit_or}
+use Rattle.std.proofs.Common.{get_or, bit_and, bit_or}
 use Rattle.theory.specs.Loop.{Folded}
 use Rattle.entries.proofs.joins.join_met.Given as goal
 

@@ -1,5 +1,5 @@
 -- `entries::join_words` meets its contract: the join of the words before this one.
-use Rattle.std.proofs.Common.{refl, sym, ap, ap₂, ◌∙◌, get_or, arith, zero-add}
+use Rattle.std.proofs.Common.{refl, sym, ap, get_or, arith, zero-add}
 use Rattle.theory.specs.Loop.{folded_none, folded_more, folded_all}
 use Rattle.entries.proofs.joins.join_words.Goals as goal
 

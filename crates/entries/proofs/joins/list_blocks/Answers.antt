@@ -1,5 +1,5 @@
 -- `entries::list_blocks` meets its contract: the blocks before block b are listed.
-use Rattle.std.proofs.Common.{◌≡◌, ◌+◌, ◌-◌, ◌*◌, ◌≤◌, ◌<◌, length, ap, ◌∙◌, not, eqb, arith}
+use Rattle.std.proofs.Common.{◌≡◌, ◌+◌, ◌*◌, ◌≤◌, ◌<◌, length, ap, ◌∙◌, not, eqb, arith}
 use Rattle.theory.specs.Loop.{indicator_most}
 use Rattle.entries.specs.Joins.{words_join, words_joined, byte_indicator, listed_turn}
 use Rattle.entries.proofs.joins.list_blocks.Goals as goal

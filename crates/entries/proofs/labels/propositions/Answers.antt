@@ -1,7 +1,7 @@
 -- `entries::propositions` meets its contract: the meets over the propositions below p.
 use Rattle.std.proofs.Common.{ℕ, refl, ap, arith, bit_and}
 use Rattle.theory.specs.Part.{model_of}
-use Rattle.entries.specs.Words.{row_folded_none, row_folded_more, row_folded_all}
+use Rattle.entries.specs.Words.{row_folded_none, row_folded_more}
 use Rattle.entries.specs.Codes.{iff_code}
 use Rattle.entries.proofs.labels.propositions.Goals as goal
 

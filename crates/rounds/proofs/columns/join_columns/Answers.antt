@@ -1,5 +1,5 @@
 -- `rounds::join_columns` meets its contract: the joins over the states below r, all of which are top where it ends early.
-use Rattle.std.proofs.Common.{rules, ◌≡◌, ℕ, ◌+◌, ◌*◌, refl, sym, ap, ◌∙◌, get_or, length, bit_and, bit_or, arith}
+use Rattle.std.proofs.Common.{rules, ◌≡◌, ℕ, ◌+◌, ◌*◌, sym, ap, ◌∙◌, get_or, length, bit_and, bit_or, arith}
 use Rattle.std.specs.Int.Bits.{and_zero_l, or_zero_r}
 use Rattle.elements.specs.Words.{code_in}
 use Rattle.elements.specs.Laws.{within-refl, within_trans, and_left}

@@ -1,5 +1,5 @@
 -- `rounds::replace` meets its contract: the words below i are replaced.
-use Rattle.std.proofs.Common.{refl, arith}
+use Rattle.std.proofs.Common.{arith}
 use Rattle.entries.specs.Words.{replaced_more}
 use Rattle.rounds.proofs.columns.replace.Goals as goal
 

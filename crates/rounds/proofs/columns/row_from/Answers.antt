@@ -1,5 +1,5 @@
 -- `rounds::row_from` meets its contract: the meets over the states below q, all of which are bottom where it ends early.
-use Rattle.std.proofs.Common.{rules, ◌≡◌, ℕ, ◌+◌, ◌*◌, refl, sym, ap, ◌∙◌, get_or, length, bit_and, bit_or, arith}
+use Rattle.std.proofs.Common.{rules, ◌≡◌, ℕ, ◌+◌, ◌*◌, sym, ap, ◌∙◌, get_or, length, bit_and, bit_or, arith}
 use Rattle.elements.proofs.Folds.{top_same}
 use Rattle.elements.specs.Words.{negated_code_in}
 use Rattle.elements.specs.Laws.{within-refl}
