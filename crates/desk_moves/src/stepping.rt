@@ -35,13 +35,14 @@ pub fn next_round(s: Standing, changed: bool, whole: &[u8], other: &[u8]) -> Sta
         ≡ next_round changed (s.lowerings + differing_for (standing_of s) whole.now other.now) (standing_of s) }
 {
     let count = rounds::differing(whole, other, usize::from(s.states1), usize::from(s.states2));
+    let lowerings = s.lowerings + count;
     Standing {
         round: s.round + 1,
         row: 0,
         changed: false,
         settled: !changed,
         second_whole: !s.second_whole,
-        lowerings: s.lowerings + count,
+        lowerings,
         ..s
     }
 }
