@@ -1,5 +1,5 @@
-// The calls, with the standing lent. It is a parameter of its own: a struct that held the `&mut` would have its calls say what the standing is after them
-// through the struct that is given up, and no call would be shorter.
+// The calls, with the standing lent. The desk is four parameters, and no struct: open and step lend the tables to be written into, and what show gives
+// outlives the call, so that a struct which holds the `&mut` would have to be made anew for each call.
 #![tactic(auto)]
 
 ghost use Rattle.std.specs.Prelude.{[], ◌∷◌};

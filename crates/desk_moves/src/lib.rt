@@ -4,6 +4,7 @@
 //   opening: `open`
 //   stepping: `step`
 //   finishing: `finish_round`, which is so many steps
+// Store and tables are parameters of their own, and no struct with the standing: these calls lend some of them to be written into, each other ones.
 #![tactic(auto)]
 
 mod finishing;

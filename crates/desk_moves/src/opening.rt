@@ -1,14 +1,27 @@
 // The call that takes a case.
+ghost use Rattle.std.specs.Prelude.{◌≡◌};
 ghost use Rattle.desk.specs.Desk.{Call};
-ghost use Rattle.desk_check.specs.Read.{desk_of};
+ghost use Rattle.desk_check.specs.Read.{standing_of, desk_of};
 ghost use Rattle.desk_check.specs.Answer.{Does};
 ghost use Rattle.desk_moves.specs.Answer.{open_reply};
+ghost use Rattle.desk_moves.specs.Opened.{fresh_standing};
 
 use crate::Opened;
-use casefile::Case;
+use casefile::{Case, Sizes};
 use desk_check::{Desk, Standing, table_size};
 use elements::Codes;
 use refusal::Refusal;
+
+// The standing of a desk that is made anew.
+fn fresh(z: Sizes) -> Standing
+    ensures { standing_of result ≡ fresh_standing z.states1 z.states2 }
+{
+    Standing {
+        states1: z.states1,
+        states2: z.states2,
+        ..Standing::default()
+    }
+}
 
 // Takes a case, and makes the desk anew: unsettled, at round 0 and next row 0, both tables top.
 pub fn open(
@@ -47,11 +60,7 @@ pub fn open(
             first[..n].fill(top);
             second[..n].fill(top);
             Opened {
-                standing: Standing {
-                    states1: z.states1,
-                    states2: z.states2,
-                    ..Standing::default()
-                },
+                standing: fresh(z),
                 answer: Ok(()),
             }
         }

@@ -1,5 +1,6 @@
 // The call that works the next row.
-ghost use Rattle.std.specs.Prelude.{◌≡◌, ◌+◌};
+ghost use Rattle.std.specs.Prelude.{◌≡◌, ◌+◌, ◌*◌, ◌≤◌, ◌<◌, length, get_or};
+ghost use Rattle.rounds.specs.Table.{Room, RowIn};
 ghost use Rattle.desk.specs.Desk.{Call};
 ghost use Rattle.desk.specs.Moved.{next_round, step_answer};
 ghost use Rattle.desk_check.specs.Read.{standing_of, desk_of};
@@ -10,8 +11,22 @@ ghost use Rattle.desk_moves.specs.Stepped.{Movable, differing_for, moved_by};
 use crate::{Progress, Stepped};
 use desk_check::{Desk, Standing};
 use elements::{Algebra, Codes};
-use entries::Table;
+use entries::{Models, Table};
 use model::State;
+
+// Works a row of F of the whole table into the other; says whether it differs from the whole table's.
+fn work_row(a: &Algebra, models: Models, whole: &[u8], other: &mut [u8], row: State) -> bool
+    requires { (get_or models.first.bytes.now 0 0 * get_or models.second.bytes.now 0 0 ≤ length whole.now)
+        × Room models.first.bytes.now models.second.bytes.now other.old × (row.0 < get_or models.first.bytes.now 0 0) }
+    ensures { RowIn a.now.codes.now.words a.now.lattice models.entry.first.bytes.now models.entry.second.bytes.now whole.now
+        row.0 other.old other.new result }
+{
+    let table = Table {
+        models,
+        bytes: whole,
+    };
+    rounds::row(a, &table, other, row)
+}
 
 // The standing after the last row of a round that has changed something, or has not: the entries in which the two tables differ are counted.
 pub fn next_round(s: Standing, changed: bool, whole: &[u8], other: &[u8]) -> Standing
@@ -20,13 +35,14 @@ pub fn next_round(s: Standing, changed: bool, whole: &[u8], other: &[u8]) -> Sta
         ≡ next_round changed (s.lowerings + differing_for (standing_of s) whole.now other.now) (standing_of s) }
 {
     let count = rounds::differing(whole, other, usize::from(s.states1), usize::from(s.states2));
+    let lowerings = s.lowerings + count;
     Standing {
         round: s.round + 1,
         row: 0,
         changed: false,
         settled: !changed,
         second_whole: !s.second_whole,
-        lowerings: s.lowerings + count,
+        lowerings,
         ..s
     }
 }
@@ -97,20 +113,12 @@ pub fn step(s: Standing, store: &[u8], first: &mut [u8], second: &mut [u8]) -> S
                 lattice: z.lattice,
             };
             let models = d.models();
-            let row = State(s.row);
+            // Two branches, since a choice of one `&mut` of two gets no generated proof.
             if s.second_whole {
-                let whole = Table {
-                    models,
-                    bytes: second,
-                };
-                let differs = rounds::row(&algebra, &whole, first, row);
+                let differs = work_row(&algebra, models, second, first, State(s.row));
                 return answered(moved_on(s, differs, second, first));
             }
-            let whole = Table {
-                models,
-                bytes: first,
-            };
-            let differs = rounds::row(&algebra, &whole, second, row);
+            let differs = work_row(&algebra, models, first, second, State(s.row));
             answered(moved_on(s, differs, first, second))
         }
     }
