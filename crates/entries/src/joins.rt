@@ -30,7 +30,8 @@ pub fn join_met(x: u64, row: &[u64], codes: &[u64]) -> u64
     y
 }
 
-// Writes where the blocks of 16 words of `row` begin that are not all 0, and says how many there are. From place n on all words are 0.
+// Writes where the blocks of 16 words of `row` begin that are not all 0, and says how many there are. From place n on all words are 0. It goes by numbers,
+// since the places are what it lists.
 pub(crate) fn list_blocks(row: &[u64; 64], n: usize, starts: &mut [usize; 4]) -> usize
     requires { Gap row.now n 64 }
     ensures { (result ≤ 4) × Listed row.now starts.new result 64 }
@@ -64,7 +65,8 @@ pub(crate) struct Leaving<'a> {
     ghost may_end: { MayEnd top row.now ends },
 }
 
-// How many words it takes until the join is top: x, the join before word i, is not, and with the 16 words from there on it is.
+// How many words it takes until the join is top: x, the join before word i, is not, and with the 16 words from there on it is. It goes by numbers, since
+// a number is the answer.
 fn end_in_block(x: u64, r: &Leaving, i: usize, codes: &[u64]) -> usize
     requires { (i + 16 ≤ 64) × (64 ≤ length codes.now) × (x ≡ join_code r.now.row.now codes.now 0 i) × (x ≡ r.now.top → ⊥)
         × (join_code r.now.row.now codes.now 0 (i + 16) ≡ r.now.top) }

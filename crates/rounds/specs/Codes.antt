@@ -1,7 +1,7 @@
 -- The inner joins of a whole round, and score, by codes. w is a lattice's codes. Rests on Table, entries' Table, Words and Codes, theory's Loop and
 -- Simulation, elements' Words and Folds.
 --   by_row, by_column: an entry of a table of words; JoinsOf, joins_from, joins-inner: the inner joins of a table
---   initial_code, score_part, score_join, score_decoded: score
+--   initial_code, score_part, join_of, score_join, score_met, score_decoded: score
 use Rattle.std.specs.Prelude.{ℕ, ◌+◌, ◌*◌, ◌≤◌, ◌<◌, ◌≡◌, List, length, get_or, take, drop}
 use Rattle.std.proofs.Common.{ap, ap₂, ◌∙◌, arith, get_or-take, length-take-le}
 use Rattle.std.specs.Int.Bits.{bit_and, bit_or}
@@ -57,11 +57,22 @@ abbrev pub score_part : List ℕ → List ℕ → List ℕ → List ℕ → ℕ 
 score_part w m₁ m₂ s q₁ =
     bit_or (negated_code_in w ((model_of m₁).initial q₁)) (fold bit_or 0 (λ i. bit_and (initial_code w m₂ i) (codes_of_table w m₂ s q₁ i)) (get_or m₂ 0 0))
 
+-- the join of the first n words of `row`, each met with the word of `codes` at its place
+abbrev pub join_of : List ℕ → List ℕ → ℕ → ℕ
+join_of row codes n = fold bit_or 0 (λ i. bit_and (get_or row i 0) (get_or codes i 0)) n
+
 -- the join of one turn, from the codes of the initial values and those of a row of entries
-pub score_join : (w m₂ s : List ℕ) (q n : ℕ) (before : List ℕ) {right entries : List ℕ} {y : ℕ} → n ≡ get_or m₂ 0 0 → Filled (initial_code w m₂) (get_or m₂ 0 0) right → n ≤ length right → n ≤ length before
+pub score_join : (w m₂ s : List ℕ) (q n₂ : ℕ) (before : List ℕ) {right entries : List ℕ} → Filled (initial_code w m₂) (get_or m₂ 0 0) right → entries ≡ written 0 (tab (λ i. code_in w (get_or s (q * n₂ + i) 0)) n₂ 0) before → n₂ ≤ length before → n₂ ≡ get_or m₂ 0 0 → join_of right entries n₂ ≡ fold bit_or 0 (λ i. bit_and (initial_code w m₂ i) (codes_of_table w m₂ s q i)) (get_or m₂ 0 0)
+score_join w m₂ s q n₂ before f e fits g =
+    rw (← g)
+    (fold_cong bit_or 0 _ _ n₂
+    (λ i k. ap₂ bit_and (f.at i (omega (arith, g))) (low_at (λ i. code_in w (get_or s (q * n₂ + i) 0)) n₂ before e fits i k)))
+
+-- the same of words that are parts of rows
+pub score_met : (w m₂ s : List ℕ) (q n : ℕ) (before : List ℕ) {right entries : List ℕ} {y : ℕ} → n ≡ get_or m₂ 0 0 → Filled (initial_code w m₂) (get_or m₂ 0 0) right → n ≤ length right → n ≤ length before
     → entries ≡ written 0 (tab (λ i. code_in w (get_or (take (get_or m₂ 0 0) (drop (q * get_or m₂ 0 0) s)) i 0)) (get_or m₂ 0 0) 0) before → y ≡ words_met 0 (take n right) entries
     → y ≡ fold bit_or 0 (λ i. bit_and (initial_code w m₂ i) (codes_of_table w m₂ s q i)) (get_or m₂ 0 0)
-score_join w m₂ s q n before {right} {entries} g f l m e u =
+score_met w m₂ s q n before {right} {entries} g f l m e u =
     let j : length (take n right) ≡ n = length-take-le n right l in
     u ∙ ap (fold bit_or 0 (λ i. bit_and (get_or (take n right) i 0) (get_or entries i 0))) (j ∙ g)
     ∙ fold_cong bit_or 0 _ _ (get_or m₂ 0 0)

@@ -3,7 +3,7 @@ use Rattle.std.proofs.Common.{ℕ, refl, ap, ap₂, ◌∙◌, get_or, bit_or, a
 use Rattle.std.proofs.Math.ListN.{replicate}
 use Rattle.theory.specs.Loop.{folded_none, folded_more, folded_all}
 use Rattle.elements.specs.Words.{negated_code_in, decode_in}
-use Rattle.rounds.specs.Codes.{score_join, score_decoded}
+use Rattle.rounds.specs.Codes.{score_met, score_decoded}
 use Rattle.rounds.proofs.score.Goals as goal
 
 pub loop-q-init : goal.loop-q-init
@@ -19,7 +19,7 @@ loop-q-preserved c =
     let k = length-take-le {A = ℕ} c.states-n2.result (replicate 64 0) (omega (arith, m, c.states-n2.ensures)) in
     folded_more c.loop-q.invariant
     (ap₂ bit_or z
-    (score_join w t.models.second.bytes.now t.bytes.now c.loop-q.q _ _ c.states-n2.ensures c.initial_codes.ensures (omega (arith, m, c.states-n2.ensures)) (omega (arith, k)) e c.join_met-y.ensures))
+    (score_met w t.models.second.bytes.now t.bytes.now c.loop-q.q _ _ c.states-n2.ensures c.initial_codes.ensures (omega (arith, m, c.states-n2.ensures)) (omega (arith, k)) e c.join_met-y.ensures))
     refl
 
 pub returns : goal.returns
