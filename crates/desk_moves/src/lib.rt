@@ -1,6 +1,5 @@
 // The two calls that move the standing on, and the rest of a round in one call, with the standing by value: each gives the standing after
-// it beside its answer. The tables are lent one by one: of a struct that held them `&mut`, and is given up by the call, a contract could say what
-// is left in them only through that struct.
+// it beside its answer.
 //   opening: `open`
 //   stepping: `step`
 //   finishing: `finish_round`, which is so many steps
