@@ -1,14 +1,16 @@
--- For a loop over the formula parts: the answer is that of the parts still to come. Rests on Answer.
+-- For the search of a formula part that is refused: the answer is that of the parts still to come. Rests on Answer.
 -- The definitions are in specs/Formulas.
-use Rattle.std.specs.Prelude.{ℕ, suc, ◌+◌, ◌-◌, ◌≤◌, ◌<◌, ◌≡◌, refl, true, false, List, Ok, Err}
-use Rattle.std.proofs.Common.{sym, ap, ap₂, ◌∙◌, arith}
+use Rattle.std.specs.Prelude.{ℕ, zero, suc, ◌+◌, ◌-◌, ◌≤◌, ◌<◌, ◌≡◌, refl, true, false, List, length, Ok, Err}
+use Rattle.std.proofs.Common.{sym, ap, ap₂, ◌∙◌, le_refl, arith}
+use Rattle.std.specs.List.{range_with_len, AllWithin, HoldsAt}
+use Rattle.std.proofs.lemmas.List.FromFn.{length-range_with_len, get_or-range_with_len}
 use Rattle.theory.specs.TestLaws.{false_true}
 use Rattle.refusal.specs.declared.Refusal.TheVariants.{BadFormula}
 use Rattle.formula.specs.Bytes.{FormulaReading, formula_reading}
-use Rattle.casefile.specs.Directory.{part_count, part_at, parts_from}
+use Rattle.casefile.specs.Directory.{part_at, parts_from}
 use Rattle.casefile.specs.Reading.{FormulasReading, read_one, formulas_reading, refused_at, read}
 use Rattle.casefile.specs.Steps.{is_read, formulas_answer}
-use Rattle.casefile.specs.Formulas.{answer_from, FormulasUpto, FormulasBefore}
+use Rattle.casefile.specs.Formulas.{answer_from, FormulasUpto}
 
 read_one_lem : (i : ℕ) (x : FormulaReading) (y : FormulasReading) → is_read x ≡ true → formulas_answer (read_one i x y) ≡ formulas_answer y
 read_one_lem i FormulaReading.refused y t = absurd (false_true refl t)
@@ -46,24 +48,25 @@ pub formulas_done : (b : List ℕ) (k n f : ℕ) → FormulasUpto b k n f → n 
 unfolding parts_from formulas_reading
 formulas_done b k n f h l = let e : n - f ≡ 0 = omega arith in sym (h.same ∙ ap (answer_from b k (3 + f)) e)
 
--- ---- the same for a loop over the parts' numbers
+-- ---- the parts' numbers searched in order
 
-pub before_none : (b : List ℕ) (k : ℕ) → FormulasBefore b k 3
-before_none b k = record { least = omega arith; upto = formulas_none b k (part_count b - 3) }
+-- the first f parts are formulas, where each of them is
+upto_all : (b : List ℕ) (k n f : ℕ) → f ≤ n → ((i : ℕ) → i < f → is_read (formula_reading k (part_at b (3 + i))) ≡ true) → FormulasUpto b k n f
+upto_all b k n zero l h = formulas_none b k n
+upto_all b k n (suc f) l h =
+    let e : suc f ≡ f + 1 = omega arith in
+    rw e (formulas_more b k n f (upto_all b k n f (omega arith) (λ i m. h i (omega arith))) (omega arith) (h f (omega arith)))
 
-pub before_more : (b : List ℕ) (k i : ℕ) → FormulasBefore b k i → i < part_count b → is_read (formula_reading k (part_at b i)) ≡ true → FormulasBefore b k (i + 1)
-before_more b k i h l t =
-    let e : 3 + (i - 3) ≡ i = omega (arith, h.least) in
-    let d : i + 1 - 3 ≡ i - 3 + 1 = omega (arith, h.least) in
-    record {
-      least = omega (arith, h.least);
-      upto = rw d (formulas_more b k (part_count b - 3) (i - 3) h.upto (omega (arith, h.least)) (rw e t));
-    }
+parts_read : (b : List ℕ) (k n f : ℕ) → f ≤ n → AllWithin (λ i. is_read (formula_reading k (part_at b i)) ≡ true) (range_with_len 3 n) 0 f → FormulasUpto b k n f
+parts_read b k n f l h =
+    upto_all b k n f l (λ i m. ap (λ (x : ℕ). is_read (formula_reading k (part_at b x))) (sym (get_or-range_with_len 3 n i 0 (omega arith))) ∙ h i 0 (omega arith) m)
 
-pub before_stop : (b : List ℕ) (k i : ℕ) → FormulasBefore b k i → i < part_count b → is_read (formula_reading k (part_at b i)) ≡ false → Err (BadFormula i) ≡ answer_from b k 3 (part_count b - 3)
-before_stop b k i h l t =
-    let e : 3 + (i - 3) ≡ i = omega (arith, h.least) in
-    ap (λ (j : ℕ). Err (BadFormula j)) (sym e) ∙ formulas_stop b k (part_count b - 3) (i - 3) h.upto (omega (arith, h.least)) (rw e t)
+-- what `find` says of the parts' numbers
+pub find_none : (b : List ℕ) (k n : ℕ) → AllWithin (λ i. is_read (formula_reading k (part_at b i)) ≡ true) (range_with_len 3 n) 0 (length (range_with_len 3 n)) → Ok tt ≡ answer_from b k 3 n
+find_none b k n h = formulas_done b k n n (parts_read b k n n (le_refl n) (rw length-range_with_len at h)) (le_refl n)
 
-pub before_done : (b : List ℕ) (k i : ℕ) → FormulasBefore b k i → part_count b ≤ i → Ok tt ≡ answer_from b k 3 (part_count b - 3)
-before_done b k i h l = formulas_done b k (part_count b - 3) (i - 3) h.upto (omega (arith, h.least))
+pub find_some : (b : List ℕ) (k n x : ℕ) → (is_read (formula_reading k (part_at b x)) ≡ false) × (i : ℕ) × (i < length (range_with_len 3 n)) × HoldsAt (λ y. y ≡ x) (range_with_len 3 n) i × AllWithin (λ i. is_read (formula_reading k (part_at b i)) ≡ true) (range_with_len 3 n) 0 i → Err (BadFormula x) ≡ answer_from b k 3 n
+find_some b k n x h =
+    let l : h.1 < n = rw length-range_with_len at h.2 in
+    let e : 3 + h.1 ≡ x = sym (get_or-range_with_len 3 n h.1 0 l) ∙ h.3 0 in
+    ap (λ (j : ℕ). Err (BadFormula j)) (sym e) ∙ formulas_stop b k n h.1 (parts_read b k n h.1 (omega (arith, l)) h.4) l (rw e h.0)

@@ -170,12 +170,10 @@ impl<'a> Case<'a> {
     fn check_formulas(self, k: u8) -> Result<(), Refusal>
         ensures { result ≡ formulas_answer (formulas_reading k 3 (parts_from self.entry.bytes.now 3 (part_count self.entry.bytes.now - 3))) }
     {
-        for i in 3..self.bytes[0] {
-            if formula::check(self.part(i), k).is_none() {
-                return Err(Refusal::BadFormula(i));
-            }
+        match (3..self.bytes[0]).find(|&i| formula::check(self.part(i), k).is_none()) {
+            Some(i) => Err(Refusal::BadFormula(i)),
+            None => Ok(()),
         }
-        Ok(())
     }
 
     // Checks the parts.

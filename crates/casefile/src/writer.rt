@@ -6,6 +6,8 @@ ghost use Rattle.casefile.specs.Steps.{with_u16, with_pair, with_pairs, with_par
 
 use crate::Case;
 
+// What `copy`, `put_u16` and `put_pair` write stands at a place of the whole buffer, as `written`, `with_u16` and `with_pair` of the specs say it.
+
 // Writes bytes at a place of a buffer.
 fn copy(part: &[u8], out: &mut [u8], at: usize)
     requires { at + length part.now ≤ length out.old }
@@ -36,6 +38,7 @@ impl<'a> Case<'a> {
     pub fn gapless_length(self) -> usize
         ensures { result ≡ length (gapless_of self.entry.bytes.now) }
     {
+        // A loop: `sum` asks before its first turn that no sum of the parts is too large, and the proof of that did not close.
         let mut length = self.directory().end();
         for i in 0..self.bytes[0] {
             length += self.part(i).len();

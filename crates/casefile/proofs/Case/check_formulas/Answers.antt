@@ -1,25 +1,21 @@
--- `casefile::Case::check_formulas` meets its contract: the parts passed so far are formulas.
-use mathlib.Core.Path.{◌≡◌, ap, ◌∙◌}
-use mathlib.Core.Bool.{not}
-use Rattle.formula.specs.Bytes.{formula_reading}
-use Rattle.casefile.specs.Directory.{part_at}
+-- `casefile::Case::check_formulas` meets its contract: the first part that is no formula is found, or there is none.
+use Rattle.std.proofs.Common.{rules, ℕ, Bool, ◌≡◌, ◌-◌, refl, Some, None, true, false}
+use borrow.Author.Tests.{tests}
+use Rattle.std.proofs.lemmas.Iterator.{first_from_find, YieldsList-from_range}
+use Rattle.casefile.specs.Directory.{part_count, part_at}
 use Rattle.casefile.specs.Steps.{is_read}
-use Rattle.casefile.proofs.Formulas.{before_none, before_more, before_stop, before_done}
+use Rattle.formula.specs.Bytes.{formula_reading}
+use Rattle.casefile.proofs.Formulas.{find_none, find_some}
 use Rattle.casefile.proofs.Case.check_formulas.Goals as goal
-use Rattle.casefile.proofs.Case.check_formulas.Goals.{After-is_none}
 
--- whether the part of a turn is read as a formula
-turn : (c : After-is_none) → is_read (formula_reading c.args.k (part_at c.args.self.bytes.now c.loop-i.i)) ≡ not c.is_none.result
-turn c = rw (c.check.ensures, c.part.ensures) at c.is_none.ensures
+pub returns-in-Some : goal.returns-in-Some
+returns-in-Some c =
+    let b = c.args.self.bytes.now in
+    let read : ℕ → Bool = λ x. is_read (formula_reading c.args.k (part_at b x)) in
+    find_some _ _ _ _ (first_from_find c.find.new.self _ (Some c.in-Some.i) (λ x. read x ≡ false) (λ x. read x ≡ true) c.in-Some.ensures.ran (YieldsList-from_range 3 (part_count b) (part_count b - 3) refl refl) (λ x q k. search (rules, tests)) (λ x q k. search (rules, tests)))
 
-pub loop-i-init : goal.loop-i-init
-loop-i-init c = before_none _ _
-
-pub returns-then-is_none : goal.returns-then-is_none
-returns-then-is_none c = before_stop _ _ _ c.loop-i.invariant c.loop-i-test.true (turn (goal.at.returns-then-is_none c).After-is_none ∙ ap not c.if-is_none.true)
-
-pub loop-i-preserved : goal.loop-i-preserved
-loop-i-preserved c = before_more _ _ _ c.loop-i.invariant c.loop-i-test.true (turn (goal.at.loop-i-preserved c).After-is_none ∙ ap not c.if-is_none.false)
-
-pub returns : goal.returns
-returns c = before_done _ _ _ c.loop-i.invariant c.loop-i-test.false
+pub returns-in-None : goal.returns-in-None
+returns-in-None c =
+    let b = c.args.self.bytes.now in
+    let read : ℕ → Bool = λ x. is_read (formula_reading c.args.k (part_at b x)) in
+    find_none _ _ _ (first_from_find c.find.new.self _ None (λ x. read x ≡ false) (λ x. read x ≡ true) c.in-None.ensures.ran (YieldsList-from_range 3 (part_count b) (part_count b - 3) refl refl) (λ x q k. search (rules, tests)) (λ x q k. search (rules, tests)))
