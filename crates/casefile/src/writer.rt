@@ -16,7 +16,7 @@ fn copy(part: &[u8], out: &mut [u8], at: usize)
     out[at..at + part.len()].copy_from_slice(part);
 }
 
-// Writes a number of 16 bits, low byte first.
+// Writes a number of 16 bits, low byte first. (`as`, as x is proved below 2^16: there is no `From`, and `try_from` would bring an `unwrap`.)
 fn put_u16(out: &mut [u8], at: usize, x: usize)
     requires { (at + 1 < length out.old) × (x < 65536) }
     ensures { out.new ≡ with_u16 out.old at x }

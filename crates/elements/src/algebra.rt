@@ -22,6 +22,7 @@ impl<'a> Algebra<'a> {
         if guess.0 < self.lattice.size && self.codes.code(guess) == x {
             return guess;
         }
+        // `as`, as a place among 64 is within a byte: there is no `From`, and `try_from` would bring an `unwrap`.
         match self.codes.words[..64].iter().position(|y| *y == x) {
             Some(a) => Element(a as u8),
             None => Element(64),

@@ -13,7 +13,7 @@ use elements::{Codes, Element};
 // The place of the first complement's code.
 const COMPLEMENTS: usize = 64;
 
-// Any number as an element.
+// Any number as an element. (`as`, as a remainder by 64 is within a byte: there is no `From`.)
 #[tactic(auto, unfolding(theory::specs::Part::element))]
 fn element_of(n: u8, k: usize) -> Element
     ensures { result.0 ≡ element n k }

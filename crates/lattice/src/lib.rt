@@ -59,6 +59,7 @@ fn check_complements(
     if !part.is_antitone(w) {
         return Err(Refusal::BadComplement);
     }
+    // `as`, as both are proved below 64: there is no `From`, and `try_from` would bring an `unwrap`.
     let top = codes.find(mask).unwrap();
     let bottom = codes.find(0).unwrap();
     Ok(Lattice {

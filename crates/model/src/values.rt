@@ -89,6 +89,7 @@ impl<'a> Model<'a> {
         ensures { out.new ≡ written 0 (tab (leaving_code negated w.now.words self.now.bytes.now q.0) (get_or self.now.bytes.now 0 0) 0)
             out.old }
     {
+        // By the states' numbers: a loop over `out[..n]` would ask for n and r all the same. (`as`, as r is proved below 64: there is no `From`.)
         for r in 0..self.states() {
             out[r] = w.value_code(negated, self.transition(q, State(r as u8)));
         }
