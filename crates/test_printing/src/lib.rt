@@ -15,12 +15,6 @@ pub fn say(rt: &impl Print, text: &[u8]) -> io::Result<()> {
     rt.write_all(text)
 }
 
-// A label and a number.
-pub fn item(rt: &impl Print, text: &[u8], n: u64) -> io::Result<()> {
-    say(rt, text)?;
-    rt.print(n)
-}
-
 // Each byte of a part as a number, with a blank before it.
 pub fn bytes(rt: &impl Print, part: &[u8]) -> io::Result<()> {
     for &x in part {
