@@ -18,7 +18,7 @@ IsCode-prop w n x d u v =
     }
 
 -- two proofs of a fact that has one at most, the proofs first, so that they say which fact it is
-same : {A : Type 0} (x y : A) → IsProp A → x ≡ y
+pub same : {A : Type 0} (x y : A) → IsProp A → x ≡ y
 same x y p = p x y
 
 pub Coded-prop : (w : List ℕ) (l : Lattice) → IsProp (Coded w l)

@@ -34,7 +34,7 @@ impl Codes {
         self.words[64 + usize::from(a.0 % 64)]
     }
 
-    // The code of an element, or that of its complement.
+    // The code of an element, or that of its complement: `negated` is the Bool of `value_code` of specs/Words.
     pub fn value_code(&self, negated: bool, a: Element) -> u64
         ensures { result ≡ value_code negated self.now.words a.0 }
     {

@@ -59,7 +59,7 @@ fn two_of(first: FormulaFacts, second: FormulaFacts) -> FormulaFacts
     }
 }
 
-// AX, else EX.
+// AX, else EX: `all` is the Bool of `next_facts` of specs/Check.
 fn next_of(all: bool, within: FormulaFacts) -> FormulaFacts
     requires { within.nesting < 255 }
     ensures { result ≡ next_facts all within }

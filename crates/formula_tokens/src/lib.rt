@@ -7,7 +7,8 @@ ghost use Rattle.formula_tokens.specs.Tokens.{token_of, token_at, token_end, tok
 
 use model::Proposition;
 
-// What stands at a place of a formula part: a code with its number, if it has one; the part's end; or neither.
+// What stands at a place of a formula part: a code with its number, if it has one; the part's end; or neither. Its Bools are those over which
+// `token_of` and `node_of` of specs/Tokens and the theorems are stated; End and Broken are two answers, so that a token is no Option.
 #[derive(Clone, Copy)]
 pub enum Token {
     Bottom,

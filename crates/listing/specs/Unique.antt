@@ -1,16 +1,13 @@
--- What the ghost field of `Accepted` says can be so in one way alone. Rests on casefile's Answer.
+-- What the ghost field of `Accepted` says can be so in one way alone. Rests on casefile's Answer, elements' Unique.
 use Rattle.std.specs.Prelude.{ℕ, ◌≡◌, List, Result}
 use denote.Struct.Props.{props}
+use Rattle.elements.specs.Unique.{same}
 use Rattle.theory.specs.Part.{LatticePart}
 use Rattle.refusal.specs.declared.Refusal.{Refusal}
 use Rattle.lattice.specs.Answer.{CodesOf}
 use Rattle.casefile.specs.declared.Sizes.{Sizes}
 use Rattle.casefile.specs.Reading.{Content}
 use Rattle.casefile.specs.Answer.{CaseAnswered}
-
--- two proofs of a fact that has one at most, the proofs first, so that they say which fact it is
-same : {A : Type 0} (x y : A) → IsProp A → x ≡ y
-same x y p = p x y
 
 CodesOf-prop : (P : LatticePart) (w : List ℕ) → IsProp (CodesOf P w)
 CodesOf-prop P w x y = λ i. record { codes = same x.codes y.codes (hlevel props) i; negated = same x.negated y.negated (hlevel props) i }

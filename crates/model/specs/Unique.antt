@@ -1,11 +1,8 @@
--- What `ModelShape` says can be so in one way alone, as the ghost field of `Model` asks. Rests on theory's Part.
+-- What `ModelShape` says can be so in one way alone, as the ghost field of `Model` asks. Rests on theory's Part, elements' Unique.
 use Rattle.std.specs.Prelude.{ℕ, ◌≡◌, List}
+use Rattle.elements.specs.Unique.{same}
 use Rattle.theory.specs.Part.{ModelShape}
 use denote.Struct.Props.{props}
-
--- two proofs of a fact that has one at most, the proofs first, so that they say which fact it is
-same : {A : Type 0} (x y : A) → IsProp A → x ≡ y
-same x y p = p x y
 
 pub ModelShape-prop : (b : List ℕ) → IsProp (ModelShape b)
 ModelShape-prop b x y =

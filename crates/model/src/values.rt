@@ -8,7 +8,8 @@ ghost use Rattle.model.specs.Unique.{ModelShape-prop};
 use crate::{Proposition, State};
 use elements::{Codes, Element};
 
-// The bytes of a part that has the form of a model.
+// The bytes of a part that has the form of a model. Each method that takes a state asks that it is one of the model's: a state is a number that C
+// gives or a loop counts, and a type of states with the model inside would ask the same where it is made.
 #[derive(Clone, Copy)]
 pub struct Model<'a> {
     pub bytes: &'a [u8],
@@ -81,7 +82,8 @@ impl<'a> Model<'a> {
         Element(self.bytes[row + usize::from(r.0)])
     }
 
-    // The codes of the transitions that leave q, or of their complements, written at the front of out.
+    // The codes of the transitions that leave q, or of their complements, written at the front of out. `negated` is the Bool of `leaving_code` of
+    // specs/Reading.
     pub fn transition_codes(&self, w: &Codes, q: State, negated: bool, out: &mut [u64])
         requires { (q.0 < get_or self.now.bytes.now 0 0) × (get_or self.now.bytes.now 0 0 ≤ length out.old) }
         ensures { out.new ≡ written 0 (tab (leaving_code negated w.now.words self.now.bytes.now q.0) (get_or self.now.bytes.now 0 0) 0)

@@ -33,7 +33,7 @@ pub enum Refusal {
 }
 
 impl Refusal {
-    // The number of a refusal.
+    // The number of a refusal: C's, written out, as `number_of` of specs/Number has them.
     pub fn number(self) -> u8
         ensures { result ≡ number_of self }
     {
@@ -55,7 +55,7 @@ impl Refusal {
         }
     }
 
-    // The part that a refusal names; 255 where it names none.
+    // The part that a refusal names; 255 where it names none, which is C's byte for it in `part_of` of specs/Number, so that this is no Option.
     pub fn part(self) -> u8
         ensures { result ≡ part_of self }
     {

@@ -1,14 +1,10 @@
 -- What `ModelOver` says can be so in one way alone, as the ghost field of `Valuation` asks. Rests on Values, elements' and model's Unique.
 use Rattle.std.specs.Prelude.{ℕ, ◌≡◌, List}
 use denote.Struct.Props.{props}
-use Rattle.elements.specs.Unique.{Coded-prop}
+use Rattle.elements.specs.Unique.{same, Coded-prop}
 use Rattle.elements.specs.declared.Lattice.{Lattice}
 use Rattle.model.specs.Unique.{ModelShape-prop}
 use Rattle.valuer.specs.Values.{ModelOver}
-
--- two proofs of a fact that has one at most, the proofs first, so that they say which fact it is
-same : {A : Type 0} (x y : A) → IsProp A → x ≡ y
-same x y p = p x y
 
 pub ModelOver-prop : (w : List ℕ) (l : Lattice) (m : List ℕ) → IsProp (ModelOver w l m)
 ModelOver-prop w l m x y = λ i. record {

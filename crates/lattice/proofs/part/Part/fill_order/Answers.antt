@@ -2,6 +2,7 @@
 use Rattle.std.proofs.Common.{◌≡◌, sym, ap, ◌∙◌, arith, rules, length, get_or}
 use Rattle.lattice.specs.Conditions.{ExplicitForm}
 use Rattle.lattice.specs.Form.{part_panel, part_explicit, form_explicit}
+use Rattle.lattice.specs.Rows.{bytes_slice, down_slice}
 use Rattle.lattice.specs.Parts.{panel_bytes, panel_down, explicit_bytes, explicit_down}
 use Rattle.lattice.proofs.part.Part.fill_order.Goals as goal
 use Rattle.lattice.proofs.part.Part.fill_order.Goals.{Then-is_panel, Else-is_panel}
@@ -30,9 +31,9 @@ pub slice_bounds-order-start : goal.slice_bounds-order-start
 slice_bounds-order-start c = omega (arith, (explicit (goal.at.slice_bounds-order-start c).Else-is_panel).exact)
 
 pub fill-requires-2 : goal.fill-requires-2
-fill-requires-2 c = let w = explicit (goal.at.fill-requires-2 c).Else-is_panel in (w.most, explicit_bytes _ _ w)
+fill-requires-2 c = let w = explicit (goal.at.fill-requires-2 c).Else-is_panel in (w.most, bytes_slice _ _ _ (explicit_bytes _ _ w))
 
 pub returns : goal.returns
 returns c =
     let q = (goal.at.returns c).Else-is_panel in
-    rw c.fill-2.auto.down (explicit_down _ _ (explicit q) _ (sym c.is_panel.ensures ∙ c.if-is_panel.false) (explicit_size q) c.fill-2.ensures)
+    rw (c.fill-2.auto.down ∙ c.requires) (explicit_down _ _ _ (sym c.is_panel.ensures ∙ c.if-is_panel.false) (explicit_size q) (down_slice _ _ _ _ c.fill-2.ensures))
