@@ -53,28 +53,19 @@ fn work_row<const N: usize>(a: &Algebra, t: &Table, out: &mut [u8], q1: State) -
         × (get_or t.now.models.first.bytes.now 0 0 * 64 ≤ N) × (N ≤ 4096) }
     ensures { RowIn a.now.codes.now.words a.now.lattice t.now.models.first.bytes.now t.now.models.second.bytes.now t.now.bytes.now q1.0 out.old out.new result }
 {
-    let n1 = t.models.first.states();
-    let n2 = t.models.second.states();
     let mut alike = [0u64; 64];
     let mut left = [0u64; 64];
     let mut codes = [0u64; N];
-    entries::prepare(
-        a.codes,
-        a.lattice,
-        t,
-        q1,
-        &mut alike[..n2],
-        &mut left[..n1],
-        &mut codes,
-    );
+    entries::prepare(a.codes, a.lattice, t, q1, &mut alike, &mut left, &mut codes);
     let row = Row {
         algebra: *a,
         table: *t,
         q1,
-        alike: &alike[..n2],
-        left: &left[..n1],
+        alike: &alike,
+        left: &left,
         codes: &codes,
     };
+    let n2 = t.models.second.states();
     let at = usize::from(q1.0) * n2;
     write_row(
         t.row(q1),
