@@ -13,7 +13,6 @@ ghost use Rattle.rounds.specs.Round.{RoundIn};
 ghost use Rattle.rounds.specs.Row.{RowSoFar};
 ghost use Rattle.elements.specs.Words.{decode_in};
 ghost use Rattle.rounds.specs.Codes.{initial_code, JoinsOf};
-ghost use Rattle.rounds.specs.Early.{TopOf};
 
 use columns::{TableCodes, all_joins, encode_columns, row_from};
 use elements::{Algebra, Codes, Element};
@@ -94,14 +93,13 @@ pub fn round(a: &Algebra, t: &Table, other: &mut [u8]) -> bool
 {
     let n2 = t.models.second.states();
     let mut joins = [0u64; 4096];
-    let top = a.codes.code(a.lattice.top);
-    inner_joins(a.codes, top, t, &mut joins);
+    inner_joins(a, t, &mut joins);
     let mut room = [0u64; 64];
     let codes = &mut room[..n2];
     let mut changed = false;
     for q in 0..t.models.first.states() {
         let q1 = State(q as u8);
-        row_from(a.codes, top, &t.models, &joins, q1, codes);
+        row_from(a, &t.models, &joins, q1, codes);
         let c = write_codes(a, codes, t.row(q1), &mut other[q * n2..q * n2 + n2]);
         changed = changed | c;
     }
@@ -109,20 +107,12 @@ pub fn round(a: &Algebra, t: &Table, other: &mut [u8]) -> bool
 }
 
 // The inner joins of a table, of every q2.
-fn inner_joins(w: &Codes, top: u64, t: &Table, joins: &mut TableCodes)
-    requires { TopOf w.now.words top }
-    ensures { JoinsOf w.now.words t.now.models.first.bytes.now t.now.models.second.bytes.now t.now.bytes.now joins.new }
+fn inner_joins(a: &Algebra, t: &Table, joins: &mut TableCodes)
+    ensures { JoinsOf a.now.codes.now.words t.now.models.first.bytes.now t.now.models.second.bytes.now t.now.bytes.now joins.new }
 {
     let mut table = [0u64; 4096];
-    encode_columns(w, t, &mut table);
-    all_joins(
-        w,
-        top,
-        &t.models.second,
-        &table,
-        t.models.first.states(),
-        joins,
-    );
+    encode_columns(a.codes, t, &mut table);
+    all_joins(a, &t.models, &table, joins);
 }
 
 // ---- the test against F
@@ -133,13 +123,12 @@ pub fn is_post_fixed(a: &Algebra, t: &Table) -> bool
     ensures { result ≡ post_fixed_in a.now.codes.now.words a.now.lattice t.now.models.first.bytes.now t.now.models.second.bytes.now t.now.bytes.now }
 {
     let mut joins = [0u64; 4096];
-    let top = a.codes.code(a.lattice.top);
-    inner_joins(a.codes, top, t, &mut joins);
+    inner_joins(a, t, &mut joins);
     let mut room = [0u64; 64];
     let codes = &mut room[..t.models.second.states()];
     for q in 0..t.models.first.states() {
         let q1 = State(q as u8);
-        row_from(a.codes, top, &t.models, &joins, q1, codes);
+        row_from(a, &t.models, &joins, q1, codes);
         if !a.codes.all_at_most(t.row(q1), codes) {
             return false;
         }
