@@ -235,12 +235,11 @@ module _ (top : ℕ) (row table : List ℕ) (at : ℕ) where
     pub reached : J k ≡ top
     pub not_before : (j : ℕ) → j < k → J j ≡ top → ⊥
 
-  -- the join before the block at i is not top, and that with it is; at 64, it never is
-  pub record BeforeTop (code i : ℕ) : Type 0 where
-    pub code_is : code ≡ J i
+  -- the join before the block at i is not top, and that with it is; of no block, it never is
+  pub record BeforeTop (code : ℕ) (block : Option ℕ) : Type 0 where
     pub not_top : code ≡ top → ⊥
-    pub fits : (i ≡ 64 → ⊥) → i + 16 ≤ 64
-    pub reached : (i ≡ 64 → ⊥) → J (i + 16) ≡ top
+    pub found : (i : ℕ) → block ≡ Some i → (code ≡ J i) × (i + 16 ≤ 64) × (J (i + 16) ≡ top)
+    pub none : block ≡ None → code ≡ J 64
 
   -- the join before word k is not top, and that with it is
   pub first_top : WithinTop top 64 row → {k : ℕ} → k < 64 → (J k ≡ top → ⊥) → J (k + 1) ≡ top → FirstTop (k + 1)

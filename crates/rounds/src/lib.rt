@@ -159,8 +159,8 @@ fn initial_codes(w: &Codes, m: &Model, out: &mut [u64])
     requires { get_or m.now.bytes.now 0 0 ≤ length out.old }
     ensures { Filled (initial_code w.now.words m.now.bytes.now) (get_or m.now.bytes.now 0 0) out.new }
 {
-    for q in 0..m.states() {
-        out[q] = w.code(m.initial(State(q as u8)));
+    for (q, x) in out[..m.states()].iter_mut().enumerate() {
+        *x = w.code(m.initial(State(q as u8)));
     }
 }
 
