@@ -13,7 +13,6 @@ ghost use Rattle.rounds.specs.Round.{RoundIn};
 ghost use Rattle.rounds.specs.Row.{RowSoFar};
 ghost use Rattle.elements.specs.Words.{decode_in};
 ghost use Rattle.rounds.specs.Codes.{initial_code, JoinsOf};
-ghost use Rattle.rounds.specs.Early.{TopOf};
 
 use columns::{TableCodes, all_joins, encode_columns, row_from};
 use elements::{Algebra, Codes, Element};
@@ -53,28 +52,19 @@ fn work_row<const N: usize>(a: &Algebra, t: &Table, out: &mut [u8], q1: State) -
         × (get_or t.now.models.first.bytes.now 0 0 * 64 ≤ N) × (N ≤ 4096) }
     ensures { RowIn a.now.codes.now.words a.now.lattice t.now.models.first.bytes.now t.now.models.second.bytes.now t.now.bytes.now q1.0 out.old out.new result }
 {
-    let n1 = t.models.first.states();
-    let n2 = t.models.second.states();
     let mut alike = [0u64; 64];
     let mut left = [0u64; 64];
     let mut codes = [0u64; N];
-    entries::prepare(
-        a.codes,
-        a.lattice,
-        t,
-        q1,
-        &mut alike[..n2],
-        &mut left[..n1],
-        &mut codes,
-    );
+    entries::prepare(a.codes, a.lattice, t, q1, &mut alike, &mut left, &mut codes);
     let row = Row {
         algebra: *a,
         table: *t,
         q1,
-        alike: &alike[..n2],
-        left: &left[..n1],
+        alike: &alike,
+        left: &left,
         codes: &codes,
     };
+    let n2 = t.models.second.states();
     let at = usize::from(q1.0) * n2;
     write_row(
         t.row(q1),
@@ -103,14 +93,13 @@ pub fn round(a: &Algebra, t: &Table, other: &mut [u8]) -> bool
 {
     let n2 = t.models.second.states();
     let mut joins = [0u64; 4096];
-    let top = a.codes.code(a.lattice.top);
-    inner_joins(a.codes, top, t, &mut joins);
+    inner_joins(a, t, &mut joins);
     let mut room = [0u64; 64];
     let codes = &mut room[..n2];
     let mut changed = false;
     for q in 0..t.models.first.states() {
         let q1 = State(q as u8);
-        row_from(a.codes, top, &t.models, &joins, q1, codes);
+        row_from(a, &t.models, &joins, q1, codes);
         let c = write_codes(a, codes, t.row(q1), &mut other[q * n2..q * n2 + n2]);
         changed = changed | c;
     }
@@ -118,20 +107,12 @@ pub fn round(a: &Algebra, t: &Table, other: &mut [u8]) -> bool
 }
 
 // The inner joins of a table, of every q2.
-fn inner_joins(w: &Codes, top: u64, t: &Table, joins: &mut TableCodes)
-    requires { TopOf w.now.words top }
-    ensures { JoinsOf w.now.words t.now.models.first.bytes.now t.now.models.second.bytes.now t.now.bytes.now joins.new }
+fn inner_joins(a: &Algebra, t: &Table, joins: &mut TableCodes)
+    ensures { JoinsOf a.now.codes.now.words t.now.models.first.bytes.now t.now.models.second.bytes.now t.now.bytes.now joins.new }
 {
     let mut table = [0u64; 4096];
-    encode_columns(w, t, &mut table);
-    all_joins(
-        w,
-        top,
-        &t.models.second,
-        &table,
-        t.models.first.states(),
-        joins,
-    );
+    encode_columns(a.codes, t, &mut table);
+    all_joins(a, &t.models, &table, joins);
 }
 
 // ---- the test against F
@@ -142,13 +123,12 @@ pub fn is_post_fixed(a: &Algebra, t: &Table) -> bool
     ensures { result ≡ post_fixed_in a.now.codes.now.words a.now.lattice t.now.models.first.bytes.now t.now.models.second.bytes.now t.now.bytes.now }
 {
     let mut joins = [0u64; 4096];
-    let top = a.codes.code(a.lattice.top);
-    inner_joins(a.codes, top, t, &mut joins);
+    inner_joins(a, t, &mut joins);
     let mut room = [0u64; 64];
     let codes = &mut room[..t.models.second.states()];
     for q in 0..t.models.first.states() {
         let q1 = State(q as u8);
-        row_from(a.codes, top, &t.models, &joins, q1, codes);
+        row_from(a, &t.models, &joins, q1, codes);
         if !a.codes.all_at_most(t.row(q1), codes) {
             return false;
         }
@@ -179,8 +159,8 @@ fn initial_codes(w: &Codes, m: &Model, out: &mut [u64])
     requires { get_or m.now.bytes.now 0 0 ≤ length out.old }
     ensures { Filled (initial_code w.now.words m.now.bytes.now) (get_or m.now.bytes.now 0 0) out.new }
 {
-    for q in 0..m.states() {
-        out[q] = w.code(m.initial(State(q as u8)));
+    for (q, x) in out[..m.states()].iter_mut().enumerate() {
+        *x = w.code(m.initial(State(q as u8)));
     }
 }
 

@@ -15,10 +15,11 @@ returns-then-y-r c =
     let i = u.start-index in
     let x = u.invariant.0 ∙ sym (join_gap r.row.now c.args.codes.now 0 (t.gap i (omega arith))) in
     record {
-      code_is = x;
       not_top = u.invariant.1;
-      fits = λ d. t.fits i (omega arith);
-      reached = λ d. sym (block_joined r.row.now c.args.codes.now _ _ (omega arith) (omega (arith, r.long, t.fits i (omega arith))) x c.join_met-y.ensures) ∙ c.if-y-r.true;
+      found = λ k e.
+          rw (← some_same e)
+          (x, t.fits i (omega arith), sym (block_joined r.row.now c.args.codes.now _ _ (omega arith) (omega (arith, r.long, t.fits i (omega arith))) x c.join_met-y.ensures) ∙ c.if-y-r.true);
+      none = λ e. absurd (some-none e);
     }
 
 pub loop-start-preserved : goal.loop-start-preserved
@@ -38,9 +39,8 @@ returns c =
     let r = c.args.r.now in
     let i = c.loop-start.invariant in
     record {
-      code_is = i.0 ∙ reached (λ n. join_code r.row.now c.args.codes.now 0 (block_from r.starts.now n)) (omega arith) (omega arith)
-          ∙ sym (join_gap r.row.now c.args.codes.now 0 c.args.r.now.listed.last);
       not_top = i.1;
-      fits = λ d. absurd (d refl);
-      reached = λ d. absurd (d refl);
+      found = λ k e. absurd (some-none (sym e));
+      none = λ e. i.0 ∙ reached (λ n. join_code r.row.now c.args.codes.now 0 (block_from r.starts.now n)) (omega arith) (omega arith)
+          ∙ sym (join_gap r.row.now c.args.codes.now 0 c.args.r.now.listed.last);
     }
