@@ -65,7 +65,7 @@ impl<'a> Successors<'a> {
         )
     }
 
-    // AX (all) or EX of a map.
+    // AX (all) or EX of a map, as a bool says in the definition NextMap.
     pub fn next_values(&self, all: bool, x: &[u64; 64], out: &mut [u64])
         requires { length out.old ≡ map_words }
         ensures { NextMap self.now.codes.now.words self.now.lattice self.now.model.bytes.now all x.now out.new }
