@@ -10,7 +10,7 @@
 --   joined-top, joined-all: a join that ended at the top, and one that did not
 --   MayEnd, never_top, open_all: a join that cannot be top
 use Prim.Native.Nat.{ℕ, zero, suc, ◌+◌, ◌-◌, ◌≤◌, ◌<◌}
-use Rattle.std.specs.Prelude.{◌≡◌, refl, Bool, true, false, not, ◌⊎◌, List, ltb, eqb, length, get_or, take, drop, set}
+use Rattle.std.specs.Prelude.{◌≡◌, refl, Bool, true, false, not, ◌⊎◌, List, Option, Some, None, ltb, eqb, length, get_or, take, drop, set}
 use Rattle.std.proofs.Common.{sym, ap₂, ◌∙◌, inl, inr, ⊎_elim, add-zero, add-suc, le_refl, zero-add, not-suc-le-zero, add-one, arith, ltb-true, ltb-false, eq-eqb, ne_eqb, eqb-true, get_or-set_same, get_or-set_other, get_or-take, length-take-le, length-drop}
 use Rattle.std.proofs.Math.Path.{ap}
 use Rattle.std.proofs.lemmas.Bool.{not-false}
