@@ -43,7 +43,7 @@ pub(crate) struct CodeAndPairs {
 
 // ---- what a row's entries have in common
 
-// The codes of a table's entries, 64 to a row.
+// The codes of a table's entries, 64 to a row. (By places: of what a loop over `chunks_exact_mut` writes a proof knows the length alone.)
 fn encode_rows(w: &Codes, t: &Table, out: &mut [u64])
     requires { get_or t.now.models.first.bytes.now 0 0 * 64 ≤ length out.old }
     ensures { Rows (table_code w.now.words t.now.bytes.now (get_or t.now.models.second.bytes.now 0 0)) (get_or t.now.models.first.bytes.now 0 0) (get_or t.now.models.second.bytes.now 0 0) out.new }
@@ -163,7 +163,8 @@ pub fn entry_from(r: &Row, q2: State) -> Entry
     work_entry(r, q2)
 }
 
-// Entry (q1, q2) of F of a table alone.
+// Entry (q1, q2) of F of a table alone. (The arrays stand here, and again in a row of crate `rounds`, since a Row borrows them and so cannot be given out
+// of the frame that makes it.)
 pub fn entry_of(a: &Algebra, t: &Table, q1: State, q2: State) -> Entry
     requires { (q1.0 < get_or t.now.models.first.bytes.now 0 0) × (q2.0 < get_or t.now.models.second.bytes.now 0 0) }
     ensures { EntryIs a.now.codes.now.words a.now.lattice t.now.models.first.bytes.now t.now.models.second.bytes.now t.now.bytes.now

@@ -26,7 +26,8 @@ fn spread(row: &[u64], out: &mut TableCodes, column: usize)
     }
 }
 
-// Replaces each word of `row` by what `f` makes of it and of the word of `others` at its place.
+// Replaces each word of `row` by what `f` makes of it and of the word of `others` at its place. (By an index: what a loop over a zipped iter_mut writes
+// is not known to a proof.)
 fn replace<F: Fn(u64, u64) -> u64>(row: &mut [u64], others: &[u64], f: F)
     requires callable { F.IsAlwaysCallable f }
     requires long { length row.old ≤ length others.now }
@@ -93,7 +94,8 @@ pub(crate) fn all_joins(a: &Algebra, m: &Models, table: &TableCodes, joins: &mut
 
 // ---- rows
 
-// The codes of row q1 of F, from the inner joins of every q2: its propositions, then one q1' after another.
+// The codes of row q1 of F, from the inner joins of every q2: its propositions, then one q1' after another. (The loop of `join_columns` begins, steps,
+// passes over and ends otherwise; what they share are `replace` and `all_are`, so that one function for both would be no plainer.)
 pub(crate) fn row_from(a: &Algebra, m: &Models, joins: &TableCodes, q1: State, out: &mut [u64])
     requires { (q1.0 < get_or m.now.first.bytes.now 0 0) × (length out.old ≡ get_or m.now.second.bytes.now 0 0) }
     ensures { Filled (entry_code a.now.codes.now.words (code_in a.now.codes.now.words a.now.lattice.top.0) m.now.first.bytes.now m.now.second.bytes.now (by_row joins.now) q1.0)

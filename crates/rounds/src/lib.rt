@@ -1,6 +1,7 @@
 // The simulation operator on tables that are held as bytes: a row, a round, whether a table is at or below F of it, and score; in how many entries two tables
 // differ. All but the last is worked on the codes of elements (crate `elements`), and an entry that is written is turned back into its element once. A row
 // alone is worked entry by entry (crate `entries`), a round by the inner joins that its rows share.
+// (`State(q as u8)`: the number of a state of 64 at most counts rows and places too, which are usize, so that either type is turned into the other.)
 //   columns: the codes of all rows of a round
 #![tactic(auto)]
 
@@ -21,7 +22,8 @@ use model::{Model, State};
 
 // ---- a row and a round
 
-// Writes into `out` what `f` makes of each place and of the byte of s there; says whether any differs from that byte.
+// Writes into `out` what `f` makes of each place and of the byte of s there; says whether any differs from that byte. (By an index, as
+// `replace` of columns.)
 fn write_row<F: Fn(usize, u8) -> u8>(s: &[u8], out: &mut [u8], f: F) -> bool
     requires callable { (q x : ℕ) → q < length s.now → F.pre f q x }
     requires same { length out.old ≡ length s.now }
@@ -47,6 +49,7 @@ fn write_codes(a: &Algebra, codes: &[u64], s: &[u8], out: &mut [u8]) -> bool
 }
 
 // Row q1 of F of a table, entry by entry, with room for N codes of the table; says whether any entry differs from that of the table.
+// (That there is room in `out` and that q1 is a row are clauses: a type that held the table, `out` and q1 would be no plainer.)
 fn work_row<const N: usize>(a: &Algebra, t: &Table, out: &mut [u8], q1: State) -> bool
     requires { Room t.now.models.first.bytes.now t.now.models.second.bytes.now out.old × (q1.0 < get_or t.now.models.first.bytes.now 0 0)
         × (get_or t.now.models.first.bytes.now 0 0 * 64 ≤ N) × (N ≤ 4096) }
@@ -87,6 +90,7 @@ pub fn row(a: &Algebra, t: &Table, out: &mut [u8], q1: State) -> bool
 }
 
 // Works F of a table into the first N1·N2 bytes of `other`, and keeps its other bytes; says whether any entry differs from that of the table.
+// (Rows by places: of what a loop over `chunks_exact_mut` writes a proof knows the length alone.)
 pub fn round(a: &Algebra, t: &Table, other: &mut [u8]) -> bool
     requires { Room t.now.models.first.bytes.now t.now.models.second.bytes.now other.old }
     ensures { RoundIn a.now.codes.now.words a.now.lattice t.now.models.first.bytes.now t.now.models.second.bytes.now t.now.bytes.now other.old other.new result }
@@ -118,7 +122,7 @@ fn inner_joins(a: &Algebra, t: &Table, joins: &mut TableCodes)
 // ---- the test against F
 
 // Whether each entry of a table is at or below that of F of it: row by row, up to the first entry that is not. No code is turned back into an
-// element.
+// element. (It begins as `round`, but writes nothing and ends early: one loop for both, with a closure for what is done with a row, would be no plainer.)
 pub fn is_post_fixed(a: &Algebra, t: &Table) -> bool
     ensures { result ≡ post_fixed_in a.now.codes.now.words a.now.lattice t.now.models.first.bytes.now t.now.models.second.bytes.now t.now.bytes.now }
 {
@@ -138,7 +142,7 @@ pub fn is_post_fixed(a: &Algebra, t: &Table) -> bool
 
 // ---- lowerings
 
-// In how many entries two tables with n1 rows of n2 entries differ. A loop by places compares many bytes at once; a chain over `zip` is not compiled so, and
+// In how many entries two tables with n1 rows of n2 entries differ, by both numbers as `bytes_differing` of specs/Table. A loop by places compares many bytes at once; a chain over `zip` is not compiled so, and
 // takes ten times as long.
 pub fn differing(a: &[u8], b: &[u8], n1: usize, n2: usize) -> u32
     requires { (n1 * n2 ≤ 4096) × (n1 * n2 ≤ length a.now) × (n1 * n2 ≤ length b.now) }
