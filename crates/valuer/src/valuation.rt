@@ -66,8 +66,9 @@ impl<'a> Valuation<'a> {
         here
     }
 
-    // The second formula of or or and (`or` says which, as in the definition Both), at place `at`: its map is combined with that of the first, which is in `out`. The array that this takes
-    // stands here and is not inlined, so that other nodes have none: in the frame of `node` it would be one more for each level of nesting.
+    // The second formula of or or and (`or` says which, as in the definition Both), at place `at`: its map is combined with that of the first, which
+    // is in `out`. The array that this takes stands here and is not inlined, so that other nodes have none: in the frame of `node` it would be one
+    // more for each level of nesting.
     #[inline(never)]
     #[cycle(iterate_node_second)]
     fn second(

@@ -116,9 +116,9 @@ fn list_row(w: &Codes, top: u64, m: &Model, q: State, row: &mut [u8])
     ensures { RowListed (leads_to w.now.words top m.now.bytes.now q.0) (get_or m.now.bytes.now 0 0) 0 row.new }
 {
     let mut count = 0;
-    for r in 0..m.states() {
-        row[1 + count] = r as u8;
-        count += usize::from(leads(w, top, m.transition(q, State(r as u8))));
+    for r in 0..m.bytes[0] {
+        row[1 + count] = r;
+        count += usize::from(leads(w, top, m.transition(q, State(r))));
     }
     row[0] = count as u8;
 }
