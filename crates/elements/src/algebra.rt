@@ -22,11 +22,9 @@ impl<'a> Algebra<'a> {
         if guess.0 < self.lattice.size && self.codes.code(guess) == x {
             return guess;
         }
-        for a in 0..64usize {
-            if self.codes.words[a] == x {
-                return Element(a as u8);
-            }
+        match self.codes.words[..64].iter().position(|y| *y == x) {
+            Some(a) => Element(a as u8),
+            None => Element(64),
         }
-        Element(64)
     }
 }

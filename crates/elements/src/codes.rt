@@ -69,6 +69,7 @@ impl Codes {
         requires { length s.now ≤ length out.old }
         ensures { out.new ≡ written 0 (tab (λ i. code_in self.now.words (get_or s.now i 0)) (length s.now) 0) out.old }
     {
+        // An index into `out`: a loop over a zipped `iter_mut` leaves nothing known of what it writes.
         for (i, &a) in s.iter().enumerate() {
             out[i] = self.code(Element(a));
         }

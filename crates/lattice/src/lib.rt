@@ -82,21 +82,13 @@ pub fn check(part: &[u8], w: &mut Codes) -> Result<Lattice, Refusal>
     let down = &mut down[..n];
     part.fill_order(down);
     let mut places = [255u8; 256];
-    places::fill(down, &mut places);
-    let order = Words {
-        words: down,
-        places: &places,
-    };
+    let order = Words::new(down, &mut places);
     let mask = order.irreducibles();
     let mut codes = [0u64; 64];
     let codes = &mut codes[..n];
     order.fill_codes(mask, codes);
     let mut found = [255u8; 256];
-    places::fill(codes, &mut found);
-    let codes = Words {
-        words: codes,
-        places: &found,
-    };
+    let codes = Words::new(codes, &mut found);
     if !is_lattice(order, codes, mask) {
         return Err(reason(order));
     }

@@ -8,7 +8,7 @@ fn add_row(row: &[u8], i: usize, down: &mut [u64])
     requires { (length row.now ≡ length down.old) × (i < 64) }
     ensures { Rowed row.now 0 i (length down.old) down.old down.new }
 {
-    // An index into `down`: a loop over a zipped `iter_mut` was tried, and leaves nothing known of what it writes.
+    // An index into `down`: a loop over a zipped `iter_mut` leaves nothing known of what it writes.
     for (j, b) in row.iter().enumerate() {
         down[j] |= u64::from(*b) << i;
     }
@@ -21,6 +21,7 @@ pub(crate) fn fill(s: &[u8], down: &mut [u64])
 {
     let n = down.len();
     down.fill(0);
+    // Not by `chunks_exact`, which may not be asked for rows of no bytes, and s may be longer than n rows.
     for i in 0..n {
         add_row(&s[i * n..i * n + n], i, down);
     }

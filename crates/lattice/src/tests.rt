@@ -5,6 +5,8 @@ ghost use Rattle.theory.specs.Test.{all_below};
 ghost use Rattle.elements.specs.Words.{within};
 ghost use Rattle.lattice_codes.specs.Tests.{FoundAt, words_in, both, is_word, pair_ordered, ordered, pair_closed, closed, irreducible, irreducibles, all_of, codes_by, ordered_by};
 
+use crate::places;
+
 // The words of at most 64 elements, and the table of where each may stand.
 #[derive(Clone, Copy)]
 pub(crate) struct Words<'a> {
@@ -33,7 +35,7 @@ fn pair_ordered(x: u64, y: u64, z: u64, a: usize, b: usize) -> bool
     p == q && (y != z || a == b)
 }
 
-// The word with the bits of all n elements.
+// The word with the bits of all n elements. (A fold of the numbers would say the same in the same words, and `irreducibles` below likewise.)
 pub(crate) fn all_of(n: usize) -> u64
     requires { n ≤ 64 }
     ensures { result ≡ all_of n }
@@ -43,6 +45,17 @@ pub(crate) fn all_of(n: usize) -> u64
         x |= 1 << a;
     }
     x
+}
+
+impl<'a> Words<'a> {
+    // The words, with the table filled from them.
+    pub(crate) fn new(words: &'a [u64], places: &'a mut [u8; 256]) -> Words<'a>
+        requires { length words.now ≤ 64 }
+        ensures { result.words.now ≡ words.now }
+    {
+        places::fill(words, places);
+        Words { words, places }
+    }
 }
 
 impl Words<'_> {
@@ -139,6 +152,7 @@ impl Words<'_> {
         requires { length codes.old ≡ length self.words.now }
         ensures { Filled (codes_by self.entry.words.now mask) (length codes.new) codes.new }
     {
+        // An index into `codes`: a loop over a zipped `iter_mut` leaves nothing known of what it writes.
         for (a, x) in self.words.iter().enumerate() {
             codes[a] = *x & mask;
         }
