@@ -38,7 +38,7 @@ pub fn facts(rt: &impl Print, facts: FormulaFacts) -> io::Result<()> {
 
 // ---- reading
 
-// The byte at a place of a part, or 0 past its end.
+// The byte at a place of a part, or 0 past its end: a byte that a line of a test leaves out is 0, so that no caller would look at an `Option`.
 pub fn at(part: &[u8], i: usize) -> u8 {
     part.get(i).copied().unwrap_or(0)
 }
