@@ -44,7 +44,8 @@ fn valued<'a>(a: &Algebra<'a>, m: &Model<'a>, f: &'a [u8]) -> [u64; 64]
 }
 
 // The value at one state. That the model is over the lattice, and that the part is read as a formula, are clauses: callers have these facts at hand, and
-// the second may hold in more than one way, which a ghost field does not take.
+// the second may hold in more than one way, which a ghost field does not take. That q is one of the states is a clause too: a State does not hold its
+// model.
 pub fn value(a: &Algebra, m: &Model, f: &[u8], q: State) -> Element
     requires { ModelOver a.now.codes.now.words a.now.lattice m.now.bytes.now × Reads m.now.bytes.now f.now × (q.0 < get_or m.now.bytes.now 0 0) }
     ensures { ValueAt a.now.codes.now.words a.now.lattice m.now.bytes.now f.now q.0 result.0 }

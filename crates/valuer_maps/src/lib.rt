@@ -1,5 +1,6 @@
 // The maps of single nodes of a formula. A map from states to elements is 64 words, of which the first N count: the codes of its values
-// (elements). w and l are a lattice's codes and numbers, m is a model. A map is written into the lent array `out`.
+// (elements). w and l are a lattice's codes and numbers, apart, since an Algebra would ask that the codes are a lattice's; m is a model. A map is
+// written into the lent array `out`.
 // `out` is a slice with a clause of its length (map_words, list_bytes): an array's type would refuse callers that lend a slice of that length.
 // A state's number is a usize here, since maps are indexed by it; with a u8 range each index would need a conversion in place of `State(q as u8)`.
 //   successors: the states that AX and EX look at

@@ -123,7 +123,8 @@ fn list_row(w: &Codes, top: u64, m: &Model, q: State, row: &mut [u8])
     row[0] = count as u8;
 }
 
-// The successors of every state.
+// The successors of every state. (By places, as SuccessorsOf says where a row stands: an iterator over chunks of 65 bytes would still be cut off after
+// the states, and counted.)
 pub fn list_successors(w: &Codes, l: Lattice, m: &Model, out: &mut [u8])
     requires { length out.old ≡ list_bytes }
     ensures { SuccessorsOf w.now.words l m.now.bytes.now out.new }
