@@ -24,7 +24,8 @@ fn meet_equivalent(w: &Codes, a: Element, m2: &Model, p: Proposition, out: &mut 
     }
 }
 
-// The codes of the meet over all propositions of p1 ↔ p2, for each q2; `top` is the code of the top.
+// The codes of the meet over all propositions of p1 ↔ p2, for each q2; `top` is the code of the top. (Codes and a word, and no Algebra: nothing is asked
+// of them.)
 pub fn propositions(w: &Codes, top: u64, m: &Models, q1: State, out: &mut [u64])
     requires { (q1.0 < get_or m.now.first.bytes.now 0 0) × (get_or m.now.second.bytes.now 0 0 ≤ length out.old) }
     ensures { Filled (propositions_code w.now.words top m.now.first.bytes.now m.now.second.bytes.now q1.0) (get_or m.now.second.bytes.now 0 0) out.new }

@@ -55,7 +55,7 @@ fn encode_rows(w: &Codes, t: &Table, out: &mut [u64])
 }
 
 // What the entries of row q1 of F of a table have in common: what the propositions give for each of them, the complements of the transitions that leave q1,
-// and the table, all in codes.
+// and the table, all in codes. (Codes and a lattice, and no Algebra: that they belong together is not asked.)
 pub fn prepare(
     w: &Codes,
     l: Lattice,

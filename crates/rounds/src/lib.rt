@@ -1,7 +1,7 @@
 // The simulation operator on tables that are held as bytes: a row, a round, whether a table is at or below F of it, and score; in how many entries two tables
 // differ. All but the last is worked on the codes of elements (crate `elements`), and an entry that is written is turned back into its element once. A row
 // alone is worked entry by entry (crate `entries`), a round by the inner joins that its rows share.
-// (`State(q as u8)`: the number of a state of 64 at most counts rows and places too, which are usize, so that either type is turned into the other.)
+// Loops go by the numbers of states, which are places in rows too: they are usize, and `State(q as u8)` is the state of a number.
 //   columns: the codes of all rows of a round
 #![tactic(auto)]
 
@@ -142,7 +142,8 @@ pub fn is_post_fixed(a: &Algebra, t: &Table) -> bool
 
 // ---- lowerings
 
-// In how many entries two tables with n1 rows of n2 entries differ, by both numbers as `bytes_differing` of specs/Table. A loop by places compares many bytes at once; a chain over `zip` is not compiled so, and
+// In how many entries two tables with n1 rows of n2 entries differ, by both numbers as `bytes_differing` of specs/Table. (The count fits a u32; there is
+// no `From` for it, and `try_from` would leave an error to answer.) A loop by places compares many bytes at once; a chain over `zip` is not compiled so, and
 // takes ten times as long.
 pub fn differing(a: &[u8], b: &[u8], n1: usize, n2: usize) -> u32
     requires { (n1 * n2 ≤ 4096) × (n1 * n2 ≤ length a.now) × (n1 * n2 ≤ length b.now) }
