@@ -54,7 +54,7 @@ pub fn table_size(z: Sizes) -> usize
     usize::from(z.states1) * usize::from(z.states2)
 }
 
-// The first `count` bytes of a table are below n.
+// The first `count` bytes of a table are below n: the definition `table_obeys count n table`, which takes the table whole.
 pub fn table_obeys(table: &[u8], count: usize, n: u8) -> bool
     requires { count ≤ length table.now }
     ensures { result ≡ table_obeys count n table.now }

@@ -1,10 +1,12 @@
 // The call that works the rows of the round that are left.
-ghost use Rattle.std.specs.Prelude.{◌*◌, ◌≤◌, ◌<◌, length, get_or};
+ghost use Rattle.std.specs.Prelude.{◌≡◌, ◌*◌, ◌≤◌, ◌<◌, length, get_or};
 ghost use Rattle.rounds.specs.Table.{Room};
 ghost use Rattle.rounds.specs.Rest.{RestIn};
 ghost use Rattle.desk.specs.RoundLeft.{Finishes};
-ghost use Rattle.desk_check.specs.Read.{desk_of};
+ghost use Rattle.desk_check.specs.Read.{standing_of, desk_of};
 ghost use Rattle.desk_moves.specs.Answer.{step_reply};
+ghost use Rattle.desk_moves.specs.Stepped.{Movable};
+ghost use Rattle.desk_moves.specs.Finished.{round_by};
 
 use crate::Stepped;
 use crate::stepping::{answered, next_round};
@@ -46,6 +48,15 @@ fn work_rest(a: &Algebra, models: Models, whole: &[u8], other: &mut [u8], from: 
     }
 }
 
+// The standing after the last row, where the rows that were left differed, or did not, and stand in the other table.
+fn round_done(s: Standing, differs: bool, whole: &[u8], other: &[u8]) -> Standing
+    requires { Movable (standing_of s) whole.now other.now }
+    ensures { standing_of result ≡ round_by differs whole.now other.now (standing_of s) }
+{
+    let changed = s.changed | differs;
+    next_round(s, changed, whole, other)
+}
+
 // Works the rows of the round that are left, as so many steps do; a refused desk and a settled one are answered as by one step.
 pub fn finish_round(s: Standing, store: &[u8], first: &mut [u8], second: &mut [u8]) -> Stepped
     ensures { Finishes (desk_of s store.now first.old second.old)
@@ -75,10 +86,10 @@ pub fn finish_round(s: Standing, store: &[u8], first: &mut [u8], second: &mut [u
             // Two branches, as in step.
             if s.second_whole {
                 let differs = work_rest(&algebra, models, second, first, State(s.row));
-                return answered(next_round(s, s.changed | differs, second, first));
+                return answered(round_done(s, differs, second, first));
             }
             let differs = work_rest(&algebra, models, first, second, State(s.row));
-            answered(next_round(s, s.changed | differs, first, second))
+            answered(round_done(s, differs, first, second))
         }
     }
 }

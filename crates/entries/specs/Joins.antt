@@ -10,8 +10,8 @@
 --   joined-top, joined-all: a join that ended at the top, and one that did not
 --   MayEnd, never_top, open_all: a join that cannot be top
 use Prim.Native.Nat.{ℕ, zero, suc, ◌+◌, ◌-◌, ◌≤◌, ◌<◌}
-use Rattle.std.specs.Prelude.{◌≡◌, refl, Bool, true, false, not, ◌⊎◌, List, [], ◌∷◌, ltb, eqb, length, get_or, take, drop, set}
-use Rattle.std.proofs.Common.{sym, ap₂, ◌∙◌, inl, inr, ⊎_elim, add-zero, add-suc, le_refl, zero-add, not-suc-le-zero, add-one, arith, ltb-true, ltb-false, eq-eqb, ne_eqb, eqb-true, get_or-set_same, get_or-set_other, get_or-take, get_or-drop, length-take-le, length-drop}
+use Rattle.std.specs.Prelude.{◌≡◌, refl, Bool, true, false, not, ◌⊎◌, List, Option, Some, None, ltb, eqb, length, get_or, take, drop, set}
+use Rattle.std.proofs.Common.{sym, ap₂, ◌∙◌, inl, inr, ⊎_elim, add-zero, add-suc, le_refl, zero-add, not-suc-le-zero, add-one, arith, ltb-true, ltb-false, eq-eqb, ne_eqb, eqb-true, get_or-set_same, get_or-set_other, get_or-take, length-take-le, length-drop}
 use Rattle.std.proofs.Math.Path.{ap}
 use Rattle.std.proofs.lemmas.Bool.{not-false}
 use Rattle.std.specs.Int.Bits.{bit_and, bit_or, or_comm}
@@ -235,12 +235,11 @@ module _ (top : ℕ) (row table : List ℕ) (at : ℕ) where
     pub reached : J k ≡ top
     pub not_before : (j : ℕ) → j < k → J j ≡ top → ⊥
 
-  -- the join before the block at i is not top, and that with it is; at 64, it never is
-  pub record BeforeTop (code i : ℕ) : Type 0 where
-    pub code_is : code ≡ J i
+  -- the join before the block at i is not top, and that with it is; of no block, it never is
+  pub record BeforeTop (code : ℕ) (block : Option ℕ) : Type 0 where
     pub not_top : code ≡ top → ⊥
-    pub fits : (i ≡ 64 → ⊥) → i + 16 ≤ 64
-    pub reached : (i ≡ 64 → ⊥) → J (i + 16) ≡ top
+    pub found : (i : ℕ) → block ≡ Some i → (code ≡ J i) × (i + 16 ≤ 64) × (J (i + 16) ≡ top)
+    pub none : block ≡ None → code ≡ J 64
 
   -- the join before word k is not top, and that with it is
   pub first_top : WithinTop top 64 row → {k : ℕ} → k < 64 → (J k ≡ top → ⊥) → J (k + 1) ≡ top → FirstTop (k + 1)

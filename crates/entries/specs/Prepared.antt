@@ -2,7 +2,7 @@
 --   StateMet, state_joined, state_passed: what one state of model 1 gives
 --   meet_code, open_pair, MetSoFar: the meet over states of model 1 and the pairs that it looks at, from the words of a row; met_none, met_more,
 --     met_stop, met_all: its begin and turn, where it is bottom, and its end; met_within: within the top's; top_some: where a meet is not 0, the top's word is not
---   Prepared: what a row's entries have in common; row_gap, row_within_lem: the transitions of model 2; entry_met, entry_bottom: an entry from it
+--   Prepared: what a row's entries have in common; prepared_front: so with the first of its complements alone; row_gap, row_within_lem: the transitions of model 2; entry_met, entry_bottom: an entry from it
 use Rattle.std.specs.Prelude.{ℕ, ◌+◌, ◌*◌, ◌≤◌, ◌<◌, ◌≡◌, refl, Bool, true, ◌&&◌, List, length, get_or, take, drop, replicate}
 use Rattle.std.proofs.Math.Path.{sym, ap, ap₂}
 use Rattle.std.proofs.Common.{◌∙◌, ⊎_elim, add-one, zero-add, arith}
@@ -13,6 +13,7 @@ use Rattle.std.specs.Int.Bits.{bit_and, bit_or}
 use Rattle.std.proofs.lemmas.Nat.{and_comm}
 use Rattle.std.proofs.Math.Dec.{eqb}
 use Rattle.std.proofs.lemmas.List.{length-replicate, get_or-replicate}
+use Rattle.std.proofs.Common.{get_or-take}
 use Rattle.theory.specs.Lists.{Filled, tab, written}
 use Rattle.theory.specs.Loop.{fold, fold_cong, count_cong, tab_at, tab-length}
 use Rattle.theory.specs.Simulation.{count}
@@ -116,6 +117,16 @@ pub record Prepared (w : List ℕ) (l : Lattice) (m₁ m₂ s : List ℕ) (q₁ 
   pub left_is : Filled (leaving_code true w m₁ q₁) (get_or m₁ 0 0) left
   pub table_is : Rows (table_code w s (get_or m₂ 0 0)) (get_or m₁ 0 0) (get_or m₂ 0 0) table
   pub room : get_or m₁ 0 0 * 64 ≤ length table
+
+-- the first N1 complements are as good as all
+pub prepared_front : {w : List ℕ} {l : Lattice} {m₁ m₂ s : List ℕ} {q₁ : ℕ} {alike left table : List ℕ} → Prepared w l m₁ m₂ s q₁ alike left table → Prepared w l m₁ m₂ s q₁ alike (take (get_or m₁ 0 0) left) table
+prepared_front {m₁ = m₁} {left = left} p =
+    record {
+      alike_are = p.alike_are;
+      left_is = record { at = λ i l. get_or-take (get_or m₁ 0 0) left i 0 l ∙ p.left_is.at i l };
+      table_is = p.table_is;
+      room = p.room;
+    }
 
 -- the words that were written into a row of zeros: past them all are 0, and all are within the top's
 pub row_gap : (f : ℕ → ℕ) (n : ℕ) {row : List ℕ} → row ≡ written 0 (tab f n 0) (replicate 64 0) → n ≤ 64 → Gap row n 64

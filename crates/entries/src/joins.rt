@@ -31,7 +31,7 @@ pub fn join_met(x: u64, row: &[u64], codes: &[u64]) -> u64
 }
 
 // Writes where the blocks of 16 words of `row` begin that are not all 0, and says how many there are. From place n on all words are 0. It goes by numbers,
-// since the places are what it lists.
+// since the places are what it lists. (An array and a count: a call allocates nothing.)
 pub(crate) fn list_blocks(row: &[u64; 64], n: usize, starts: &mut [usize; 4]) -> usize
     requires { Gap row.now n 64 }
     ensures { (result ≤ 4) × Listed row.now starts.new result 64 }
@@ -48,6 +48,7 @@ pub(crate) fn list_blocks(row: &[u64; 64], n: usize, starts: &mut [usize; 4]) ->
     count
 }
 
+// (64 words and a count of states: blocks of 16 are read whole, so that the zeros past the states count.)
 // The transitions that leave a state of model 2, in codes: those to its states, and 0 from there on; where the blocks of 16 of them begin that are not
 // all 0; and whether a join over them can be top.
 #[derive(Clone, Copy)]
@@ -83,11 +84,11 @@ fn end_in_block(x: u64, r: &Leaving, i: usize, codes: &[u64]) -> usize
 }
 
 // The join of the words of `row` that stand in the listed blocks, each met with the word of `codes` at its place: its code before the block
-// with which it is top, and where that block begins; 64 where it never is. The search for the last word stands outside this loop, so that the blocks are
-// joined two words at a time.
-fn before_top(r: &Leaving, codes: &[u64]) -> CodeAndPairs
+// with which it is top, and where that block begins, if it ever is. The search for the last word stands outside this loop, so that the blocks are
+// joined two words at a time. (That top is not 0 is no ghost field of `Leaving`: in a lattice of one element it is 0, and `meet` ends before any join.)
+fn before_top(r: &Leaving, codes: &[u64]) -> (u64, Option<usize>)
     requires { (64 ≤ length codes.now) × (r.now.top ≡ 0 → ⊥) }
-    ensures { BeforeTop r.now.top r.now.row.now codes.now 0 result.code result.pairs }
+    ensures { BeforeTop r.now.top r.now.row.now codes.now 0 result.0 result.1 }
 {
     let row = r.row;
     let mut x: u64 = 0;
@@ -95,11 +96,11 @@ fn before_top(r: &Leaving, codes: &[u64]) -> CodeAndPairs
         let i = *start;
         let y = join_met(x, &row[i..i + 16], &codes[i..i + 16]);
         if y == r.top {
-            return CodeAndPairs { code: x, pairs: i };
+            return (x, Some(i));
         }
         x = y;
     }
-    CodeAndPairs { code: x, pairs: 64 }
+    (x, None)
 }
 
 // The same join, and how many of the words it takes until it is top, as many as there are states where it never is.
@@ -107,15 +108,15 @@ pub(crate) fn join(r: &Leaving, codes: &[u64]) -> CodeAndPairs
     requires { (64 ≤ length codes.now) × (r.now.top ≡ 0 → ⊥) }
     ensures { Joined r.now.top r.now.row.now codes.now 0 r.now.states result.code result.pairs }
 {
-    let b = before_top(r, codes);
-    if b.pairs == 64 {
-        return CodeAndPairs {
-            code: b.code,
+    let (code, block) = before_top(r, codes);
+    match block {
+        None => CodeAndPairs {
+            code,
             pairs: r.states,
-        };
-    }
-    CodeAndPairs {
-        code: r.top,
-        pairs: end_in_block(b.code, r, b.pairs, codes),
+        },
+        Some(i) => CodeAndPairs {
+            code: r.top,
+            pairs: end_in_block(code, r, i, codes),
+        },
     }
 }

@@ -1,5 +1,5 @@
 // The propositions' part of a row's entries.
-ghost use Rattle.std.specs.Prelude.{◌≡◌, ◌<◌, length, get_or};
+ghost use Rattle.std.specs.Prelude.{◌≡◌, ◌≤◌, ◌<◌, length, get_or};
 ghost use Rattle.std.specs.Int.Bits.{bit_and};
 ghost use Rattle.theory.specs.Part.{model_of};
 ghost use Rattle.theory.specs.Lists.{Filled};
@@ -24,14 +24,16 @@ fn meet_equivalent(w: &Codes, a: Element, m2: &Model, p: Proposition, out: &mut 
     }
 }
 
-// The codes of the meet over all propositions of p1 ↔ p2, for each q2; `top` is the code of the top.
+// The codes of the meet over all propositions of p1 ↔ p2, for each q2; `top` is the code of the top. (Codes and a word, and no Algebra: nothing is asked
+// of them.)
 pub fn propositions(w: &Codes, top: u64, m: &Models, q1: State, out: &mut [u64])
-    requires { (q1.0 < get_or m.now.first.bytes.now 0 0) × (length out.old ≡ get_or m.now.second.bytes.now 0 0) }
+    requires { (q1.0 < get_or m.now.first.bytes.now 0 0) × (get_or m.now.second.bytes.now 0 0 ≤ length out.old) }
     ensures { Filled (propositions_code w.now.words top m.now.first.bytes.now m.now.second.bytes.now q1.0) (get_or m.now.second.bytes.now 0 0) out.new }
 {
-    out.fill(top);
+    let row = &mut out[..m.second.states()];
+    row.fill(top);
     for p in 0..m.first.propositions() {
         let p = Proposition(p as u8);
-        meet_equivalent(w, m.first.label(q1, p), &m.second, p, out);
+        meet_equivalent(w, m.first.label(q1, p), &m.second, p, row);
     }
 }

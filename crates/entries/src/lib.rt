@@ -43,7 +43,7 @@ pub(crate) struct CodeAndPairs {
 
 // ---- what a row's entries have in common
 
-// The codes of a table's entries, 64 to a row.
+// The codes of a table's entries, 64 to a row. (By places: of what a loop over `chunks_exact_mut` writes a proof knows the length alone.)
 fn encode_rows(w: &Codes, t: &Table, out: &mut [u64])
     requires { get_or t.now.models.first.bytes.now 0 0 * 64 ≤ length out.old }
     ensures { Rows (table_code w.now.words t.now.bytes.now (get_or t.now.models.second.bytes.now 0 0)) (get_or t.now.models.first.bytes.now 0 0) (get_or t.now.models.second.bytes.now 0 0) out.new }
@@ -55,7 +55,7 @@ fn encode_rows(w: &Codes, t: &Table, out: &mut [u64])
 }
 
 // What the entries of row q1 of F of a table have in common: what the propositions give for each of them, the complements of the transitions that leave q1,
-// and the table, all in codes.
+// and the table, all in codes. (Codes and a lattice, and no Algebra: that they belong together is not asked.)
 pub fn prepare(
     w: &Codes,
     l: Lattice,
@@ -65,8 +65,8 @@ pub fn prepare(
     left: &mut [u64],
     codes: &mut [u64],
 )
-    requires { (q1.0 < get_or t.now.models.first.bytes.now 0 0) × (length alike.old ≡ get_or t.now.models.second.bytes.now 0 0)
-        × (length left.old ≡ get_or t.now.models.first.bytes.now 0 0) × (get_or t.now.models.first.bytes.now 0 0 * 64 ≤ length codes.old) }
+    requires { (q1.0 < get_or t.now.models.first.bytes.now 0 0) × (get_or t.now.models.second.bytes.now 0 0 ≤ length alike.old)
+        × (get_or t.now.models.first.bytes.now 0 0 ≤ length left.old) × (get_or t.now.models.first.bytes.now 0 0 * 64 ≤ length codes.old) }
     ensures { Prepared w.now.words l t.now.models.first.bytes.now t.now.models.second.bytes.now t.now.bytes.now q1.0 alike.new left.new codes.new }
 {
     propositions(w, w.code(l.top), &t.models, q1, alike);
@@ -140,7 +140,8 @@ fn work_entry(r: &Row, q2: State) -> Entry
         starts: &starts[..blocks],
         ends: join_words(&row) == top,
     };
-    let m = meet(r.alike[usize::from(q2.0)], r.left, &leaving, r.codes);
+    let n1 = r.table.models.first.states();
+    let m = meet(r.alike[usize::from(q2.0)], &r.left[..n1], &leaving, r.codes);
     Entry {
         value: algebra.decode(m.code, r.table.entry(r.q1, q2)),
         pairs: m.pairs,
@@ -162,32 +163,23 @@ pub fn entry_from(r: &Row, q2: State) -> Entry
     work_entry(r, q2)
 }
 
-// Entry (q1, q2) of F of a table alone.
+// Entry (q1, q2) of F of a table alone. (The arrays stand here, and again in a row of crate `rounds`, since a Row borrows them and so cannot be given out
+// of the frame that makes it.)
 pub fn entry_of(a: &Algebra, t: &Table, q1: State, q2: State) -> Entry
     requires { (q1.0 < get_or t.now.models.first.bytes.now 0 0) × (q2.0 < get_or t.now.models.second.bytes.now 0 0) }
     ensures { EntryIs a.now.codes.now.words a.now.lattice t.now.models.first.bytes.now t.now.models.second.bytes.now t.now.bytes.now
         q1.0 q2.0 result.value.0 result.pairs }
 {
-    let n1 = t.models.first.states();
-    let n2 = t.models.second.states();
     let mut alike = [0u64; 64];
     let mut left = [0u64; 64];
     let mut codes = [0u64; 4096];
-    prepare(
-        a.codes,
-        a.lattice,
-        t,
-        q1,
-        &mut alike[..n2],
-        &mut left[..n1],
-        &mut codes,
-    );
+    prepare(a.codes, a.lattice, t, q1, &mut alike, &mut left, &mut codes);
     let r = Row {
         algebra: *a,
         table: *t,
         q1,
-        alike: &alike[..n2],
-        left: &left[..n1],
+        alike: &alike,
+        left: &left,
         codes: &codes,
     };
     work_entry(&r, q2)

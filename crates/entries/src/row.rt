@@ -1,5 +1,5 @@
 // What the entries of a row of F have in common.
-ghost use Rattle.std.specs.Prelude.{◌≡◌, ◌<◌, ◌≤◌, length, get_or};
+ghost use Rattle.std.specs.Prelude.{◌<◌, ◌≤◌, length, get_or};
 ghost use Rattle.entries.specs.Prepared.{Prepared};
 
 use crate::Table;
@@ -17,6 +17,6 @@ pub struct Row<'a> {
     pub codes: &'a [u64],
     pub ghost here: { q1.0 < get_or table.models.first.bytes.now 0 0 },
     pub ghost prepared: { Prepared algebra.codes.now.words algebra.lattice table.models.first.bytes.now table.models.second.bytes.now table.bytes.now q1.0 alike.now left.now codes.now },
-    pub ghost for_each: { length alike.now ≡ get_or table.models.second.bytes.now 0 0 },
-    pub ghost to_each: { length left.now ≡ get_or table.models.first.bytes.now 0 0 },
+    pub ghost for_each: { get_or table.models.second.bytes.now 0 0 ≤ length alike.now },
+    pub ghost to_each: { get_or table.models.first.bytes.now 0 0 ≤ length left.now },
 }

@@ -1,4 +1,5 @@
-// Two models over the same propositions, and tables for their states.
+// Two models over the same propositions, and tables for their states. (That a state is one of its model's is a clause wherever it is asked: a state with its
+// model inside would be no plainer.)
 ghost use Rattle.std.specs.Prelude.{◌≡◌, ◌+◌, ◌*◌, ◌≤◌, ◌<◌, length, get_or, take, drop};
 ghost use Rattle.entries.specs.Table.{table_of};
 

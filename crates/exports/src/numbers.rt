@@ -1,5 +1,5 @@
 // The calls' answers as numbers.
-ghost use Rattle.std.specs.Prelude.{◌≡◌};
+ghost use Rattle.std.specs.Prelude.{◌≡◌, IfOk, IfErr};
 ghost use Rattle.desk.specs.Refused.{number_reply};
 ghost use Rattle.desk_moves.specs.Answer.{step_reply, open_reply};
 ghost use Rattle.desk_questions.specs.Answer.{element_reply, value_reply, share_reply, judge_reply, length_reply};
@@ -33,59 +33,67 @@ fn refused(f: Refusal) -> Answer
     }
 }
 
-pub fn opened(a: Result<(), Refusal>) -> Answer
-    ensures { result ≡ numbers (open_reply a) }
+// A call's answer: the refusal's numbers, or those that `given` makes of what the call gives.
+fn answer<T, F: FnOnce(T) -> Answer>(a: Result<T, Refusal>, given: F) -> Answer
+    requires { F.IsAlwaysCallable given }
+    ensures ok { IfOk a (λ x. F.post given x result) }
+    ensures err { IfErr a (λ f. result ≡ numbers (number_reply f)) }
 {
     match a {
         Err(f) => refused(f),
-        Ok(()) => Answer { kind: 1, ..UNUSED },
+        Ok(x) => given(x),
     }
+}
+
+pub fn opened(a: Result<(), Refusal>) -> Answer
+    ensures { result ≡ numbers (open_reply a) }
+{
+    answer(a, |()| Answer { kind: 1, ..UNUSED })
 }
 
 pub fn stepped(a: Result<Progress, Refusal>) -> Answer
     ensures { result ≡ numbers (step_reply a) }
 {
-    match a {
-        Err(f) => refused(f),
-        Ok(Progress::Row(n)) => Answer {
+    answer(a, |p| match p {
+        Progress::Row(n) => Answer {
             kind: 2,
             second: n,
             ..UNUSED
         },
-        Ok(Progress::Round(r, n)) => Answer {
+        Progress::Round(r, n) => Answer {
             kind: 3,
             value: r,
             second: n,
             ..UNUSED
         },
-        Ok(Progress::Settled(t, n)) => Answer {
+        Progress::Settled(t, n) => Answer {
             kind: 4,
             value: t,
             second: n,
             ..UNUSED
         },
-    }
+    })
 }
 
 pub fn element(a: Result<Element, Refusal>) -> Answer
     ensures { result ≡ numbers (element_reply a) }
 {
-    match a {
-        Err(f) => refused(f),
-        Ok(e) => Answer {
+    answer(
+        a,
+        |e| Answer {
             kind: 5,
             value: u32::from(e.0),
             ..UNUSED
         },
-    }
+    )
 }
 
 pub fn formula_value(a: Result<Valued, Refusal>) -> Answer
     ensures { result ≡ numbers (value_reply a) }
 {
-    match a {
-        Err(f) => refused(f),
-        Ok(v) => Answer {
+    answer(
+        a,
+        |v| Answer {
             kind: 9,
             byte: v.facts.nesting,
             value: u32::from(v.value.0),
@@ -93,44 +101,44 @@ pub fn formula_value(a: Result<Valued, Refusal>) -> Answer
             flag2: v.facts.ex,
             ..UNUSED
         },
-    }
+    )
 }
 
 pub fn per_cent(a: Result<u8, Refusal>) -> Answer
     ensures { result ≡ numbers (share_reply a) }
 {
-    match a {
-        Err(f) => refused(f),
-        Ok(p) => Answer {
+    answer(
+        a,
+        |p| Answer {
             kind: 6,
             value: u32::from(p),
             ..UNUSED
         },
-    }
+    )
 }
 
 pub fn judged(a: Result<bool, Refusal>) -> Answer
     ensures { result ≡ numbers (judge_reply a) }
 {
-    match a {
-        Err(f) => refused(f),
-        Ok(yes) => Answer {
+    answer(
+        a,
+        |yes| Answer {
             kind: 7,
             value: u32::from(yes),
             ..UNUSED
         },
-    }
+    )
 }
 
 pub fn length(a: Result<u32, Refusal>) -> Answer
     ensures { result ≡ numbers (length_reply a) }
 {
-    match a {
-        Err(f) => refused(f),
-        Ok(n) => Answer {
+    answer(
+        a,
+        |n| Answer {
             kind: 10,
             value: n,
             ..UNUSED
         },
-    }
+    )
 }

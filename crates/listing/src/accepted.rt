@@ -33,7 +33,7 @@ impl<'a> Accepted<'a> {
         }
     }
 
-    // Model m, 1 or 2.
+    // Model m, 1 or 2: a number, since `InCase` and the desk's `is_model` of specs say by number which model it is.
     fn model(&self, m: u8) -> Model<'a>
         requires { is_model m ≡ true }
         ensures { result.bytes.now ≡ part_at self.now.bytes.now m }

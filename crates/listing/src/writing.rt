@@ -30,7 +30,7 @@ impl Text<'_> {
         self.at = end;
     }
 
-    // A number's decimal digits.
+    // A number's decimal digits, as `decimal` of specs/Text has them: the bytes are lent, and nothing is allocated for a text of std's.
     fn put_number(&mut self, n: usize)
         requires { Room self.old (decimal n) }
         ensures { Puts self.old (decimal n) self.new }

@@ -2,14 +2,14 @@
 // that is bottom is passed over: it adds nothing to a join, and takes nothing from a meet. The joins of a row of words end once all of them are
 // top, and the meets once all are bottom.
 ghost use Rattle.std.specs.Prelude.{◌≡◌, ℕ, ◌*◌, ◌≤◌, ◌<◌, true, length, get_or};
+ghost use Rattle.elements.specs.Words.{code_in};
 ghost use Rattle.theory.specs.Lists.{Filled};
 ghost use Rattle.entries.specs.Words.{Rows, Replaced};
 ghost use Rattle.entries.specs.Codes.{table_code, inner_code, entry_code};
-ghost use Rattle.rounds.specs.Rows.{table_words, Spread};
+ghost use Rattle.rounds.specs.Rows.{Spread};
 ghost use Rattle.rounds.specs.Codes.{by_row, by_column};
-ghost use Rattle.rounds.specs.Early.{TopOf};
 
-use elements::Codes;
+use elements::{Algebra, Codes};
 use entries::{Models, Table};
 use model::{Model, State};
 
@@ -17,8 +17,8 @@ use model::{Model, State};
 pub(crate) type TableCodes = [u64; 4096];
 
 // Writes the words of `row` into a column of `out`, which has 64 words to a row.
-fn spread(row: &[u64], out: &mut [u64], column: usize)
-    requires { (length row.now ≤ 64) × (column < 64) × (length out.old ≡ table_words) }
+fn spread(row: &[u64], out: &mut TableCodes, column: usize)
+    requires { (length row.now ≤ 64) × (column < 64) }
     ensures { Spread (λ i. get_or row.now i 0) (length row.now) column out.old out.new }
 {
     for (i, x) in row.iter().enumerate() {
@@ -26,7 +26,8 @@ fn spread(row: &[u64], out: &mut [u64], column: usize)
     }
 }
 
-// Replaces each word of `row` by what `f` makes of it and of the word of `others` at its place.
+// Replaces each word of `row` by what `f` makes of it and of the word of `others` at its place. (By an index: what a loop over a zipped iter_mut writes
+// is not known to a proof.)
 fn replace<F: Fn(u64, u64) -> u64>(row: &mut [u64], others: &[u64], f: F)
     requires callable { F.IsAlwaysCallable f }
     requires long { length row.old ≤ length others.now }
@@ -45,8 +46,7 @@ fn all_are(row: &[u64], x: u64) -> bool
 }
 
 // The codes of a table by columns: that of entry (q1, q2) stands at q2·64 + q1.
-pub(crate) fn encode_columns(w: &Codes, t: &Table, out: &mut [u64])
-    requires { length out.old ≡ table_words }
+pub(crate) fn encode_columns(w: &Codes, t: &Table, out: &mut TableCodes)
     ensures { Rows (λ q₂ q₁. table_code w.now.words t.now.bytes.now (get_or t.now.models.second.bytes.now 0 0) q₁ q₂)
         (get_or t.now.models.second.bytes.now 0 0) (get_or t.now.models.first.bytes.now 0 0) out.new }
 {
@@ -61,12 +61,13 @@ pub(crate) fn encode_columns(w: &Codes, t: &Table, out: &mut [u64])
 // ---- the inner joins
 
 // The inner joins of q2, in a row of zeros: in place q1', the code of the join over q2' of R2(q2, q2') met with entry (q1', q2') of the table.
-fn join_columns(w: &Codes, top: u64, m2: &Model, q2: State, table: &TableCodes, row: &mut [u64])
-    requires { TopOf w.now.words top × (q2.0 < get_or m2.now.bytes.now 0 0) × (length row.old ≤ 64) × Filled (λ q. 0) (length row.old) row.old }
-    ensures { Filled (inner_code w.now.words m2.now.bytes.now (by_column table.now) q2.0) (length row.old) row.new }
+fn join_columns(a: &Algebra, m2: &Model, q2: State, table: &TableCodes, row: &mut [u64])
+    requires { (q2.0 < get_or m2.now.bytes.now 0 0) × (length row.old ≤ 64) × Filled (λ q. 0) (length row.old) row.old }
+    ensures { Filled (inner_code a.now.codes.now.words m2.now.bytes.now (by_column table.now) q2.0) (length row.old) row.new }
 {
+    let top = a.codes.code(a.lattice.top);
     for r in 0..m2.states() {
-        let c = w.code(m2.transition(q2, State(r as u8)));
+        let c = a.codes.code(m2.transition(q2, State(r as u8)));
         if c == 0 {
             continue;
         }
@@ -77,45 +78,33 @@ fn join_columns(w: &Codes, top: u64, m2: &Model, q2: State, table: &TableCodes, 
     }
 }
 
-// The inner joins of every q2, that of q1' in row q1' and column q2; there are n1 states of model 1.
-pub(crate) fn all_joins(
-    w: &Codes,
-    top: u64,
-    m2: &Model,
-    table: &TableCodes,
-    n1: usize,
-    joins: &mut [u64],
-)
-    requires { TopOf w.now.words top × (n1 ≤ 64) × (length joins.old ≡ table_words) }
-    ensures { Rows (λ q₁ q₂. inner_code w.now.words m2.now.bytes.now (by_column table.now) q₂ q₁) n1
-        (get_or m2.now.bytes.now 0 0) joins.new }
+// The inner joins of every q2, that of q1' in row q1' and column q2.
+pub(crate) fn all_joins(a: &Algebra, m: &Models, table: &TableCodes, joins: &mut TableCodes)
+    ensures { Rows (λ q₁ q₂. inner_code a.now.codes.now.words m.now.second.bytes.now (by_column table.now) q₂ q₁)
+        (get_or m.now.first.bytes.now 0 0) (get_or m.now.second.bytes.now 0 0) joins.new }
 {
-    for q2 in 0..m2.states() {
+    let n1 = m.first.states();
+    for q2 in 0..m.second.states() {
         let mut room = [0u64; 64];
         let row = &mut room[..n1];
-        join_columns(w, top, m2, State(q2 as u8), table, row);
+        join_columns(a, &m.second, State(q2 as u8), table, row);
         spread(row, joins, q2);
     }
 }
 
 // ---- rows
 
-// The codes of row q1 of F, from the inner joins of every q2: its propositions, then one q1' after another.
-pub(crate) fn row_from(
-    w: &Codes,
-    top: u64,
-    m: &Models,
-    joins: &TableCodes,
-    q1: State,
-    out: &mut [u64],
-)
+// The codes of row q1 of F, from the inner joins of every q2: its propositions, then one q1' after another. (The loop of `join_columns` begins, steps,
+// passes over and ends otherwise; what they share are `replace` and `all_are`, so that one function for both would be no plainer.)
+pub(crate) fn row_from(a: &Algebra, m: &Models, joins: &TableCodes, q1: State, out: &mut [u64])
     requires { (q1.0 < get_or m.now.first.bytes.now 0 0) × (length out.old ≡ get_or m.now.second.bytes.now 0 0) }
-    ensures { Filled (entry_code w.now.words top m.now.first.bytes.now m.now.second.bytes.now (by_row joins.now) q1.0)
+    ensures { Filled (entry_code a.now.codes.now.words (code_in a.now.codes.now.words a.now.lattice.top.0) m.now.first.bytes.now m.now.second.bytes.now (by_row joins.now) q1.0)
         (get_or m.now.second.bytes.now 0 0) out.new }
 {
-    entries::propositions(w, top, m, q1, out);
+    let top = a.codes.code(a.lattice.top);
+    entries::propositions(a.codes, top, m, q1, out);
     for q in 0..m.first.states() {
-        let c = w.negated_code(m.first.transition(q1, State(q as u8)));
+        let c = a.codes.negated_code(m.first.transition(q1, State(q as u8)));
         if c == top {
             continue;
         }

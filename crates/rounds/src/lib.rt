@@ -1,6 +1,7 @@
 // The simulation operator on tables that are held as bytes: a row, a round, whether a table is at or below F of it, and score; in how many entries two tables
 // differ. All but the last is worked on the codes of elements (crate `elements`), and an entry that is written is turned back into its element once. A row
 // alone is worked entry by entry (crate `entries`), a round by the inner joins that its rows share.
+// Loops go by the numbers of states, which are places in rows too: they are usize, and `State(q as u8)` is the state of a number.
 //   columns: the codes of all rows of a round
 #![tactic(auto)]
 
@@ -13,7 +14,6 @@ ghost use Rattle.rounds.specs.Round.{RoundIn};
 ghost use Rattle.rounds.specs.Row.{RowSoFar};
 ghost use Rattle.elements.specs.Words.{decode_in};
 ghost use Rattle.rounds.specs.Codes.{initial_code, JoinsOf};
-ghost use Rattle.rounds.specs.Early.{TopOf};
 
 use columns::{TableCodes, all_joins, encode_columns, row_from};
 use elements::{Algebra, Codes, Element};
@@ -22,7 +22,8 @@ use model::{Model, State};
 
 // ---- a row and a round
 
-// Writes into `out` what `f` makes of each place and of the byte of s there; says whether any differs from that byte.
+// Writes into `out` what `f` makes of each place and of the byte of s there; says whether any differs from that byte. (By an index, as
+// `replace` of columns.)
 fn write_row<F: Fn(usize, u8) -> u8>(s: &[u8], out: &mut [u8], f: F) -> bool
     requires callable { (q x : ℕ) → q < length s.now → F.pre f q x }
     requires same { length out.old ≡ length s.now }
@@ -48,33 +49,25 @@ fn write_codes(a: &Algebra, codes: &[u64], s: &[u8], out: &mut [u8]) -> bool
 }
 
 // Row q1 of F of a table, entry by entry, with room for N codes of the table; says whether any entry differs from that of the table.
+// (That there is room in `out` and that q1 is a row are clauses: a type that held the table, `out` and q1 would be no plainer.)
 fn work_row<const N: usize>(a: &Algebra, t: &Table, out: &mut [u8], q1: State) -> bool
     requires { Room t.now.models.first.bytes.now t.now.models.second.bytes.now out.old × (q1.0 < get_or t.now.models.first.bytes.now 0 0)
         × (get_or t.now.models.first.bytes.now 0 0 * 64 ≤ N) × (N ≤ 4096) }
     ensures { RowIn a.now.codes.now.words a.now.lattice t.now.models.first.bytes.now t.now.models.second.bytes.now t.now.bytes.now q1.0 out.old out.new result }
 {
-    let n1 = t.models.first.states();
-    let n2 = t.models.second.states();
     let mut alike = [0u64; 64];
     let mut left = [0u64; 64];
     let mut codes = [0u64; N];
-    entries::prepare(
-        a.codes,
-        a.lattice,
-        t,
-        q1,
-        &mut alike[..n2],
-        &mut left[..n1],
-        &mut codes,
-    );
+    entries::prepare(a.codes, a.lattice, t, q1, &mut alike, &mut left, &mut codes);
     let row = Row {
         algebra: *a,
         table: *t,
         q1,
-        alike: &alike[..n2],
-        left: &left[..n1],
+        alike: &alike,
+        left: &left,
         codes: &codes,
     };
+    let n2 = t.models.second.states();
     let at = usize::from(q1.0) * n2;
     write_row(
         t.row(q1),
@@ -97,20 +90,20 @@ pub fn row(a: &Algebra, t: &Table, out: &mut [u8], q1: State) -> bool
 }
 
 // Works F of a table into the first N1·N2 bytes of `other`, and keeps its other bytes; says whether any entry differs from that of the table.
+// (Rows by places: of what a loop over `chunks_exact_mut` writes a proof knows the length alone.)
 pub fn round(a: &Algebra, t: &Table, other: &mut [u8]) -> bool
     requires { Room t.now.models.first.bytes.now t.now.models.second.bytes.now other.old }
     ensures { RoundIn a.now.codes.now.words a.now.lattice t.now.models.first.bytes.now t.now.models.second.bytes.now t.now.bytes.now other.old other.new result }
 {
     let n2 = t.models.second.states();
     let mut joins = [0u64; 4096];
-    let top = a.codes.code(a.lattice.top);
-    inner_joins(a.codes, top, t, &mut joins);
+    inner_joins(a, t, &mut joins);
     let mut room = [0u64; 64];
     let codes = &mut room[..n2];
     let mut changed = false;
     for q in 0..t.models.first.states() {
         let q1 = State(q as u8);
-        row_from(a.codes, top, &t.models, &joins, q1, codes);
+        row_from(a, &t.models, &joins, q1, codes);
         let c = write_codes(a, codes, t.row(q1), &mut other[q * n2..q * n2 + n2]);
         changed = changed | c;
     }
@@ -118,37 +111,28 @@ pub fn round(a: &Algebra, t: &Table, other: &mut [u8]) -> bool
 }
 
 // The inner joins of a table, of every q2.
-fn inner_joins(w: &Codes, top: u64, t: &Table, joins: &mut TableCodes)
-    requires { TopOf w.now.words top }
-    ensures { JoinsOf w.now.words t.now.models.first.bytes.now t.now.models.second.bytes.now t.now.bytes.now joins.new }
+fn inner_joins(a: &Algebra, t: &Table, joins: &mut TableCodes)
+    ensures { JoinsOf a.now.codes.now.words t.now.models.first.bytes.now t.now.models.second.bytes.now t.now.bytes.now joins.new }
 {
     let mut table = [0u64; 4096];
-    encode_columns(w, t, &mut table);
-    all_joins(
-        w,
-        top,
-        &t.models.second,
-        &table,
-        t.models.first.states(),
-        joins,
-    );
+    encode_columns(a.codes, t, &mut table);
+    all_joins(a, &t.models, &table, joins);
 }
 
 // ---- the test against F
 
 // Whether each entry of a table is at or below that of F of it: row by row, up to the first entry that is not. No code is turned back into an
-// element.
+// element. (It begins as `round`, but writes nothing and ends early: one loop for both, with a closure for what is done with a row, would be no plainer.)
 pub fn is_post_fixed(a: &Algebra, t: &Table) -> bool
     ensures { result ≡ post_fixed_in a.now.codes.now.words a.now.lattice t.now.models.first.bytes.now t.now.models.second.bytes.now t.now.bytes.now }
 {
     let mut joins = [0u64; 4096];
-    let top = a.codes.code(a.lattice.top);
-    inner_joins(a.codes, top, t, &mut joins);
+    inner_joins(a, t, &mut joins);
     let mut room = [0u64; 64];
     let codes = &mut room[..t.models.second.states()];
     for q in 0..t.models.first.states() {
         let q1 = State(q as u8);
-        row_from(a.codes, top, &t.models, &joins, q1, codes);
+        row_from(a, &t.models, &joins, q1, codes);
         if !a.codes.all_at_most(t.row(q1), codes) {
             return false;
         }
@@ -158,7 +142,8 @@ pub fn is_post_fixed(a: &Algebra, t: &Table) -> bool
 
 // ---- lowerings
 
-// In how many entries two tables with n1 rows of n2 entries differ. A loop by places compares many bytes at once; a chain over `zip` is not compiled so, and
+// In how many entries two tables with n1 rows of n2 entries differ, by both numbers as `bytes_differing` of specs/Table. (The count fits a u32; there is
+// no `From` for it, and `try_from` would leave an error to answer.) A loop by places compares many bytes at once; a chain over `zip` is not compiled so, and
 // takes ten times as long.
 pub fn differing(a: &[u8], b: &[u8], n1: usize, n2: usize) -> u32
     requires { (n1 * n2 ≤ 4096) × (n1 * n2 ≤ length a.now) × (n1 * n2 ≤ length b.now) }
@@ -179,8 +164,8 @@ fn initial_codes(w: &Codes, m: &Model, out: &mut [u64])
     requires { get_or m.now.bytes.now 0 0 ≤ length out.old }
     ensures { Filled (initial_code w.now.words m.now.bytes.now) (get_or m.now.bytes.now 0 0) out.new }
 {
-    for q in 0..m.states() {
-        out[q] = w.code(m.initial(State(q as u8)));
+    for (q, x) in out[..m.states()].iter_mut().enumerate() {
+        *x = w.code(m.initial(State(q as u8)));
     }
 }
 

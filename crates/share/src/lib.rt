@@ -21,6 +21,7 @@ fn count(w: &Codes, e: Element, s: &[u8]) -> usize
 }
 
 // c of n in whole per cent: the quotient q of 100 c by n, and one more where the rest is over half of n, or is half of n and q is odd.
+// (By `as`, since it fits a u8: there is no `From`, and `try_from` would leave an error to answer.)
 fn per_cent(c: usize, n: usize) -> u8
     requires { (0 < n) × (n ≤ 4096) × (c ≤ n) }
     ensures { result ≡ per_cent c n }

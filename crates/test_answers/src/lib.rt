@@ -7,54 +7,53 @@ use refusal::Refusal;
 use std::io;
 use test_printing::refused;
 
-// That a case was taken.
-pub fn opened(rt: &impl Print, a: Result<(), Refusal>) -> io::Result<()> {
+// The refusal, or what `given` prints of the call's answer.
+fn answer<P: Print, T, F: FnOnce(T) -> io::Result<()>>(
+    rt: &P,
+    a: Result<T, Refusal>,
+    given: F,
+) -> io::Result<()>
+    requires { F.IsAlwaysCallable given }
+{
     match a {
         Err(r) => refused(rt, r),
-        Ok(()) => print!(rt; " Opened"),
+        Ok(x) => given(x),
     }
+}
+
+// That a case was taken.
+pub fn opened(rt: &impl Print, a: Result<(), Refusal>) -> io::Result<()> {
+    answer(rt, a, |()| print!(rt; " Opened"))
 }
 
 // How far a step brought the desk, with the count of lowerings.
 pub fn stepped(rt: &impl Print, a: Result<Progress, Refusal>) -> io::Result<()> {
-    match a {
-        Err(r) => refused(rt, r),
-        Ok(Progress::Row(n)) => print!(rt; " Row {n}"),
-        Ok(Progress::Round(r, n)) => print!(rt; " Round {r} {n}"),
-        Ok(Progress::Settled(t, n)) => print!(rt; " Settled {t} {n}"),
-    }
+    answer(rt, a, |p| match p {
+        Progress::Row(n) => print!(rt; " Row {n}"),
+        Progress::Round(r, n) => print!(rt; " Round {r} {n}"),
+        Progress::Settled(t, n) => print!(rt; " Settled {t} {n}"),
+    })
 }
 
 // A number: of an element, or a per cent.
 pub fn number(rt: &impl Print, a: Result<u8, Refusal>) -> io::Result<()> {
-    match a {
-        Err(r) => refused(rt, r),
-        Ok(n) => print!(rt; " {n}"),
-    }
+    answer(rt, a, |n| print!(rt; " {n}"))
 }
 
 // An element with the facts of its formula.
 pub fn valued(rt: &impl Print, a: Result<Valued, Refusal>) -> io::Result<()> {
-    match a {
-        Err(r) => refused(rt, r),
-        Ok(v) => {
-            print!(rt; " {}", v.value.0)?;
-            test_printing::facts(rt, v.facts)
-        }
-    }
+    answer(rt, a, |v| {
+        print!(rt; " {}", v.value.0)?;
+        test_printing::facts(rt, v.facts)
+    })
 }
 
 pub fn judged(rt: &impl Print, a: Result<bool, Refusal>) -> io::Result<()> {
-    match a {
-        Err(r) => refused(rt, r),
-        Ok(true) => print!(rt; " yes"),
-        Ok(false) => print!(rt; " no"),
-    }
+    answer(rt, a, |yes| {
+        print!(rt; " {}", if yes { "yes" } else { "no" })
+    })
 }
 
 pub fn length(rt: &impl Print, a: Result<u32, Refusal>) -> io::Result<()> {
-    match a {
-        Err(r) => refused(rt, r),
-        Ok(n) => print!(rt; " Length {n}"),
-    }
+    answer(rt, a, |n| print!(rt; " Length {n}"))
 }

@@ -13,6 +13,8 @@ use test_printing::{at, say};
 
 // ---- the calls
 
+// Store and tables are parameters of their own, as in desk_moves: these calls lend some of them to be written into, each other ones.
+
 fn open(
     rt: &impl Print,
     s: Standing,
@@ -59,7 +61,7 @@ fn write(rt: &impl Print, d: Desk, n: u8) -> io::Result<()> {
     test_printing::bytes(rt, out)
 }
 
-// The calls that only read the desk, by the word's letter.
+// The calls that only read the desk, by the word's letter: the letters are of the input's words, and any other word is no call.
 fn ask(rt: &impl Print, d: Desk, letter: u8, bytes: &[u8]) -> io::Result<()> {
     let a = at(bytes, 0);
     let b = at(bytes, 1);

@@ -10,7 +10,7 @@ fn show(rt: &impl Print, name: &[u8], part: &[u8]) -> io::Result<()> {
     match formula::check(part, 2) {
         Some(x) => {
             say(rt, b": accepted")?;
-            test_printing::facts(rt, x.nesting, x.fixpoint, x.ex)?;
+            test_printing::facts(rt, x)?;
         }
         None => say(rt, b": refused 10")?,
     }

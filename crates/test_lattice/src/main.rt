@@ -18,8 +18,9 @@ fn run(rt: &impl Print, name: &str, part: &[u8]) -> io::Result<()> {
 fn chain_order(part: &mut [u8], n: usize)
     requires { (1 ≤ n) × (n ≤ 65) × (1 + n + n * n ≤ length part.old) }
 {
-    for k in 0..n * n {
-        part[1 + n + k] = u8::from(k / n <= k % n);
+    let order = &mut part[1 + n..1 + n + n * n];
+    for (k, b) in order.iter_mut().enumerate() {
+        *b = u8::from(k / n <= k % n);
     }
 }
 
@@ -27,8 +28,8 @@ fn chain_order(part: &mut [u8], n: usize)
 fn chain_complements(part: &mut [u8], n: usize)
     requires { (n ≤ 65) × (1 + n ≤ length part.old) }
 {
-    for i in 0..n {
-        part[1 + i] = (n - 1 - i) as u8;
+    for (i, b) in part[1..1 + n].iter_mut().enumerate() {
+        *b = (n - 1 - i) as u8;
     }
 }
 

@@ -7,6 +7,8 @@ use elements::Element;
 use model::State;
 use std::io;
 
+// Store and tables are parameters of their own, as in desk_moves: these calls lend some of them to be written into, each other ones.
+
 // ---- what is printed
 
 // The line of an open.

@@ -7,6 +7,7 @@ mod filling;
 
 ghost use Rattle.std.specs.Prelude.{◌≡◌, ◌+◌, ◌≤◌, length};
 ghost use Rattle.valuer.specs.Values.{ModelOver, Reads};
+ghost use Rattle.valuer.specs.Unique.{ModelOver-prop};
 ghost use Rattle.test_limits.specs.Full.{Full};
 
 use elements::{Algebra, Codes};
@@ -47,87 +48,72 @@ fn show_row(rt: &impl Print, a: &Algebra, t: &Table) -> io::Result<()>
     println!(rt; "{score}")
 }
 
+// A model of 64 states and 16 propositions over a lattice.
+#[derive(Clone, Copy)]
+struct FullModel<'a> {
+    algebra: Algebra<'a>,
+    model: Model<'a>,
+    ghost over: { ModelOver algebra.codes.now.words algebra.lattice model.bytes.now } by { ModelOver-prop algebra.codes.now.words algebra.lattice model.bytes.now },
+    ghost full: { Full model.bytes.now },
+}
+
 // The values of a formula at the states, and that on the whole model.
-fn show_value(rt: &impl Print, a: &Algebra, m: &Model, f: &[u8]) -> io::Result<()>
-    requires { ModelOver a.now.codes.now.words a.now.lattice m.now.bytes.now × Full m.now.bytes.now × Reads m.now.bytes.now f.now }
+fn show_value(rt: &impl Print, v: &FullModel, f: &[u8]) -> io::Result<()>
+    requires { Reads v.now.model.bytes.now f.now }
 {
     for q in 0..64u8 {
-        let value = valuer::value(a, m, f, State(q)).0;
+        let value = valuer::value(&v.algebra, &v.model, f, State(q)).0;
         print!(rt; "{value} ")?;
     }
-    let whole = valuer::whole(a, m, f).0;
+    let whole = valuer::whole(&v.algebra, &v.model, f).0;
     println!(rt; "{whole}")
 }
 
-fn show(rt: &impl Print, name: &str, a: &Algebra, m: &Model, f: &[u8]) -> io::Result<()>
-    requires { ModelOver a.now.codes.now.words a.now.lattice m.now.bytes.now × Full m.now.bytes.now }
-{
+fn show(rt: &impl Print, name: &str, v: &FullModel, f: &[u8]) -> io::Result<()> {
     print!(rt; "{name}")?;
     match formula::check(f, 16) {
-        Some(_) => show_value(rt, a, m, f),
+        Some(_) => show_value(rt, v, f),
         None => println!(rt; "refused"),
     }
 }
 
 // Formulas of 255 bytes: AX 253 times, and p; 'AX p or' 63 times, and EX p.
-fn show_long(rt: &impl Print, a: &Algebra, m: &Model) -> io::Result<()>
-    requires { ModelOver a.now.codes.now.words a.now.lattice m.now.bytes.now × Full m.now.bytes.now }
-{
+fn show_long(rt: &impl Print, v: &FullModel) -> io::Result<()> {
     let mut f = [7u8; 255];
     f[253] = 2;
     f[254] = 0;
-    show(rt, "253 AX ", a, m, &f)?;
+    show(rt, "253 AX ", v, &f)?;
     filling::fill(&mut f, Filling::Joined, 64);
     f[252] = 8;
     f[253] = 2;
     f[254] = 0;
-    show(rt, "63 or ", a, m, &f)
+    show(rt, "63 or ", v, &f)
 }
 
-fn show_fixpoint(rt: &impl Print, a: &Algebra, m: &Model) -> io::Result<()>
-    requires { ModelOver a.now.codes.now.words a.now.lattice m.now.bytes.now × Full m.now.bytes.now }
-{
-    show(
-        rt,
-        "nu z. p and AX z ",
-        a,
-        m,
-        b"\x0a\x06\x02\x00\x07\x04\x00",
-    )
+fn show_fixpoint(rt: &impl Print, v: &FullModel) -> io::Result<()> {
+    show(rt, "nu z. p and AX z ", v, b"\x0a\x06\x02\x00\x07\x04\x00")
 }
 
-fn show_fixpoints(rt: &impl Print, a: &Algebra, m: &Model) -> io::Result<()>
-    requires { ModelOver a.now.codes.now.words a.now.lattice m.now.bytes.now × Full m.now.bytes.now }
-{
-    show(
-        rt,
-        "mu z. p or AX z ",
-        a,
-        m,
-        b"\x09\x05\x02\x00\x07\x04\x00",
-    )?;
+fn show_fixpoints(rt: &impl Print, v: &FullModel) -> io::Result<()> {
+    show(rt, "mu z. p or AX z ", v, b"\x09\x05\x02\x00\x07\x04\x00")?;
     show(
         rt,
         "nu y. mu z. (p and AX y) or AX z ",
-        a,
-        m,
+        v,
         b"\x0a\x09\x05\x06\x02\x00\x07\x04\x01\x07\x04\x00",
     )?;
     show(
         rt,
         "nu x. mu y. nu z. (p and EX x) or (AX y and EX z) ",
-        a,
-        m,
+        v,
         b"\x0a\x09\x0a\x05\x06\x02\x00\x08\x04\x02\x06\x07\x04\x01\x08\x04\x00",
     )
 }
 
-fn show_all(rt: &impl Print, a: &Algebra, m: &Model) -> io::Result<()>
-    requires { ModelOver a.now.codes.now.words a.now.lattice m.now.bytes.now × Full m.now.bytes.now }
-{
-    show_fixpoint(rt, a, m)?;
-    show_long(rt, a, m)?;
-    show_fixpoints(rt, a, m)
+fn show_all(rt: &impl Print, v: &FullModel) -> io::Result<()> {
+    show_fixpoint(rt, v)?;
+    show_long(rt, v)?;
+    show_fixpoints(rt, v)
 }
 
 fn over(rt: &impl Print, a: &Algebra, t: &Table) -> io::Result<()>
@@ -137,7 +123,13 @@ fn over(rt: &impl Print, a: &Algebra, t: &Table) -> io::Result<()>
     let m1 = &t.models.first;
     match model::check(m1.bytes, a.lattice.size) {
         None => println!(rt; "refused"),
-        Some(_) => show_all(rt, a, m1),
+        Some(_) => {
+            let v = FullModel {
+                algebra: *a,
+                model: *m1,
+            };
+            show_all(rt, &v)
+        }
     }
 }
 

@@ -15,12 +15,6 @@ pub fn say(rt: &impl Print, text: &[u8]) -> io::Result<()> {
     rt.write_all(text)
 }
 
-// A label and a number.
-pub fn item(rt: &impl Print, text: &[u8], n: u64) -> io::Result<()> {
-    say(rt, text)?;
-    rt.print(n)
-}
-
 // Each byte of a part as a number, with a blank before it.
 pub fn bytes(rt: &impl Print, part: &[u8]) -> io::Result<()> {
     for &x in part {
@@ -44,7 +38,7 @@ pub fn facts(rt: &impl Print, facts: FormulaFacts) -> io::Result<()> {
 
 // ---- reading
 
-// The byte at a place of a part, or 0 past its end.
+// The byte at a place of a part, or 0 past its end: a byte that a line of a test leaves out is 0, so that no caller would look at an `Option`.
 pub fn at(part: &[u8], i: usize) -> u8 {
     part.get(i).copied().unwrap_or(0)
 }

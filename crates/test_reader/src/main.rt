@@ -20,22 +20,19 @@ fn three(part: &[u8]) -> [Token; 3]
     [a.peek(), b.peek(), c.peek()]
 }
 
-fn say_one(rt: &impl Print, yes: bool, text: &[u8], other: &[u8]) -> io::Result<()> {
-    if yes { say(rt, text) } else { say(rt, other) }
-}
-
+// A token in words. No `Display` of Token stands in its own crate, since this test alone prints one.
 fn say_token(rt: &impl Print, t: Token) -> io::Result<()> {
     match t {
         Token::Bottom => say(rt, b" bottom"),
         Token::Top => say(rt, b" top"),
         Token::Literal { p, negated } => {
-            say_one(rt, negated, b" negated", b"")?;
-            print!(rt; " proposition {}", p.0)
+            let sign = if negated { " negated" } else { "" };
+            print!(rt; "{sign} proposition {}", p.0)
         }
         Token::Variable(v) => print!(rt; " variable {v}"),
-        Token::Two { or } => say_one(rt, or, b" or", b" and"),
-        Token::Next { all } => say_one(rt, all, b" AX", b" EX"),
-        Token::Fixpoint { least } => say_one(rt, least, b" least", b" greatest"),
+        Token::Two { or } => say(rt, if or { b" or" } else { b" and" }),
+        Token::Next { all } => say(rt, if all { b" AX" } else { b" EX" }),
+        Token::Fixpoint { least } => say(rt, if least { b" least" } else { b" greatest" }),
         Token::End => say(rt, b" end"),
         Token::Broken => say(rt, b" broken"),
     }

@@ -25,8 +25,8 @@ fn show(rt: &impl Print, name: &str, a: &Algebra, m: &Model, f: &[u8]) -> io::Re
     requires { ModelOver a.now.codes.now.words a.now.lattice m.now.bytes.now × Reads m.now.bytes.now f.now }
 {
     print!(rt; "{name}")?;
-    for q in 0..m.states() {
-        show_set(rt, valuer::value(a, m, f, State(q as u8)).0)?;
+    for q in 0..m.bytes[0] {
+        show_set(rt, valuer::value(a, m, f, State(q)).0)?;
     }
     print!(rt; " whole")?;
     show_set(rt, valuer::whole(a, m, f).0)?;

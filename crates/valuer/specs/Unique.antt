@@ -1,5 +1,5 @@
 -- What `ModelOver` says can be so in one way alone, as the ghost field of `Valuation` asks. Rests on Values, elements' and model's Unique.
-use Rattle.std.specs.Prelude.{ℕ, ◌≡◌, List}
+use Rattle.std.specs.Prelude.{ℕ, List}
 use denote.Struct.Props.{props}
 use Rattle.elements.specs.Unique.{same, Coded-prop}
 use Rattle.elements.specs.declared.Lattice.{Lattice}

@@ -9,7 +9,7 @@ ghost use Rattle.std.specs.Prelude.{◌≡◌, ◌<◌, get_or};
 ghost use Rattle.valuer.specs.Values.{ModelOver, Reads, ValueAt, WholeValue};
 ghost use Rattle.valuer.specs.Node.{CodedValues, whole_code};
 
-use elements::{Algebra, Codes, Element, Lattice};
+use elements::{Algebra, Element};
 use model::{Model, State};
 use valuation::Valuation;
 use valuer_maps::{Scope, Successors, all_step, list_successors};
@@ -44,7 +44,8 @@ fn valued<'a>(a: &Algebra<'a>, m: &Model<'a>, f: &'a [u8]) -> [u64; 64]
 }
 
 // The value at one state. That the model is over the lattice, and that the part is read as a formula, are clauses: callers have these facts at hand, and
-// the second may hold in more than one way, which a ghost field does not take.
+// the second may hold in more than one way, which a ghost field does not take. That q is one of the states is a clause too: a State does not hold its
+// model.
 pub fn value(a: &Algebra, m: &Model, f: &[u8], q: State) -> Element
     requires { ModelOver a.now.codes.now.words a.now.lattice m.now.bytes.now × Reads m.now.bytes.now f.now × (q.0 < get_or m.now.bytes.now 0 0) }
     ensures { ValueAt a.now.codes.now.words a.now.lattice m.now.bytes.now f.now q.0 result.0 }
@@ -53,13 +54,13 @@ pub fn value(a: &Algebra, m: &Model, f: &[u8], q: State) -> Element
     a.decode(x[usize::from(q.0)], a.lattice.top)
 }
 
-// The code of the meet over all states of initial value → x.
-fn from_initial(w: &Codes, l: Lattice, m: &Model, x: &[u64; 64]) -> u64
-    ensures { result ≡ whole_code w.now.words l m.now.bytes.now x.now }
+// The code of the meet over all states of initial value → x. (q is a usize, since x is indexed by it.)
+fn from_initial(a: &Algebra, m: &Model, x: &[u64; 64]) -> u64
+    ensures { result ≡ whole_code a.now.codes.now.words a.now.lattice m.now.bytes.now x.now }
 {
-    let mut y = w.code(l.top);
+    let mut y = a.codes.code(a.lattice.top);
     for q in 0..m.states() {
-        y &= all_step(w, m.initial(State(q as u8)), x[q]);
+        y &= all_step(a.codes, m.initial(State(q as u8)), x[q]);
     }
     y
 }
@@ -70,5 +71,5 @@ pub fn whole(a: &Algebra, m: &Model, f: &[u8]) -> Element
     ensures { WholeValue a.now.codes.now.words a.now.lattice m.now.bytes.now f.now result.0 }
 {
     let x = valued(a, m, f);
-    a.decode(from_initial(a.codes, a.lattice, m, &x), a.lattice.top)
+    a.decode(from_initial(a, m, &x), a.lattice.top)
 }

@@ -1,6 +1,6 @@
 // A formula that is valued over a model: a valuer of nodes and a fixpoint iteration that call each other, over a function for each kind of node
 // (valuer_maps); the token at a place says which.
-ghost use Rattle.std.specs.Prelude.{◌≡◌, get_or};
+ghost use Rattle.std.specs.Prelude.{◌≡◌, ◌*◌, get_or};
 ghost use Rattle.valuer.specs.Values.{ModelOver};
 ghost use Rattle.valuer.specs.Node.{SomeFormulaAt, round_limit, Node, Both, Iterated};
 ghost use Rattle.valuer.specs.Unique.{ModelOver-prop};
@@ -66,8 +66,9 @@ impl<'a> Valuation<'a> {
         here
     }
 
-    // The second formula of or or and, at place `at`: its map is combined with that of the first, which is in `out`. The array that this takes
-    // stands here and is not inlined, so that other nodes have none: in the frame of `node` it would be one more for each level of nesting.
+    // The second formula of or or and (`or` says which, as in the definition Both), at place `at`: its map is combined with that of the first, which
+    // is in `out`. The array that this takes stands here and is not inlined, so that other nodes have none: in the frame of `node` it would be one
+    // more for each level of nesting.
     #[inline(never)]
     #[cycle(iterate_node_second)]
     fn second(
@@ -107,23 +108,29 @@ impl<'a> Valuation<'a> {
     {
         let n = self.successors.model.states();
         let mut current = [start; 64];
-        let mut left = self.round_limit();
-        loop {
-            let inner = Scope {
-                near: &current,
-                mid: scope.near,
-                far: scope.mid,
-            };
-            let next = self.node(body, &inner, spare, out);
-            if left == 0 {
-                *out = current;
-                return next;
-            }
+        for _ in 0..self.round_limit() {
+            let next = self.node(body, &under(&current, scope), spare, out);
             if same(n, out, &current) {
                 return next;
             }
             current = *out;
-            left -= 1;
         }
+        // no round is left: the body is worked once more for the place after it alone
+        let next = self.node(body, &under(&current, scope), spare, out);
+        *out = current;
+        next
+    }
+}
+
+// The maps of the variables within one more binder, whose map is `near`.
+fn under<'a, 'b>(near: &'b [u64; 64], scope: &Scope<'a>) -> Scope<'b>
+where
+    'a: 'b,
+    ensures { (result.near.now ≡ near.now) × (result.mid.now ≡ scope.now.near.now) × (result.far.now ≡ scope.now.mid.now) }
+{
+    Scope {
+        near,
+        mid: scope.near,
+        far: scope.mid,
     }
 }

@@ -1,5 +1,8 @@
 // The maps of single nodes of a formula. A map from states to elements is 64 words, of which the first N count: the codes of its values
-// (elements). w and l are a lattice's codes and numbers, m is a model. A map is written into the lent array `out`.
+// (elements). w and l are a lattice's codes and numbers, apart, since an Algebra would ask that the codes are a lattice's; m is a model. A map is
+// written into the lent array `out`.
+// `out` is a slice with a clause of its length (map_words, list_bytes): an array's type would refuse callers that lend a slice of that length.
+// A state's number is a usize here, since maps are indexed by it; with a u8 range each index would need a conversion in place of `State(q as u8)`.
 //   successors: the states that AX and EX look at
 #![tactic(auto)]
 
@@ -15,7 +18,7 @@ use elements::{Codes, Element, Lattice};
 use model::{Model, Proposition, State};
 pub use successors::{Successors, list_successors};
 
-// Where a least fixpoint starts, the bottom's code, or a greatest one, the top's.
+// Where a least fixpoint starts, the bottom's code, or a greatest one, the top's. (A bool says which, as in its definition start_code.)
 #[tactic(auto, unfolding(crate::specs::Code::start_code))]
 pub fn start_of(w: &Codes, l: Lattice, least: bool) -> u64
     ensures { result ≡ start_code w.now.words l least }
@@ -23,7 +26,7 @@ pub fn start_of(w: &Codes, l: Lattice, least: bool) -> u64
     if least { 0 } else { w.code(l.top) }
 }
 
-// The first n words are the same.
+// The first n words are the same. (Whole maps with n beside them, as callers have: a map is 64 words, since a call allocates nothing.)
 pub fn same(n: usize, x: &[u64; 64], y: &[u64; 64]) -> bool
     requires { n ≤ 64 }
     ensures { result ≡ all_below n (λ q. eqb (get_or x.now q 0) (get_or y.now q 0)) }
@@ -55,7 +58,7 @@ impl<'a> Scope<'a> {
     }
 }
 
-// A proposition, negated or not.
+// A proposition, negated or not, as a bool says in the definition Literals.
 pub fn literals(w: &Codes, m: &Model, negated: bool, p: Proposition, out: &mut [u64])
     requires { (p.0 < get_or m.now.bytes.now 1 0) × (length out.old ≡ map_words) }
     ensures { Literals w.now.words m.now.bytes.now negated p.0 out.new }
@@ -67,7 +70,7 @@ pub fn literals(w: &Codes, m: &Model, negated: bool, p: Proposition, out: &mut [
     )
 }
 
-// The joins (up) or the meets of two maps.
+// The joins (up) or the meets of the first n words of two maps: `up` and n as in the definition Combined.
 pub fn combined(up: bool, n: usize, x: &[u64; 64], y: &[u64; 64], out: &mut [u64])
     requires { (n ≤ 64) × (length out.old ≡ map_words) }
     ensures { Combined up x.now y.now n out.new }

@@ -1,7 +1,7 @@
 -- `entries::work_entry` meets its contract: the transitions of model 2, then the meet.
-use Rattle.std.proofs.Common.{rules, ◌≡◌, ◌∙◌, ap, eq-eqb, length, arith, length-take-le}
+use Rattle.std.proofs.Common.{rules, ◌≡◌, ◌∙◌, ap, eq-eqb, length, arith, length-take-le, get_or}
 use Rattle.theory.specs.TestLaws.{false_true}
-use Rattle.entries.specs.Prepared.{row_gap, row_within_lem, entry_met}
+use Rattle.entries.specs.Prepared.{row_gap, row_within_lem, entry_met, prepared_front}
 use Rattle.entries.specs.Joins.{words_join, listed_front}
 use Rattle.entries.specs.Codes.{propositions_within}
 use Rattle.entries.specs.Words.{low_at}
@@ -30,15 +30,16 @@ invariant_of-leaving c =
 pub meet-m-requires : goal.meet-m-requires
 meet-m-requires c =
     let r = c.args.r.now in
-    let h = r.table.models.first.shape.states_most in (
+    let h = r.table.models.first.shape.states_most in
+    let n = length-take-le c.states-n1.result r.left.now (omega (arith, c.states-n1.ensures, r.to_each)) ∙ c.states-n1.ensures in (
       rw (c.from.ensures, c.code-top.ensures, r.prepared.alike_are.at c.args.q2.0 c.requires)
           (propositions_within r.algebra.codes.now.words (code_in r.algebra.codes.now.words r.algebra.lattice.top.0) r.table.models.first.bytes.now r.table.models.second.bytes.now r.q1.0 c.args.q2.0),
-      omega (arith, r.to_each),
-      omega (arith, r.to_each, r.prepared.room),
+      omega (arith, n),
+      omega (arith, n, r.prepared.room),
     )
 
 pub returns : goal.returns
 returns c =
     let r = c.args.r.now in
-    let u = rw (c.from.ensures, c.code-top.ensures, c.states-n2.ensures, r.to_each) at c.meet-m.ensures in
-    rw c.decode.ensures (entry_met r.algebra.coded r.prepared c.args.q2.0 c.requires _ (low_at _ _ _ c.transition_codes.ensures r.table.models.second.shape.states_most) u)
+    let u = rw (c.from.ensures, c.code-top.ensures, c.states-n2.ensures, c.states-n1.ensures, length-take-le (get_or r.table.models.first.bytes.now 0 0) r.left.now r.to_each) at c.meet-m.ensures in
+    rw c.decode.ensures (entry_met r.algebra.coded (prepared_front r.prepared) c.args.q2.0 c.requires _ (low_at _ _ _ c.transition_codes.ensures r.table.models.second.shape.states_most) u)

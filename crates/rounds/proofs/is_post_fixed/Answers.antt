@@ -6,14 +6,14 @@ use Rattle.theory.specs.Test.{all_below}
 use Rattle.entries.specs.Shaped.{shaped}
 use Rattle.rounds.specs.Table.{post_fixed_in}
 use Rattle.rounds.specs.Row.{row_at}
-use Rattle.rounds.specs.Early.{top_of}
+use Rattle.elements.specs.Words.{code_in}
 use Rattle.rounds.specs.RowCodes.{row_within, row_within_lem, row_compared, post_fixed_in_lem}
 use Rattle.rounds.proofs.is_post_fixed.Goals as goal
 use Rattle.rounds.proofs.is_post_fixed.Goals.{After-all_at_most, After-inner_joins}
 
 -- what the comparison of row q says
 row-found : (c : After-all_at_most) → let t = c.args.t.now in
-    c.all_at_most.result ≡ row_within c.args.a.now.codes.now.words c.code-top.result t.models.first.bytes.now t.models.second.bytes.now t.bytes.now c.inner_joins.new.joins c.loop-q.q
+    c.all_at_most.result ≡ row_within c.args.a.now.codes.now.words (code_in c.args.a.now.codes.now.words c.args.a.now.lattice.top.0) t.models.first.bytes.now t.models.second.bytes.now t.bytes.now c.inner_joins.new.joins c.loop-q.q
 row-found c =
     let t = c.args.t.now in
     let m₁ = t.models.first.bytes.now in
@@ -28,12 +28,9 @@ row-found c =
 
 -- the test of all rows by codes is that of the table
 all-rows : (c : After-inner_joins) → let a = c.args.a.now in let t = c.args.t.now in
-    all_below (get_or t.models.first.bytes.now 0 0) (row_within a.codes.now.words c.code-top.result t.models.first.bytes.now t.models.second.bytes.now t.bytes.now c.inner_joins.new.joins)
+    all_below (get_or t.models.first.bytes.now 0 0) (row_within a.codes.now.words (code_in a.codes.now.words a.lattice.top.0) t.models.first.bytes.now t.models.second.bytes.now t.bytes.now c.inner_joins.new.joins)
     ≡ post_fixed_in a.codes.now.words a.lattice t.models.first.bytes.now t.models.second.bytes.now t.bytes.now
-all-rows c = rw c.code-top.ensures (post_fixed_in_lem c.args.a.now.coded c.inner_joins.ensures)
-
-pub inner_joins-requires : goal.inner_joins-requires
-inner_joins-requires c = top_of c.args.a.now.coded c.code-top.ensures
+all-rows c = post_fixed_in_lem c.args.a.now.coded c.inner_joins.ensures
 
 pub loop-q-init : goal.loop-q-init
 loop-q-init c = passed_none

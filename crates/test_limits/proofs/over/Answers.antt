@@ -2,5 +2,5 @@
 use Rattle.valuer.specs.Over.{over_checked}
 use Rattle.test_limits.proofs.over.Goals as goal
 
-pub show_all-requires : goal.show_all-requires
-show_all-requires g c = (over_checked c.args.a.now.coded _ _ _ c.in-Some.is c.check.ensures, c.requires.0)
+pub invariant_of-v : goal.invariant_of-v
+invariant_of-v g c = record { over = over_checked c.args.a.now.coded _ _ _ c.in-Some.is c.check.ensures; full = c.requires.0 }

@@ -12,7 +12,7 @@ pub loop-q-preserved : goal.loop-q-preserved
 loop-q-preserved c =
     let a = c.args in
     let i = c.loop-q in
-    folded_more i.invariant (c.all_step-y.ensures ∙ ap (λ (e : ℕ). bit_or (negated_code_in a.w.now.words e) (get_or a.x.now i.q 0)) c.initial.ensures) refl
+    folded_more i.invariant (c.all_step-y.ensures ∙ ap (λ (e : ℕ). bit_or (negated_code_in a.a.now.codes.now.words e) (get_or a.x.now i.q 0)) c.initial.ensures) refl
 
 pub returns : goal.returns
 returns c =

@@ -6,4 +6,4 @@ use Rattle.elements.specs.Words.{negated_code_in}
 use Rattle.valuer.proofs.from_initial.Given as goal
 
 abbrev pub invariant-loop-q : goal.invariant-loop-q
-invariant-loop-q l = Folded bit_and l.initial.y (λ s. bit_or (negated_code_in l.w.words ((model_of l.m.bytes.now).initial s)) (get_or l.x s 0)) l.q l.y
+invariant-loop-q l = Folded bit_and l.initial.y (λ s. bit_or (negated_code_in l.a.codes.now.words ((model_of l.m.bytes.now).initial s)) (get_or l.x s 0)) l.q l.y

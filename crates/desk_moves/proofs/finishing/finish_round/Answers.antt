@@ -10,24 +10,24 @@ returns-in-Err c = refused_rest _ _ _ _ c.in-Err.ensures.examined refl
 pub returns-then-s : goal.returns-then-s
 returns-then-s c = settled_rest c.in-Ok.ensures.held c.if-s.true c.answered.ensures
 
-pub next_round-requires : goal.next_round-requires
-next_round-requires c =
+pub round_done-requires : goal.round_done-requires
+round_done-requires c =
     let held = c.in-Ok.ensures.held in
     movable held _ _ c.if-s.false held.lengths.second_long (rw c.work_rest-differs.auto.other held.lengths.first_long)
 
 pub returns-then-s-2 : goal.returns-then-s-2
 returns-then-s-2 c =
-    let m = leaves c.next_round.ensures c.answered-then-s-2.ensures in
+    let m = leaves c.round_done.ensures c.answered-then-s-2.ensures in
     rest-into-first c.in-Ok.ensures.held _ _ _ _ c.if-s.false c.if-s-2.true
     (rw (c.models-models.ensures.first, c.models-models.ensures.second) at c.work_rest-differs.ensures) (m.standing, m.answer)
 
-pub next_round-requires-in-Ok : goal.next_round-requires-in-Ok
-next_round-requires-in-Ok c =
+pub round_done-requires-in-Ok : goal.round_done-requires-in-Ok
+round_done-requires-in-Ok c =
     let held = c.in-Ok.ensures.held in
     movable held _ _ c.if-s.false held.lengths.first_long (rw c.work_rest-differs-in-Ok.auto.other held.lengths.second_long)
 
 pub returns-else-s-2 : goal.returns-else-s-2
 returns-else-s-2 c =
-    let m = leaves c.next_round-in-Ok.ensures c.answered-in-Ok.ensures in
+    let m = leaves c.round_done-in-Ok.ensures c.answered-in-Ok.ensures in
     rest-into-second c.in-Ok.ensures.held _ _ _ _ c.if-s.false c.if-s-2.false
     (rw (c.models-models.ensures.first, c.models-models.ensures.second) at c.work_rest-differs-in-Ok.ensures) (m.standing, m.answer)

@@ -33,10 +33,11 @@ pub slice_bounds-fill-end-in-Ok : goal.slice_bounds-fill-end-in-Ok
 slice_bounds-fill-end-in-Ok c = sym (length-take-le _ c.args.first.now (room _ (not_short (goal.at.slice_bounds-fill-end-in-Ok c).Else-too_short) (when_accepted _ _ _ _ c.check.ensures c.in-Ok.is) c.table_size-n.ensures.0).0)
 
 pub slice_bounds-fill-end-in-Ok-2 : goal.slice_bounds-fill-end-in-Ok-2
-slice_bounds-fill-end-in-Ok-2 c = (room _ (not_short (goal.at.slice_bounds-fill-end-in-Ok-2 c).Else-too_short) (when_accepted _ _ _ _ c.check.ensures c.in-Ok.is) c.table_size-n.ensures.0).1
+slice_bounds-fill-end-in-Ok-2 c = omega (arith, (room _ (not_short (goal.at.slice_bounds-fill-end-in-Ok-2 c).Else-too_short) (when_accepted _ _ _ _ c.check.ensures c.in-Ok.is) c.table_size-n.ensures.0).1)
 
 pub slice_bounds-fill-end-in-Ok-3 : goal.slice_bounds-fill-end-in-Ok-3
-slice_bounds-fill-end-in-Ok-3 c = sym (length-take-le _ c.args.second.now (room _ (not_short (goal.at.slice_bounds-fill-end-in-Ok-3 c).Else-too_short) (when_accepted _ _ _ _ c.check.ensures c.in-Ok.is) c.table_size-n.ensures.0).1)
+slice_bounds-fill-end-in-Ok-3 c =
+    sym (length-take-le _ c.args.second.now (omega (arith, (room _ (not_short (goal.at.slice_bounds-fill-end-in-Ok-3 c).Else-too_short) (when_accepted _ _ _ _ c.check.ensures c.in-Ok.is) c.table_size-n.ensures.0).1)))
 
 pub returns-in-Err : goal.returns-in-Err
 returns-in-Err c =

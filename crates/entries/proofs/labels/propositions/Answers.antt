@@ -1,12 +1,12 @@
 -- `entries::propositions` meets its contract: the meets over the propositions below p.
-use Rattle.std.proofs.Common.{ℕ, refl, ap, arith, bit_and}
+use Rattle.std.proofs.Common.{ℕ, refl, ap, arith, bit_and, length-take-le}
 use Rattle.theory.specs.Part.{model_of}
 use Rattle.entries.specs.Words.{row_folded_none, row_folded_more}
 use Rattle.entries.specs.Codes.{iff_code}
 use Rattle.entries.proofs.labels.propositions.Goals as goal
 
 pub loop-p-init : goal.loop-p-init
-loop-p-init c = row_folded_none (record { at = λ q l. c.fill.ensures.clones q 0 (omega (arith, c.requires.1)) refl })
+loop-p-init c = row_folded_none (record { at = λ q l. c.fill.ensures.clones q 0 (omega (arith, length-take-le c.states.result c.args.out.now (omega (arith, c.states.ensures, c.requires.1)), c.states.ensures)) refl })
 
 pub loop-p-preserved : goal.loop-p-preserved
 loop-p-preserved c =

@@ -5,11 +5,11 @@ use Rattle.elements.specs.Words.{code_in}
 use Rattle.elements.specs.Laws.{within-refl, within_trans, and_left}
 use Rattle.entries.specs.Words.{row_folded_none, row_folded_more, replaced_same, replaced_part}
 use Rattle.rounds.specs.Codes.{by_column}
-use Rattle.rounds.specs.Early.{joins_end}
+use Rattle.rounds.specs.Early.{joins_end, top_of}
 use Rattle.rounds.proofs.columns.join_columns.Goals as goal
 
 pub loop-r-init : goal.loop-r-init
-loop-r-init c = row_folded_none c.requires.3
+loop-r-init c = row_folded_none c.requires.2
 
 pub loop-r-preserved-then-c-eq0 : goal.loop-r-preserved-then-c-eq0
 loop-r-preserved-then-c-eq0 c =
@@ -18,7 +18,7 @@ loop-r-preserved-then-c-eq0 c =
     let t : ℕ → ℕ = λ i. get_or a.table.now (r * 64 + i) 0 in
     row_folded_more c.loop-r.invariant
     (replaced_same (λ i l. sym (ap (bit_or (get_or c.loop-r.row i 0)) (ap (λ (x : ℕ). bit_and x (t i)) c.if-c-eq0.true ∙ and_zero_l (t i)) ∙ or_zero_r (get_or c.loop-r.row i 0))))
-    (λ q x. ap (λ (y : ℕ). bit_or x (bit_and y (by_column a.table.now q r))) (c.code-c.ensures ∙ ap (code_in a.w.now.words) c.transition.ensures))
+    (λ q x. ap (λ (y : ℕ). bit_or x (bit_and y (by_column a.table.now q r))) (c.code-c.ensures ∙ ap (code_in a.a.now.codes.now.words) c.transition.ensures))
 
 pub returns-then-all_are : goal.returns-then-all_are
 returns-then-all_are c =
@@ -29,8 +29,8 @@ returns-then-all_are c =
     joins_end
     (row_folded_more c.loop-r.invariant
     (replaced_part (λ x y. bit_or x (bit_and k y)) a.table.now (r * 64) _ (omega arith) (rw n at (c.replace.ensures (λ x y. bit_or x (bit_and k y)) (λ x y z e. search rules))))
-    (λ q x. ap (λ (y : ℕ). bit_or x (bit_and y (by_column a.table.now q r))) (c.code-c.ensures ∙ ap (code_in a.w.now.words) c.transition.ensures)))
-    (record { at = λ i l. rw (c.all_are.ensures c.if-all_are.true i (omega arith)) (within-refl a.top) }) (λ q i. within_trans (and_left _ _) (c.requires.0.at _)) (omega arith)
+    (λ q x. ap (λ (y : ℕ). bit_or x (bit_and y (by_column a.table.now q r))) (c.code-c.ensures ∙ ap (code_in a.a.now.codes.now.words) c.transition.ensures)))
+    (record { at = λ i l. rw (c.all_are.ensures c.if-all_are.true i (omega arith)) (within-refl c.code-top.result) }) (λ q i. within_trans (and_left _ _) ((top_of a.a.now.coded c.code-top.ensures).at _)) (omega arith)
 
 pub loop-r-preserved : goal.loop-r-preserved
 loop-r-preserved c =
@@ -40,4 +40,4 @@ loop-r-preserved c =
     let n : length c.loop-r.row ≡ length c.args.row.now = omega arith in
     row_folded_more c.loop-r.invariant
     (replaced_part (λ x y. bit_or x (bit_and k y)) a.table.now (r * 64) _ (omega arith) (rw n at (c.replace.ensures (λ x y. bit_or x (bit_and k y)) (λ x y z e. search rules))))
-    (λ q x. ap (λ (y : ℕ). bit_or x (bit_and y (by_column a.table.now q r))) (c.code-c.ensures ∙ ap (code_in a.w.now.words) c.transition.ensures))
+    (λ q x. ap (λ (y : ℕ). bit_or x (bit_and y (by_column a.table.now q r))) (c.code-c.ensures ∙ ap (code_in a.a.now.codes.now.words) c.transition.ensures))

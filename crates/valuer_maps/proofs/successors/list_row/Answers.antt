@@ -14,8 +14,8 @@ loop-r-preserved c =
     let e = c.from-count.ensures ∙ ap indicator (c.leads.ensures ∙ ap (leads c.args.w.now.words c.args.top) c.transition.ensures) in
     record {
       few = omega (arith, c.from-count.ensures, indicator_most c.leads.result);
-      row = listed_more i.row (omega (arith, c.states-r-end.ensures, c.args.m.now.shape.states_most)) e;
+      row = listed_more i.row (omega (arith, c.args.m.now.shape.states_most)) e;
     }
 
 pub returns : goal.returns
-returns c = listed_all {n = get_or c.args.m.now.bytes.now 0 0} c.loop-r.invariant.row (omega (arith, c.states-r-end.ensures)) (omega (arith, c.states-r-end.ensures)) (omega arith)
+returns c = listed_all {n = get_or c.args.m.now.bytes.now 0 0} c.loop-r.invariant.row (omega arith) (omega arith) (omega arith)

@@ -17,25 +17,22 @@ everywhere {x = x} e z = e ∙ ap (λ (n : ℕ). replicate n x) z
 
 -- ---- iterate
 
-pub iterate-loop-left-init : goal.iterate-loop-left-init
-iterate-loop-left-init t c = (omega arith, turned_none (omega arith))
+pub iterate-loop-init : goal.iterate-loop-init
+iterate-loop-init t c = turned_none (omega arith)
 
 pub iterate-node-next-requires : goal.iterate-node-next-requires
 iterate-node-next-requires t c = (omega (arith, c.decreases), c.requires)
 
-pub iterate-returns-then-left-eq0 : goal.iterate-returns-then-left-eq0
-iterate-returns-then-left-eq0 t c = turned_all c.loop-left.invariant.1 c.node-next.ensures (omega (arith, c.round_limit-left.ensures))
-
 pub iterate-returns-then-same : goal.iterate-returns-then-same
 iterate-returns-then-same t c =
-    turned_still c.loop-left.invariant.1 c.node-next.ensures c.args.self.now.over.coded (omega (arith, c.round_limit-left.ensures))
+    turned_still c.loop.invariant (rw (c.under.ensures.0, c.under.ensures.1, c.under.ensures.2) at c.node-next.ensures) c.args.self.now.over.coded (omega (arith, c.round_limit-end.ensures))
     c.states-n.result (omega (arith, c.states-n.ensures)) (sym c.same.ensures ∙ c.if-same.true)
 
-pub iterate-loop-left-smaller : goal.iterate-loop-left-smaller
-iterate-loop-left-smaller t c = omega arith
+pub iterate-loop-preserved : goal.iterate-loop-preserved
+iterate-loop-preserved t c = turned_more c.loop.invariant (rw (c.under.ensures.0, c.under.ensures.1, c.under.ensures.2) at c.node-next.ensures) _ (omega arith)
 
-pub iterate-loop-left-preserved : goal.iterate-loop-left-preserved
-iterate-loop-left-preserved t c = (omega arith, turned_more c.loop-left.invariant.1 c.node-next.ensures _ (omega arith))
+pub iterate-returns : goal.iterate-returns
+iterate-returns t c = turned_all c.loop.invariant (rw (c.under-2.ensures.0, c.under-2.ensures.1, c.under-2.ensures.2) at c.node-next-2.ensures) (omega (arith, c.round_limit-end.ensures))
 
 -- ---- second
 

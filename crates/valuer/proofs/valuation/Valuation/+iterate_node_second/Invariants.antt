@@ -1,5 +1,5 @@
 -- The measure of the cycle is twice the bytes left, and one more for `iterate` and `second`. In the iteration's loop it is the rounds left.
-use Rattle.std.proofs.Common.{◌+◌, ◌-◌, ◌*◌, ◌≤◌, length}
+use Rattle.std.proofs.Common.{◌+◌, ◌-◌, ◌*◌, length}
 use Rattle.valuer.proofs.Rounds.{Turned}
 use Rattle.valuer.proofs.valuation.Valuation.+iterate_node_second.Given as goal
 
@@ -12,9 +12,6 @@ decreases-second l = (length l.self.now.formula.now - l.at) * 2 + 1
 abbrev pub decreases-node : goal.decreases-node
 decreases-node l = (length l.self.now.formula.now - l.at) * 2
 
--- as many rounds were taken as `left` has fallen by, and `current` is what they gave
-abbrev pub invariant-iterate-loop-left : goal.invariant-iterate-loop-left
-invariant-iterate-loop-left l = (l.left ≤ l.initial.left) × Turned l.self.successors.codes.now.words l.self.successors.lattice l.self.successors.model.bytes.now l.self.formula.now l.body l.scope.near.now l.scope.mid.now l.start (l.initial.left - l.left) l.current
-
-abbrev pub decreases-iterate-loop-left : goal.decreases-iterate-loop-left
-decreases-iterate-loop-left l = l.left
+-- as many rounds were taken as the loop has turned, and `current` is what they gave
+abbrev pub invariant-iterate-loop : goal.invariant-iterate-loop
+invariant-iterate-loop l = Turned l.self.successors.codes.now.words l.self.successors.lattice l.self.successors.model.bytes.now l.self.formula.now l.body l.scope.near.now l.scope.mid.now l.start l.counter l.current
