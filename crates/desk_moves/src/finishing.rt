@@ -1,5 +1,5 @@
 // The call that works the rows of the round that are left.
-ghost use Rattle.std.specs.Prelude.{◌≡◌, ◌*◌, ◌≤◌, ◌<◌, length, get_or};
+ghost use Rattle.std.specs.Prelude.{◌≡◌, ◌<◌, get_or};
 ghost use Rattle.rounds.specs.Table.{Room};
 ghost use Rattle.rounds.specs.Rest.{RestIn};
 ghost use Rattle.desk.specs.RoundLeft.{Finishes};
@@ -9,10 +9,10 @@ ghost use Rattle.desk_moves.specs.Stepped.{Movable};
 ghost use Rattle.desk_moves.specs.Finished.{round_by};
 
 use crate::Stepped;
-use crate::stepping::{answered, next_round};
+use crate::stepping::{answered, begun, next_round};
 use desk_check::{Desk, Standing};
 use elements::{Algebra, Codes};
-use entries::{Models, Table};
+use entries::Table;
 use model::State;
 
 // Works the rows of F of the whole table from row `from` to the last into the other; says whether one of them differs from the whole table's.
@@ -31,20 +31,16 @@ fn work_rows(a: &Algebra, whole: &Table, other: &mut [u8], from: State) -> bool
 }
 
 // The same. Where no row is worked yet it is a whole round, which finds codes once for all rows.
-fn work_rest(a: &Algebra, models: Models, whole: &[u8], other: &mut [u8], from: State) -> bool
-    requires { (get_or models.first.bytes.now 0 0 * get_or models.second.bytes.now 0 0 ≤ length whole.now)
-        × Room models.first.bytes.now models.second.bytes.now other.old × (from.0 < get_or models.first.bytes.now 0 0) }
-    ensures { RestIn a.now.codes.now.words a.now.lattice models.entry.first.bytes.now models.entry.second.bytes.now whole.now
+fn work_rest(a: &Algebra, whole: &Table, other: &mut [u8], from: State) -> bool
+    requires { Room whole.now.models.first.bytes.now whole.now.models.second.bytes.now other.old
+        × (from.0 < get_or whole.now.models.first.bytes.now 0 0) }
+    ensures { RestIn a.now.codes.now.words a.now.lattice whole.now.models.first.bytes.now whole.now.models.second.bytes.now whole.now.bytes.now
         from.0 other.old other.new result }
 {
-    let table = Table {
-        models,
-        bytes: whole,
-    };
     if from.0 == 0 {
-        rounds::round(a, &table, other)
+        rounds::round(a, whole, other)
     } else {
-        work_rows(a, &table, other, from)
+        work_rows(a, whole, other, from)
     }
 }
 
@@ -69,26 +65,29 @@ pub fn finish_round(s: Standing, store: &[u8], first: &mut [u8], second: &mut [u
         first,
         second,
     };
-    match d.examine(&mut w) {
-        Err(f) => Stepped {
-            standing: s,
-            answer: Err(f),
-        },
+    match begun(d, &mut w) {
+        Err(x) => x,
         Ok(z) => {
-            if s.settled {
-                return answered(s);
-            }
             let algebra = Algebra {
                 codes: &w,
                 lattice: z.lattice,
             };
             let models = d.models();
-            // Two branches, as in step.
+            // Two branches, as in step. One frame for both calls, with closures, is no plainer: it would ask of its closures, for all desks, what the two
+            // contracts Does and Finishes say of each branch.
             if s.second_whole {
-                let differs = work_rest(&algebra, models, second, first, State(s.row));
+                let table = Table {
+                    models,
+                    bytes: second,
+                };
+                let differs = work_rest(&algebra, &table, first, State(s.row));
                 return answered(round_done(s, differs, second, first));
             }
-            let differs = work_rest(&algebra, models, first, second, State(s.row));
+            let table = Table {
+                models,
+                bytes: first,
+            };
+            let differs = work_rest(&algebra, &table, second, State(s.row));
             answered(round_done(s, differs, first, second))
         }
     }

@@ -1,32 +1,20 @@
 // The call that works the next row.
-ghost use Rattle.std.specs.Prelude.{◌≡◌, ◌+◌, ◌*◌, ◌≤◌, ◌<◌, length, get_or};
-ghost use Rattle.rounds.specs.Table.{Room, RowIn};
+ghost use Rattle.std.specs.Prelude.{◌≡◌, ◌+◌, false, IfOk, IfErr};
 ghost use Rattle.desk.specs.Desk.{Call};
 ghost use Rattle.desk.specs.Moved.{next_round, step_answer};
-ghost use Rattle.desk_check.specs.Read.{standing_of, desk_of};
+ghost use Rattle.desk.specs.RoundLeft.{Finishes};
+ghost use Rattle.desk_check.specs.Read.{standing_of, desk_of, desk_in};
+ghost use Rattle.desk_check.specs.Held.{HeldDesk};
 ghost use Rattle.desk_check.specs.Answer.{Does};
 ghost use Rattle.desk_moves.specs.Answer.{progress_reply, step_reply, Leaves};
 ghost use Rattle.desk_moves.specs.Stepped.{Movable, differing_for, moved_by};
 
 use crate::{Progress, Stepped};
+use casefile::Sizes;
 use desk_check::{Desk, Standing};
 use elements::{Algebra, Codes};
-use entries::{Models, Table};
+use entries::Table;
 use model::State;
-
-// Works a row of F of the whole table into the other; says whether it differs from the whole table's.
-fn work_row(a: &Algebra, models: Models, whole: &[u8], other: &mut [u8], row: State) -> bool
-    requires { (get_or models.first.bytes.now 0 0 * get_or models.second.bytes.now 0 0 ≤ length whole.now)
-        × Room models.first.bytes.now models.second.bytes.now other.old × (row.0 < get_or models.first.bytes.now 0 0) }
-    ensures { RowIn a.now.codes.now.words a.now.lattice models.entry.first.bytes.now models.entry.second.bytes.now whole.now
-        row.0 other.old other.new result }
-{
-    let table = Table {
-        models,
-        bytes: whole,
-    };
-    rounds::row(a, &table, other, row)
-}
 
 // The standing after the last row of a round that has changed something, or has not: the entries in which the two tables differ are counted.
 pub fn next_round(s: Standing, changed: bool, whole: &[u8], other: &[u8]) -> Standing
@@ -87,6 +75,30 @@ pub fn answered(s: Standing) -> Stepped
     }
 }
 
+// The sizes of a desk that is held and not settled, or what step and finish_round give of any other; the codes of its lattice are left in w.
+pub fn begun(d: Desk, w: &mut Codes) -> Result<Sizes, Stepped>
+    ensures held { IfOk result (λ z. HeldDesk (desk_in d.entry) z w.new.words) }
+    ensures unsettled { IfOk result (λ z. d.entry.standing.settled ≡ false) }
+    ensures stepped { IfErr result (λ x. Does Call.Step (desk_in d.entry)
+        (step_reply x.answer) (desk_of x.standing d.entry.store.now d.entry.first.now d.entry.second.now)) }
+    ensures finished { IfErr result (λ x. Finishes (desk_in d.entry)
+        (step_reply x.answer) (desk_of x.standing d.entry.store.now d.entry.first.now d.entry.second.now)) }
+{
+    match d.examine(w) {
+        Err(f) => Err(Stepped {
+            standing: d.standing,
+            answer: Err(f),
+        }),
+        Ok(z) => {
+            if d.standing.settled {
+                Err(answered(d.standing))
+            } else {
+                Ok(z)
+            }
+        }
+    }
+}
+
 // Works the next row of the next round in the table that is not whole; a settled desk answers Settled again.
 pub fn step(s: Standing, store: &[u8], first: &mut [u8], second: &mut [u8]) -> Stepped
     ensures { Does Call.Step (desk_of s store.now first.old second.old)
@@ -99,15 +111,9 @@ pub fn step(s: Standing, store: &[u8], first: &mut [u8], second: &mut [u8]) -> S
         first,
         second,
     };
-    match d.examine(&mut w) {
-        Err(f) => Stepped {
-            standing: s,
-            answer: Err(f),
-        },
+    match begun(d, &mut w) {
+        Err(x) => x,
         Ok(z) => {
-            if s.settled {
-                return answered(s);
-            }
             let algebra = Algebra {
                 codes: &w,
                 lattice: z.lattice,
@@ -115,10 +121,18 @@ pub fn step(s: Standing, store: &[u8], first: &mut [u8], second: &mut [u8]) -> S
             let models = d.models();
             // Two branches, since a choice of one `&mut` of two gets no generated proof.
             if s.second_whole {
-                let differs = work_row(&algebra, models, second, first, State(s.row));
+                let table = Table {
+                    models,
+                    bytes: second,
+                };
+                let differs = rounds::row(&algebra, &table, first, State(s.row));
                 return answered(moved_on(s, differs, second, first));
             }
-            let differs = work_row(&algebra, models, first, second, State(s.row));
+            let table = Table {
+                models,
+                bytes: first,
+            };
+            let differs = rounds::row(&algebra, &table, second, State(s.row));
             answered(moved_on(s, differs, first, second))
         }
     }
