@@ -77,7 +77,8 @@ impl Standing {
         self.row < n1 && (self.row != 0 || !self.changed)
     }
 
-    // Unsettled, the round is at most `most`; settled, it is 1 to one more and next row is 0.
+    // Unsettled, the round is at most `most`; settled, it is 1 to one more and next row is 0. Round and lowerings are widened by `as`: a usize has no
+    // `From` of a u32.
     fn round_obeys(self, most: usize) -> bool
         requires { most < 16777216 }
         ensures { result ≡ round_obeys most (standing_of self) }

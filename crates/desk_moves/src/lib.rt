@@ -3,7 +3,9 @@
 //   opening: `open`
 //   stepping: `step`
 //   finishing: `finish_round`, which is so many steps
-// Store and tables are parameters of their own, and no struct with the standing: these calls lend some of them to be written into, each other ones.
+// Store and tables are parameters of their own, and no struct with the standing: each call lends others of them to be written into.
+// A state is made by `as` of the number of a row, which is below 64. That a standing can be moved on (`Movable`) stays a clause: it speaks of two tables,
+// of which one is lent to be written until then.
 #![tactic(auto)]
 
 mod finishing;

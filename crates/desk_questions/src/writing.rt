@@ -9,6 +9,7 @@ use elements::Codes;
 use refusal::Refusal;
 
 // Writes the case without gaps at the front of a buffer, and says how many bytes it has. The bytes after it are unchanged.
+// The length, which fits, is a u32 by `as`: there is no `From` of a usize.
 pub fn write(d: Desk, out: &mut [u8]) -> Result<u32, Refusal>
     ensures { AsksWith (out.new ∷ []) (Question.Write out.old) (desk_in d.entry) (length_reply result) }
 {

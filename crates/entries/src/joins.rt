@@ -48,9 +48,9 @@ pub(crate) fn list_blocks(row: &[u64; 64], n: usize, starts: &mut [usize; 4]) ->
     count
 }
 
-// (64 words and a count of states: blocks of 16 are read whole, so that the zeros past the states count.)
 // The transitions that leave a state of model 2, in codes: those to its states, and 0 from there on; where the blocks of 16 of them begin that are not
-// all 0; and whether a join over them can be top.
+// all 0; and whether a join over them can be top. 64 words and a count of states, since blocks of 16 are read whole, and with them the zeros; that as many
+// codes of a table's row stand beside them is a clause of the four functions that join the two.
 #[derive(Clone, Copy)]
 pub(crate) struct Leaving<'a> {
     pub top: u64,

@@ -1,4 +1,4 @@
-// The propositions' part of a row's entries.
+// The propositions' part of a row's entries. States and propositions are made by `as` of numbers that fit: there is no `From` of a usize.
 ghost use Rattle.std.specs.Prelude.{◌≡◌, ◌≤◌, ◌<◌, length, get_or};
 ghost use Rattle.std.specs.Int.Bits.{bit_and};
 ghost use Rattle.theory.specs.Part.{model_of};

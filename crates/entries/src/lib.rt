@@ -5,6 +5,7 @@
 //   labels: what the propositions give, for all entries of a row
 //   row: what the entries of a row have in common
 //   joins: the joins over the states of model 2
+// A state is made by `as` of a number that is a place too: there is no `From` of a usize.
 #![tactic(auto)]
 
 mod joins;

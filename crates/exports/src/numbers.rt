@@ -39,10 +39,7 @@ fn answer<T, F: FnOnce(T) -> Answer>(a: Result<T, Refusal>, given: F) -> Answer
     ensures ok { IfOk a (λ x. F.post given x result) }
     ensures err { IfErr a (λ f. result ≡ numbers (number_reply f)) }
 {
-    match a {
-        Err(f) => refused(f),
-        Ok(x) => given(x),
-    }
+    a.map_or_else(refused, given)
 }
 
 pub fn opened(a: Result<(), Refusal>) -> Answer

@@ -63,6 +63,7 @@ pub extern "C" fn koelchair_entry<'a>(
                 number: 0,
                 part: 0,
                 value: e.value.0,
+                // At most 4,096; there is no `From` of a usize.
                 pairs: e.pairs as u32,
             }
         }

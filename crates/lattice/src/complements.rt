@@ -56,7 +56,7 @@ impl Part<'_> {
         codes[usize::from(a.0)]
     }
 
-    // The words at all places.
+    // The words at all places, by their numbers, as `words_by` says.
     pub(crate) fn fill_words(self, codes: &[u64], w: &mut Codes)
         requires { length codes.now ≡ (lattice_of self.bytes.now).size }
         ensures { Filled (words_by (lattice_of self.entry.bytes.now) codes.now) 128 w.new.words }

@@ -43,7 +43,7 @@ impl<'a> Accepted<'a> {
         Model { bytes }
     }
 
-    // Both models.
+    // Both models, as `Desk::models` makes a desk's: those of a case that is answered, and not of a store that is held.
     pub fn models(&self) -> Models<'a>
         ensures { (result.first.bytes.now ≡ part_at self.now.bytes.now 1) × (result.second.bytes.now ≡ part_at self.now.bytes.now 2) }
     {

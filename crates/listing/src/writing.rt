@@ -13,6 +13,7 @@ pub struct Text<'a> {
     pub at: usize,
 }
 
+// The byte of a digit, by `as`, as a state of a row's number below: both fit, and there is no `From` of a usize.
 fn digit(n: usize) -> u8
     requires { n < 10 }
     ensures { result ≡ 48 + n }

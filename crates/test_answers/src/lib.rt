@@ -15,10 +15,7 @@ fn answer<P: Print, T, F: FnOnce(T) -> io::Result<()>>(
 ) -> io::Result<()>
     requires { F.IsAlwaysCallable given }
 {
-    match a {
-        Err(r) => refused(rt, r),
-        Ok(x) => given(x),
-    }
+    a.map_or_else(|r| refused(rt, r), given)
 }
 
 // That a case was taken.

@@ -13,7 +13,7 @@ use test_printing::{at, say};
 
 // ---- the calls
 
-// Store and tables are parameters of their own, as in desk_moves: these calls lend some of them to be written into, each other ones.
+// Store and tables are parameters of their own, as in desk_moves: each call lends others of them to be written into.
 
 fn open(
     rt: &impl Print,

@@ -14,7 +14,7 @@ fn run(rt: &impl Print, name: &str, part: &[u8]) -> io::Result<()> {
     }
 }
 
-// The order of a chain of n elements.
+// The order of a chain of n elements; n is at most 65 in this program, and a byte by `as`, there being no `From`.
 fn chain_order(part: &mut [u8], n: usize)
     requires { (1 ≤ n) × (n ≤ 65) × (1 + n + n * n ≤ length part.old) }
 {

@@ -7,7 +7,7 @@ use elements::Element;
 use model::State;
 use std::io;
 
-// Store and tables are parameters of their own, as in desk_moves: these calls lend some of them to be written into, each other ones.
+// Store and tables are parameters of their own, as in desk_moves: each call lends others of them to be written into.
 
 // ---- what is printed
 

@@ -2,7 +2,8 @@
 ghost use Rattle.std.specs.Prelude.{◌≡◌, ◌≤◌, ◌<◌, length};
 ghost use Rattle.test_limits.specs.Full.{Full};
 
-// What an array is filled with: a lattice part, one of two model parts, a table, a formula.
+// What an array is filled with: a lattice part, one of two model parts, a table, a formula. A name and no closure, since callers pass it on, and what each
+// holds is said in one place. A byte is made by `as` of a number that fits: there is no `From` of a usize. That n is 9 to 64 is this program's own.
 #[derive(Clone, Copy)]
 pub enum Filling {
     Chain,

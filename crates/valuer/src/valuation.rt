@@ -25,7 +25,8 @@ impl<'a> Valuation<'a> {
     }
 
     // The formula at place `at`, whose variables have the maps of `scope`. Its values are written into out; the answer is the place after it.
-    // `spare` is room for a map, lent since an array here would be one more for each level of nesting.
+    // `spare` is room for a map, lent since an array here would be one more for each level of nesting. That a formula stands at the place is a clause, of
+    // this and of the two below: each call has a place of its own.
     #[cycle(iterate_node_second)]
     pub fn node(
         &self,
