@@ -3,10 +3,10 @@
 --   decode_code, decode_is: an element is found by its code
 --   meet_lt, join_lt, complement_lt: the results are elements; meet_code_lem, join_code_lem, complement_code: their codes
 --   guess_is: an element that has the code is the one that is found
---   first_some, first_none: what `position` finds among the first 64 words is that number
-use Rattle.std.specs.Prelude.{ℕ, ◌%◌, ◌<◌, ◌≡◌, Bool, List, eqb, length, get_or, drop}
-use Rattle.std.specs.List.{slice_range, AllWithin, HoldsAt}
-use Rattle.std.proofs.lemmas.List.{get_or-take, get_or-drop}
+--   first_some, first_none: which number `find` finds among the first 64
+use Rattle.std.specs.Prelude.{ℕ, ◌%◌, ◌<◌, ◌≡◌, Bool, List, eqb, length, get_or}
+use Rattle.std.specs.List.{range_with_len, AllWithin, HoldsAt}
+use Rattle.std.proofs.lemmas.List.FromFn.{length-range_with_len, get_or-range_with_len}
 use Rattle.std.proofs.Math.Path.{refl}
 use Rattle.std.proofs.Common.{sym, ap, ap₂, ◌∙◌, le_refl, zero-add, arith}
 use Rattle.std.proofs.Math.Bool.{true, false, cond}
@@ -93,24 +93,25 @@ module _ {w : List ℕ} {l : Lattice} (c : Coded w l) where
       let z : a % 64 ≡ a = omega arith in
       sym (decode_is a x h (ap (λ (i : ℕ). get_or w i 0) (sym z) ∙ e))
 
--- ---- where `position` finds a code among the first 64 words
+-- ---- which number `find` finds among the first 64
 
-within_64 : (w : List ℕ) (i : ℕ) → i < 64 → get_or (slice_range w 0 64) i 0 ≡ get_or w i 0
-within_64 w i l = get_or-take 64 (drop 0 w) i 0 l ∙ get_or-drop 0 w i 0 ∙ ap (λ (j : ℕ). get_or w j 0) (zero-add i)
+number_at : (i : ℕ) → i < 64 → get_or (range_with_len 0 64) i 0 ≡ i
+number_at i l = get_or-range_with_len 0 64 i 0 l ∙ zero-add i
 
-pub first_some : (w : List ℕ) (x a : ℕ) → length (slice_range w 0 64) ≡ 64 → (a < length (slice_range w 0 64)) × HoldsAt (λ y. y ≡ x) (slice_range w 0 64) a × AllWithin (λ y. y ≡ x → ⊥) (slice_range w 0 64) 0 a → a ≡ decode_in w x
-first_some w x a n h =
-    let l : a < 64 = omega (arith, h.0, n) in
+pub first_some : (w : List ℕ) (x a : ℕ) → (get_or w a 0 ≡ x) × (i : ℕ) × (i < length (range_with_len 0 64)) × HoldsAt (λ b. b ≡ a) (range_with_len 0 64) i × AllWithin (λ b. get_or w b 0 ≡ x → ⊥) (range_with_len 0 64) 0 i → a ≡ decode_in w x
+first_some w x a h =
+    let l : h.1 < 64 = rw length-range_with_len at h.2 in
+    let e : h.1 ≡ a = sym (number_at h.1 l) ∙ h.3 0 in
     first_unique 64 _ _ (record {
-      most = omega (arith, l);
-      passes = λ k. eq-eqb _ _ (sym (within_64 w a l) ∙ h.1 0);
-      earlier = λ i k. rw (← within_64 w i (omega (arith, l, k))) (ne_eqb _ _ (h.2 i 0 (omega arith) k));
+      most = omega (arith, l, e);
+      passes = λ k. eq-eqb _ _ h.0;
+      earlier = λ i k. let m : i < h.1 = omega (arith, k, e) in ne_eqb _ _ (λ q. h.4 i 0 (omega arith) m (ap (λ (j : ℕ). get_or w j 0) (number_at i (omega (arith, m, l))) ∙ q));
     })
 
-pub first_none : (w : List ℕ) (x : ℕ) → length (slice_range w 0 64) ≡ 64 → AllWithin (λ y. y ≡ x → ⊥) (slice_range w 0 64) 0 (length (slice_range w 0 64)) → 64 ≡ decode_in w x
-first_none w x n h =
+pub first_none : (w : List ℕ) (x : ℕ) → AllWithin (λ b. get_or w b 0 ≡ x → ⊥) (range_with_len 0 64) 0 (length (range_with_len 0 64)) → 64 ≡ decode_in w x
+first_none w x h =
     first_unique 64 _ _ (record {
       most = le_refl _;
       passes = λ k. absurd (omega arith);
-      earlier = λ i k. rw (← within_64 w i k) (ne_eqb _ _ (h i 0 (omega arith) (omega (arith, k, n))));
+      earlier = λ i k. ne_eqb _ _ (λ q. (rw length-range_with_len at h) i 0 (omega arith) k (ap (λ (j : ℕ). get_or w j 0) (number_at i k) ∙ q));
     })

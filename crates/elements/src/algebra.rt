@@ -22,9 +22,8 @@ impl<'a> Algebra<'a> {
         if guess.0 < self.lattice.size && self.codes.code(guess) == x {
             return guess;
         }
-        // `as`, as a place among 64 is within a byte: there is no `From`, and `try_from` would bring an `unwrap`.
-        match self.codes.words[..64].iter().position(|y| *y == x) {
-            Some(a) => Element(a as u8),
+        match (0..64).find(|&a| self.codes.words[usize::from(a)] == x) {
+            Some(a) => Element(a),
             None => Element(64),
         }
     }

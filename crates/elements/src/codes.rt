@@ -7,7 +7,7 @@ ghost use Rattle.elements.specs.Words.{code_in, negated_code_in, value_code, wit
 use crate::Element;
 
 // The codes of a lattice: that of element i at place i, that of its complement at 64 + i.
-#[derive(Drop)]
+#[derive(Clone, Copy, PartialEq, Eq)]
 pub struct Codes {
     pub words: [u64; 128],
 }
