@@ -23,11 +23,11 @@ pub fn join_met(x: u64, row: &[u64], codes: &[u64]) -> u64
     requires { length row.now ≤ length codes.now }
     ensures { result ≡ words_met x row.now codes.now }
 {
-    let mut y = x;
+    let mut joined = x;
     for (i, r) in row.iter().enumerate() {
-        y = y | (*r & codes[i]);
+        joined = joined | (*r & codes[i]);
     }
-    y
+    joined
 }
 
 // Writes where the blocks of 16 words of `row` begin that are not all 0, and says how many there are. From place n on all words are 0. It goes by numbers,

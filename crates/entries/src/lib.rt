@@ -47,7 +47,8 @@ pub(crate) struct CodeAndPairs {
 // The codes of a table's entries, 64 to a row. (By places: of what a loop over `chunks_exact_mut` writes a proof knows the length alone.)
 fn encode_rows(w: &Codes, t: &Table, out: &mut [u64])
     requires { get_or t.now.models.first.bytes.now 0 0 * 64 ≤ length out.old }
-    ensures { Rows (table_code w.now.words t.now.bytes.now (get_or t.now.models.second.bytes.now 0 0)) (get_or t.now.models.first.bytes.now 0 0) (get_or t.now.models.second.bytes.now 0 0) out.new }
+    ensures { Rows (table_code w.now.words t.now.bytes.now (get_or t.now.models.second.bytes.now 0 0))
+        (get_or t.now.models.first.bytes.now 0 0) (get_or t.now.models.second.bytes.now 0 0) out.new }
 {
     let n2 = t.models.second.states();
     for q in 0..t.models.first.states() {
@@ -123,7 +124,8 @@ fn meet(x: u64, left: &[u64], r: &Leaving, table: &[u64]) -> CodeAndPairs
 // Entry (q1, q2) of F of a table, from what was prepared for its row, whatever the propositions give.
 fn work_entry(r: &Row, q2: State) -> Entry
     requires { q2.0 < get_or r.now.table.models.second.bytes.now 0 0 }
-    ensures { EntryIs r.now.algebra.codes.now.words r.now.algebra.lattice r.now.table.models.first.bytes.now r.now.table.models.second.bytes.now r.now.table.bytes.now
+    ensures { EntryIs r.now.algebra.codes.now.words r.now.algebra.lattice
+        r.now.table.models.first.bytes.now r.now.table.models.second.bytes.now r.now.table.bytes.now
         r.now.q1.0 q2.0 result.value.0 result.pairs }
 {
     let algebra = &r.algebra;
@@ -152,7 +154,8 @@ fn work_entry(r: &Row, q2: State) -> Entry
 // The same. Where the propositions meet in bottom, nothing else is done.
 pub fn entry_from(r: &Row, q2: State) -> Entry
     requires { q2.0 < get_or r.now.table.models.second.bytes.now 0 0 }
-    ensures { EntryIs r.now.algebra.codes.now.words r.now.algebra.lattice r.now.table.models.first.bytes.now r.now.table.models.second.bytes.now r.now.table.bytes.now
+    ensures { EntryIs r.now.algebra.codes.now.words r.now.algebra.lattice
+        r.now.table.models.first.bytes.now r.now.table.models.second.bytes.now r.now.table.bytes.now
         r.now.q1.0 q2.0 result.value.0 result.pairs }
 {
     if r.alike[usize::from(q2.0)] == 0 {

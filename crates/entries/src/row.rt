@@ -16,7 +16,8 @@ pub struct Row<'a> {
     pub left: &'a [u64],
     pub codes: &'a [u64],
     pub ghost here: { q1.0 < get_or table.models.first.bytes.now 0 0 },
-    pub ghost prepared: { Prepared algebra.codes.now.words algebra.lattice table.models.first.bytes.now table.models.second.bytes.now table.bytes.now q1.0 alike.now left.now codes.now },
+    pub ghost prepared: { Prepared algebra.codes.now.words algebra.lattice table.models.first.bytes.now table.models.second.bytes.now table.bytes.now
+        q1.0 alike.now left.now codes.now },
     pub ghost for_each: { get_or table.models.second.bytes.now 0 0 ≤ length alike.now },
     pub ghost to_each: { get_or table.models.first.bytes.now 0 0 ≤ length left.now },
 }

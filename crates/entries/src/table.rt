@@ -26,7 +26,8 @@ impl<'a> Table<'a> {
     // The entries of row q1.
     pub fn row(&self, q1: State) -> &'a [u8]
         requires { q1.0 < get_or self.now.models.first.bytes.now 0 0 }
-        ensures { (result.now ≡ take (get_or self.now.models.second.bytes.now 0 0) (drop (q1.0 * get_or self.now.models.second.bytes.now 0 0) self.now.bytes.now))
+        ensures { (result.now ≡ take (get_or self.now.models.second.bytes.now 0 0)
+            (drop (q1.0 * get_or self.now.models.second.bytes.now 0 0) self.now.bytes.now))
             × (length result.now ≡ get_or self.now.models.second.bytes.now 0 0) }
     {
         let bytes = self.bytes;
