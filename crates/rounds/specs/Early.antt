@@ -1,17 +1,19 @@
 -- Rows of words whose joins have all reached the top, or whose meets have all reached bottom: no more turns are needed. Rests on entries' Words and
 -- Codes, and elements' Words, Folds and Laws.
 --   TopOf, top_of: the word that all codes are within
---   AtTop, Lower, lower_none, lower_more, at_top: all words of a row are top, by their meet; joins_end: then their joins are whole
---   AtBottom, upper_none, upper_more, at_bottom: all words of a row are 0, by their join; meets_end: then their meets are whole
-use Rattle.std.specs.Prelude.{ℕ, ◌+◌, ◌≤◌, ◌<◌, ◌≡◌, List, length, get_or, set}
-use Rattle.std.proofs.Common.{sym, ◌∙◌, ⊎_elim, not-suc-le-zero, eq-or-lt_of_le, arith, get_or-set_same, get_or-set_other}
+--   AtTop, Lower, lower_none, lower_more, at_top, lower_fold: all words of a row are top, by their meet; joins_end: then their joins are whole
+--   AtBottom, upper_none, upper_more, at_bottom, upper_fold: all words of a row are 0, by their join; meets_end: then their meets are whole
+--   fold_set: one word more of a row is written and folded
+use Rattle.std.specs.Prelude.{ℕ, zero, suc, ◌+◌, ◌≤◌, ◌<◌, ◌≡◌, List, length, get_or, set}
+use Rattle.std.proofs.Common.{sym, ap, ap₂, ◌∙◌, ⊎_elim, not-suc-le-zero, eq-or-lt_of_le, arith, get_or-set_same, get_or-set_other}
 use Rattle.std.specs.Int.Bits.{bit_and, bit_or}
 use Rattle.std.proofs.lemmas.Nat.{and_comm}
 use Rattle.theory.specs.Lists.{Filled}
-use Rattle.theory.specs.Loop.{fold}
+use Rattle.theory.specs.Loop.{fold, fold_cong}
+use Rattle.theory.specs.TestLaws.{below_suc}
 use Rattle.elements.specs.declared.Lattice.{Lattice}
 use Rattle.elements.specs.Words.{code_in, Coded}
-use Rattle.elements.proofs.Folds.{or_stays, and_stays}
+use Rattle.elements.proofs.Folds.{or_member, or_stays, and_stays}
 use Rattle.elements.specs.Laws.{Within, within_trans, and_left, and_right, or_left, or_right}
 use Rattle.entries.specs.Words.{RowFolded}
 use Rattle.entries.specs.Codes.{WithinTop, code_within}
@@ -46,6 +48,16 @@ lower_more {x} {n} {row} v u l = record {
 pub at_top : {x top i n : ℕ} {row : List ℕ} → Lower x i row → n ≤ i → x ≡ top → AtTop top n row
 at_top u l e = record { at = λ k m. rw e at (u.at k (omega arith)) }
 
+-- the meet of the words is within each of them
+pub lower_fold : (x n : ℕ) (row : List ℕ) → Lower (fold bit_and x (λ i. get_or row i 0) n) n row
+unfolding fold
+lower_fold x zero row = lower_none
+lower_fold x (suc n) row =
+    let y = fold bit_and x (λ i. get_or row i 0) n in
+    record {
+      at = below_suc {P = λ i. Within (bit_and y (get_or row n 0)) (get_or row i 0)} (λ i l. within_trans (and_left y (get_or row n 0)) ((lower_fold x n row).at i l)) (and_right y (get_or row n 0));
+    }
+
 -- joins that are all top after k turns are those after all n turns
 pub joins_end : {top m k n : ℕ} {f : ℕ → ℕ → ℕ} {row : List ℕ} → RowFolded bit_or (λ q. 0) f k m row → AtTop top m row → ((q i : ℕ) → Within (f q i) top) → k ≤ n → Filled (λ q. fold bit_or 0 (f q) n) m row
 joins_end {top} {m} {k} {n} {f} {row} h t b l = record {
@@ -75,6 +87,10 @@ upper_more {x} {n} {row} v u l = record {
 pub at_bottom : {x i n : ℕ} {row : List ℕ} → WithinTop x i row → n ≤ i → x ≡ 0 → AtBottom n row
 at_bottom u l e = record { at = λ k m. rw e at (u.at k (omega arith)) }
 
+-- each of the words is within their join
+pub upper_fold : (n : ℕ) (row : List ℕ) → WithinTop (fold bit_or 0 (λ i. get_or row i 0) n) n row
+upper_fold n row = record { at = or_member (λ i. get_or row i 0) n }
+
 -- meets that are all bottom after k turns are those after all n turns
 pub meets_end : {m k n : ℕ} {start : ℕ → ℕ} {f : ℕ → ℕ → ℕ} {row : List ℕ} → RowFolded bit_and start f k m row → AtBottom m row → k ≤ n → Filled (λ q. fold bit_and (start q) (f q) n) m row
 meets_end {m} {k} {n} {start} {f} {row} h t l = record {
@@ -82,3 +98,12 @@ meets_end {m} {k} {n} {start} {f} {row} h t l = record {
       let z : get_or row q 0 ≡ 0 = sym (t.at q j).eq ∙ and_comm (get_or row q 0) 0 in
       z ∙ sym (and_stays (f q) (start q) k n l (sym (h.at q j) ∙ z));
 }
+
+-- ---- a row that is written word by word
+
+pub fold_set : (h : ℕ → ℕ → ℕ) (start n v : ℕ) (row : List ℕ) → n < length row → fold h start (λ i. get_or (set row n v) i 0) (n + 1) ≡ h (fold h start (λ i. get_or row i 0) n) v
+unfolding fold
+fold_set h start n v row l =
+    let e : n + 1 ≡ suc n = omega arith in
+    ap (fold h start (λ i. get_or (set row n v) i 0)) e
+    ∙ ap₂ h (fold_cong h start _ _ n (λ i k. get_or-set_other row n i v 0 (λ (z : i ≡ n). omega arith))) (get_or-set_same row n v 0 l)

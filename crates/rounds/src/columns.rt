@@ -1,9 +1,10 @@
 // The codes of a whole round: the inner joins are worked once and serve all rows. They are worked a row of words at a time, and a transition
 // that is bottom is passed over: it adds nothing to a join, and takes nothing from a meet. The joins of a row of words end once all of them are
 // top, and the meets once all are bottom.
-ghost use Rattle.std.specs.Prelude.{◌≡◌, ℕ, ◌*◌, ◌≤◌, ◌<◌, true, length, get_or};
+ghost use Rattle.std.specs.Prelude.{◌≡◌, ℕ, ◌*◌, ◌≤◌, ◌<◌, length, get_or};
 ghost use Rattle.elements.specs.Words.{code_in};
 ghost use Rattle.theory.specs.Lists.{Filled};
+ghost use Rattle.theory.specs.Loop.{fold};
 ghost use Rattle.entries.specs.Words.{Rows, Replaced};
 ghost use Rattle.entries.specs.Codes.{table_code, inner_code, entry_code};
 ghost use Rattle.rounds.specs.Rows.{Spread};
@@ -26,23 +27,29 @@ fn spread(row: &[u64], out: &mut TableCodes, column: usize)
     }
 }
 
-// Replaces each word of `row` by what `f` makes of it and of the word of `others` at its place. (By an index: what a loop over a zipped iter_mut writes
-// is not known to a proof.)
-fn replace<F: Fn(u64, u64) -> u64>(row: &mut [u64], others: &[u64], f: F)
-    requires callable { F.IsAlwaysCallable f }
+// Replaces each word of `row` by what `f` makes of it and of the word of `others` at its place, and folds the new words by `g`: in one pass, as a second
+// one over the row would take as long again. (By an index: what a loop over a zipped iter_mut writes is not known to a proof.)
+fn replace<F: Fn(u64, u64) -> u64, G: Fn(u64, u64) -> u64>(
+    row: &mut [u64],
+    others: &[u64],
+    f: F,
+    start: u64,
+    g: G,
+) -> u64
+    requires callable { F.IsAlwaysCallable f × G.IsAlwaysCallable g }
     requires long { length row.old ≤ length others.now }
-    ensures { (h : ℕ → ℕ → ℕ) → ((x y r : ℕ) → F.post f x y r → r ≡ h x y) → Replaced (λ i x. h x (get_or others.now i 0)) (length row.old) row.old row.new }
+    ensures replaced { (h : ℕ → ℕ → ℕ) → ((x y r : ℕ) → F.post f x y r → r ≡ h x y)
+        → Replaced (λ i x. h x (get_or others.now i 0)) (length row.old) row.old row.new }
+    ensures folded { (h : ℕ → ℕ → ℕ) → ((x y r : ℕ) → G.post g x y r → r ≡ h x y)
+        → result ≡ fold h start (λ i. get_or row.new i 0) (length row.old) }
 {
+    let mut all = start;
     for (i, x) in row.iter_mut().enumerate() {
-        *x = f(*x, others[i]);
+        let y = f(*x, others[i]);
+        *x = y;
+        all = g(all, y);
     }
-}
-
-// All words of `row` are x.
-fn all_are(row: &[u64], x: u64) -> bool
-    ensures { result ≡ true → (i : ℕ) → i < length row.now → get_or row.now i 0 ≡ x }
-{
-    row.iter().all(|y| *y == x)
+    all
 }
 
 // The codes of a table by columns: that of entry (q1, q2) stands at q2·64 + q1.
@@ -71,8 +78,9 @@ fn join_columns(a: &Algebra, m2: &Model, q2: State, table: &TableCodes, row: &mu
         if c == 0 {
             continue;
         }
-        replace(row, &table[r * 64..r * 64 + 64], |x, y| x | (c & y));
-        if all_are(row, top) {
+        let others = &table[r * 64..r * 64 + 64];
+        let all = replace(row, others, |x, y| x | (c & y), top, |all, x| all & x);
+        if all == top {
             return;
         }
     }
@@ -95,10 +103,11 @@ pub(crate) fn all_joins(a: &Algebra, m: &Models, table: &TableCodes, joins: &mut
 // ---- rows
 
 // The codes of row q1 of F, from the inner joins of every q2: its propositions, then one q1' after another. (The loop of `join_columns` begins, steps,
-// passes over and ends otherwise; what they share are `replace` and `all_are`, so that one function for both would be no plainer.)
+// passes over and ends otherwise; what they share is `replace`, so that one function for both would be no plainer.)
 pub(crate) fn row_from(a: &Algebra, m: &Models, joins: &TableCodes, q1: State, out: &mut [u64])
     requires { (q1.0 < get_or m.now.first.bytes.now 0 0) × (length out.old ≡ get_or m.now.second.bytes.now 0 0) }
-    ensures { Filled (entry_code a.now.codes.now.words (code_in a.now.codes.now.words a.now.lattice.top.0) m.now.first.bytes.now m.now.second.bytes.now (by_row joins.now) q1.0)
+    ensures { Filled (entry_code a.now.codes.now.words (code_in a.now.codes.now.words a.now.lattice.top.0)
+        m.now.first.bytes.now m.now.second.bytes.now (by_row joins.now) q1.0)
         (get_or m.now.second.bytes.now 0 0) out.new }
 {
     let top = a.codes.code(a.lattice.top);
@@ -108,8 +117,9 @@ pub(crate) fn row_from(a: &Algebra, m: &Models, joins: &TableCodes, q1: State, o
         if c == top {
             continue;
         }
-        replace(out, &joins[q * 64..q * 64 + 64], |x, y| x & (c | y));
-        if all_are(out, 0) {
+        let others = &joins[q * 64..q * 64 + 64];
+        let any = replace(out, others, |x, y| x & (c | y), 0, |any, x| any | x);
+        if any == 0 {
             return;
         }
     }

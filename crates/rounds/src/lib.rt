@@ -93,7 +93,8 @@ pub fn row(a: &Algebra, t: &Table, out: &mut [u8], q1: State) -> bool
 // (Rows by places: of what a loop over `chunks_exact_mut` writes a proof knows the length alone.)
 pub fn round(a: &Algebra, t: &Table, other: &mut [u8]) -> bool
     requires { Room t.now.models.first.bytes.now t.now.models.second.bytes.now other.old }
-    ensures { RoundIn a.now.codes.now.words a.now.lattice t.now.models.first.bytes.now t.now.models.second.bytes.now t.now.bytes.now other.old other.new result }
+    ensures { RoundIn a.now.codes.now.words a.now.lattice t.now.models.first.bytes.now t.now.models.second.bytes.now t.now.bytes.now
+        other.old other.new result }
 {
     let n2 = t.models.second.states();
     let mut joins = [0u64; 4096];

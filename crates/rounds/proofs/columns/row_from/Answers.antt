@@ -2,11 +2,10 @@
 use Rattle.std.proofs.Common.{rules, ◌≡◌, ℕ, ◌+◌, ◌*◌, sym, ap, ◌∙◌, get_or, length, bit_and, bit_or, arith}
 use Rattle.elements.proofs.Folds.{top_same}
 use Rattle.elements.specs.Words.{code_in, negated_code_in}
-use Rattle.elements.specs.Laws.{within-refl}
 use Rattle.entries.specs.Words.{row_folded_none, row_folded_more, replaced_same, replaced_part}
 use Rattle.entries.specs.Codes.{propositions_within, row_folded_within}
 use Rattle.rounds.specs.Codes.{by_row}
-use Rattle.rounds.specs.Early.{meets_end}
+use Rattle.rounds.specs.Early.{upper_fold, at_bottom, meets_end}
 use Rattle.rounds.proofs.columns.row_from.Goals as goal
 
 pub loop-q-init : goal.loop-q-init
@@ -23,8 +22,8 @@ loop-q-preserved-then-c-top c =
     (replaced_same (λ i l. top_same (h.at i l) (t i) ∙ ap (λ (x : ℕ). bit_and (get_or c.loop-q.out i 0) (bit_or x (t i))) (sym (c.if-c-top.true ∙ c.code-top.ensures))))
     (λ r x. ap (λ (y : ℕ). bit_and x (bit_or y (by_row a.joins.now q r))) (c.negated_code-c.ensures ∙ ap (negated_code_in a.a.now.codes.now.words) c.transition.ensures))
 
-pub returns-then-all_are : goal.returns-then-all_are
-returns-then-all_are c =
+pub returns-then-any-eq0 : goal.returns-then-any-eq0
+returns-then-any-eq0 c =
     let a = c.args in
     let q = c.loop-q.q in
     let k = c.negated_code-c.result in
@@ -32,9 +31,9 @@ returns-then-all_are c =
     let n : length c.loop-q.out ≡ get_or a.m.now.second.bytes.now 0 0 = omega (arith, c.requires.1) in
     meets_end {n = get_or a.m.now.first.bytes.now 0 0}
     (row_folded_more c.loop-q.invariant
-    (replaced_part (λ x y. bit_and x (bit_or k y)) a.joins.now (q * 64) _ (omega arith) (rw n at (c.replace.ensures (λ x y. bit_and x (bit_or k y)) (λ x y z e. search rules))))
+    (replaced_part (λ x y. bit_and x (bit_or k y)) a.joins.now (q * 64) _ (omega arith) (rw n at (c.replace-any.ensures.replaced (λ x y. bit_and x (bit_or k y)) (λ x y z e. search rules))))
     (λ r x. ap (λ (y : ℕ). bit_and x (bit_or y (by_row a.joins.now q r))) (c.negated_code-c.ensures ∙ ap (negated_code_in a.a.now.codes.now.words) c.transition.ensures)))
-    (record { at = λ i l. rw (c.all_are.ensures c.if-all_are.true i (omega arith)) (within-refl 0) }) (omega arith)
+    (at_bottom (upper_fold (length c.loop-q.out) c.replace-any.new.row) (omega (arith, n)) (sym (c.replace-any.ensures.folded bit_or (λ x y z e. search rules)) ∙ c.if-any-eq0.true)) (omega arith)
 
 pub loop-q-preserved : goal.loop-q-preserved
 loop-q-preserved c =
@@ -44,5 +43,5 @@ loop-q-preserved c =
     let few = a.m.now.second.shape.states_most in
     let n : length c.loop-q.out ≡ get_or a.m.now.second.bytes.now 0 0 = omega (arith, c.requires.1) in
     row_folded_more c.loop-q.invariant
-    (replaced_part (λ x y. bit_and x (bit_or k y)) a.joins.now (q * 64) _ (omega arith) (rw n at (c.replace.ensures (λ x y. bit_and x (bit_or k y)) (λ x y z e. search rules))))
+    (replaced_part (λ x y. bit_and x (bit_or k y)) a.joins.now (q * 64) _ (omega arith) (rw n at (c.replace-any.ensures.replaced (λ x y. bit_and x (bit_or k y)) (λ x y z e. search rules))))
     (λ r x. ap (λ (y : ℕ). bit_and x (bit_or y (by_row a.joins.now q r))) (c.negated_code-c.ensures ∙ ap (negated_code_in a.a.now.codes.now.words) c.transition.ensures))
