@@ -93,7 +93,8 @@ fn along<F: Fn(u64, Element, u64) -> u64>(
     requires callable { F.IsAlwaysCallable f }
     requires states { (q.0 < get_or m.now.bytes.now 0 0) × ((i : ℕ) → i < length row.now → get_or row.now i 0 < get_or m.now.bytes.now 0 0) }
     ensures { (h g : ℕ → ℕ → ℕ) → ((y : ℕ) → (r : Element) → (v z : ℕ) → F.post f y r v z → z ≡ h y (g r.0 v))
-        → result ≡ fold h start (λ i. g ((model_of m.now.bytes.now).transition q.0 (get_or row.now i 0)) (get_or x.now (get_or row.now i 0) 0)) (length row.now) }
+        → result ≡ fold h start
+        (λ i. g ((model_of m.now.bytes.now).transition q.0 (get_or row.now i 0)) (get_or x.now (get_or row.now i 0) 0)) (length row.now) }
 {
     let mut y = start;
     for &r in row {
