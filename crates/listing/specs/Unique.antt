@@ -1,5 +1,5 @@
 -- What the ghost field of `Accepted` says can be so in one way alone. Rests on casefile's Answer, elements' Unique.
-use Rattle.std.specs.Prelude.{ℕ, ◌≡◌, List, Result}
+use Rattle.std.specs.Prelude.{ℕ, List, Result}
 use denote.Struct.Props.{props}
 use Rattle.elements.specs.Unique.{same}
 use Rattle.theory.specs.Part.{LatticePart}

@@ -8,5 +8,5 @@ abbrev pub entry : List ℕ → ℕ → List ℕ
 entry row q = item blank (get_or row q 0)
 
 -- the entries passed so far are written
-abbrev pub invariant-loop-e : goal.invariant-loop-e
-invariant-loop-e l = Puts l.initial.self (each l.e-index (entry l.row)) l.self
+abbrev pub invariant-loop-q : goal.invariant-loop-q
+invariant-loop-q l = Puts l.initial.self (each l.q (entry l.row)) l.self
