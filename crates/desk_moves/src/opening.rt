@@ -1,27 +1,14 @@
 // The call that takes a case.
-ghost use Rattle.std.specs.Prelude.{◌≡◌};
 ghost use Rattle.desk.specs.Desk.{Call};
-ghost use Rattle.desk_check.specs.Read.{standing_of, desk_of};
+ghost use Rattle.desk_check.specs.Read.{desk_of};
 ghost use Rattle.desk_check.specs.Answer.{Does};
 ghost use Rattle.desk_moves.specs.Answer.{open_reply};
-ghost use Rattle.desk_moves.specs.Opened.{fresh_standing};
 
 use crate::Opened;
-use casefile::{Case, Sizes};
+use casefile::Case;
 use desk_check::{Desk, Standing, table_size};
 use elements::Codes;
 use refusal::Refusal;
-
-// The standing of a desk that is made anew.
-fn fresh(z: Sizes) -> Standing
-    ensures { standing_of result ≡ fresh_standing z.states1 z.states2 }
-{
-    Standing {
-        states1: z.states1,
-        states2: z.states2,
-        ..Standing::default()
-    }
-}
 
 // Takes a case, and makes the desk anew: unsettled, at round 0 and next row 0, both tables top.
 pub fn open(
@@ -60,7 +47,12 @@ pub fn open(
             first[..n].fill(top);
             second[..n].fill(top);
             Opened {
-                standing: fresh(z),
+                standing: Standing {
+                    states1: z.states1,
+                    states2: z.states2,
+                    lowerings: 0,
+                    ..Standing::default()
+                },
                 answer: Ok(()),
             }
         }

@@ -14,7 +14,7 @@ pub fn show<'s, 't>(d: Desk<'s, 't>) -> &'t [u8]
 {
     let mut w = Codes::new();
     match d.examine(&mut w) {
-        Err(_) => &[],
+        Err(_) => &d.whole_table()[..0],
         Ok(z) => &d.whole_table()[..table_size(z)],
     }
 }

@@ -49,7 +49,8 @@ returns-in-Ok c =
     let a = when_accepted _ _ _ _ c.check.ensures c.in-Ok.is in
     let n = c.table_size-n.ensures.0 in
     let r = room _ s a n in
-    rw c.fresh.ensures
+    let d = c.default.ensures.1.1 in
+    rw (d.0, d.1.0, d.1.1.0, d.1.1.1.0, d.1.1.1.1.0)
     (accepted_open _ _ _ _ s a c.table_size-n.result _ _ _ n c.write.ensures
     (filled _ _ _ _ r.0 (c.fill.ensures.after (λ y e. e)))
     (filled _ _ _ _ r.1 (c.fill-in-Ok.ensures.after (λ y e. e))))

@@ -3,4 +3,4 @@ use Rattle.desk_questions.specs.Questions.{held-show}
 use Rattle.desk_questions.proofs.tables.show.Goals as goal
 
 pub returns-in-Ok : goal.returns-in-Ok
-returns-in-Ok c = held-show c.in-Ok.ensures.held _ _ c.table_size.ensures.0 c.whole_table.ensures
+returns-in-Ok c = held-show c.in-Ok.ensures.held _ _ c.table_size.ensures.0 c.whole_table-in-Ok.ensures
