@@ -53,7 +53,8 @@ fn show_row(rt: &impl Print, a: &Algebra, t: &Table) -> io::Result<()>
 struct FullModel<'a> {
     algebra: Algebra<'a>,
     model: Model<'a>,
-    ghost over: { ModelOver algebra.codes.now.words algebra.lattice model.bytes.now } by { ModelOver-prop algebra.codes.now.words algebra.lattice model.bytes.now },
+    ghost over: { ModelOver algebra.codes.now.words algebra.lattice
+        model.bytes.now } by { ModelOver-prop algebra.codes.now.words algebra.lattice model.bytes.now },
     ghost full: { Full model.bytes.now },
 }
 

@@ -13,7 +13,8 @@ use valuer_maps::{Scope, Successors, combined, literals, same, start_of};
 pub struct Valuation<'a> {
     pub successors: Successors<'a>,
     pub formula: &'a [u8],
-    pub ghost over: { ModelOver successors.codes.now.words successors.lattice successors.model.bytes.now } by { ModelOver-prop successors.codes.now.words successors.lattice successors.model.bytes.now },
+    pub ghost over: { ModelOver successors.codes.now.words successors.lattice
+        successors.model.bytes.now } by { ModelOver-prop successors.codes.now.words successors.lattice successors.model.bytes.now },
 }
 
 impl<'a> Valuation<'a> {

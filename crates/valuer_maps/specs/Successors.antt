@@ -5,15 +5,15 @@
 --   ListedSoFar, listed_none, listed_more, listed_all: what the loop that writes a row has done so far
 --   RowsListed, SuccessorsOf, rows-listed_none, rows-listed_more, rows-listed_all: all rows
 --   all_placed, some_placed, next_listed: AX and EX from a row
---   RowOf, row_first: a row as a list of its own; row_in_list, next_in_row: AX and EX from it, by next_listed
+--   RowOf, row_first: a row as a list of its own
 use Prim.Native.Nat.{ℕ, zero, suc, ◌+◌, ◌*◌, ◌≤◌, ◌<◌}
-use Rattle.std.specs.Prelude.{◌≡◌, Bool, not, ◌||◌, List, eqb, length, get_or, set, take, ◌++◌, ◌∷◌}
+use Rattle.std.specs.Prelude.{◌≡◌, Bool, not, ◌||◌, List, eqb, length, get_or, set, take, ◌++◌}
 use Rattle.std.proofs.Math.Path.{refl, sym, ap, ap₂}
 use Rattle.std.proofs.Common.{◌∙◌, ⊎_elim, not-suc-le-zero, eq-or-lt_of_le, le_refl, arith, eqb-true, length-set, get_or-set_same, get_or-set_other}
 use Rattle.std.proofs.lemmas.List.{get_or-take, get_or_append_left, get_or-append-add, length-take-le}
 use Rattle.std.proofs.Math.Bool.{true, false}
 use Rattle.std.specs.Int.Bits.{bit_and, bit_or, and_zero_l, or_zero_r}
-use Rattle.theory.specs.Loop.{fold, fold_cong, count_none, count_more, indicator_most}
+use Rattle.theory.specs.Loop.{fold, count_none, count_more, indicator_most}
 use Rattle.theory.specs.Part.{model_of}
 use Rattle.theory.specs.Simulation.{indicator, count}
 use Rattle.theory.specs.TestLaws.{false_true}
@@ -243,22 +243,3 @@ row_first {p} {n} {at} {xs} ys h fits same =
       listed = λ r l e. nth (count r p) (omega (arith, h.count_is, count-after n p r l e)) ∙ h.listed r l e;
       below = λ i b. rw (nth i (omega (arith, long))) (row_below h i (omega (arith, long)));
     }
-
--- in a list that has the row, after the count of its states
-after_count : (row : List ℕ) (i : ℕ) → get_or row i 0 ≡ get_or (length row ∷ row) (0 + 1 + i) 0
-after_count row i = let e : 0 + 1 + i ≡ suc i = omega arith in rw e refl
-
-pub row_in_list : {p : ℕ → Bool} {n : ℕ} {row : List ℕ} → RowOf p n row → RowListed p n 0 (length row ∷ row)
-row_in_list {p} {n} {row} h =
-    record {
-      count_is = h.count_is;
-      listed = λ r l e. sym (after_count row (count r p)) ∙ h.listed r l e;
-      below = λ i l. rw (← after_count row i) (h.below i (omega (arith, l, h.count_is)));
-    }
-
--- AX and EX from it
-module _ (w : List ℕ) (top : ℕ) (m x : List ℕ) (q : ℕ) {row : List ℕ} (h : RowOf (leads_to w top m q) (get_or m 0 0) row) where
-  pub next_in_row : (all : Bool) → fold (join_or_meet_code (not all)) (first_code top all) (λ i. step_code all w ((model_of m).transition q (get_or row i 0)) (get_or x (get_or row i 0) 0)) (length row) ≡ next_code w top m all x q
-  next_in_row all =
-      fold_cong _ _ _ _ _ (λ i l. ap (λ (r : ℕ). step_code all w ((model_of m).transition q r) (get_or x r 0)) (after_count row i))
-      ∙ next_listed w top m x q (row_in_list h) all

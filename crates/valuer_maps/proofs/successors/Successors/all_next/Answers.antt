@@ -4,7 +4,7 @@ use Rattle.std.proofs.Math.Bool.{true}
 use Rattle.std.specs.Int.Bits.{bit_and, bit_or}
 use Rattle.elements.specs.Words.{negated_code_in}
 use Rattle.valuer_maps.specs.Code.{join_or_meet_code, first_code, step_code, next_code}
-use Rattle.valuer_maps.specs.Successors.{next_in_row}
+use Rattle.valuer_maps.specs.InRow.{next_in_row}
 use Rattle.valuer_maps.proofs.successors.Successors.all_next.Goals as goal
 
 pub returns : goal.returns

@@ -4,7 +4,7 @@ use Rattle.std.proofs.Math.Bool.{false}
 use Rattle.std.specs.Int.Bits.{bit_and, bit_or}
 use Rattle.elements.specs.Words.{code_in}
 use Rattle.valuer_maps.specs.Code.{join_or_meet_code, first_code, step_code, next_code}
-use Rattle.valuer_maps.specs.Successors.{next_in_row}
+use Rattle.valuer_maps.specs.InRow.{next_in_row}
 use Rattle.valuer_maps.proofs.successors.Successors.some_next.Goals as goal
 
 pub returns : goal.returns
