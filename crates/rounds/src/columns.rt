@@ -103,8 +103,8 @@ pub(crate) fn all_joins(a: &Algebra, m: &Models, table: &TableCodes, joins: &mut
 // ---- rows
 
 // The codes of row q1 of F, from the inner joins of every q2: its propositions, then one q1' after another. (The loop of `join_columns` begins, steps,
-// passes over and ends otherwise; what they share is `replace`, so that one function for both would be no plainer.) It is inlined, and the codes and the model
-// are its own, so that no turn looks up anew where they stand: that shows where model 2 has few states.
+// passes over and ends otherwise; what they share is `replace`, so that one function for both would be no plainer.) It is
+// inlined: as a call it finds anew at each turn where a transition stands, a third more instructions where model 2 has few states.
 #[inline(always)]
 pub(crate) fn row_from(a: &Algebra, m: &Models, joins: &TableCodes, q1: State, out: &mut [u64])
     requires { (q1.0 < get_or m.now.first.bytes.now 0 0) × (length out.old ≡ get_or m.now.second.bytes.now 0 0) }
@@ -112,12 +112,10 @@ pub(crate) fn row_from(a: &Algebra, m: &Models, joins: &TableCodes, q1: State, o
         m.now.first.bytes.now m.now.second.bytes.now (by_row joins.now) q1.0)
         (get_or m.now.second.bytes.now 0 0) out.new }
 {
-    let codes = a.codes;
-    let first = m.first;
-    let top = codes.code(a.lattice.top);
-    entries::propositions(codes, top, m, q1, out);
-    for q in 0..first.states() {
-        let c = codes.negated_code(first.transition(q1, State(q as u8)));
+    let top = a.codes.code(a.lattice.top);
+    entries::propositions(a.codes, top, m, q1, out);
+    for q in 0..m.first.states() {
+        let c = a.codes.negated_code(m.first.transition(q1, State(q as u8)));
         if c == top {
             continue;
         }
